@@ -1,0 +1,139 @@
+-- The counts stay within the bounds of 21.
+-- Assumes nothing.
+use Prim.Native.Nat.{ℕ, _+_, _*_, _≤_}
+use native.Mathlib.Omega.{arith}
+use mathlib.Core.Bool.{true, _&&_}
+use mathlib.Core.List.{List}
+use mathlib.Core.Path.{_≡_, refl}
+use lib.ListN.{length}
+use lib.Dec.{leb}
+use borrow.Author.Tests.{leb-true, le-leb}
+use Rattle.rules.specs.declared.Counts.{Counts}
+use Rattle.rules.specs.declared.Operation.{Operation}
+use Rattle.rules.specs.Limits.{inRange}
+use Rattle.rules.specs.Count.{num}
+use Rattle.rules.specs.Ring.{Ring, places}
+use Rattle.rules.specs.Table.{Side, glued, fresh, Effect, not-allowed, builds, marks, effect}
+use Rattle.rules.specs.Machine.{Machine, isFresh, afterBuild, afterMark, Step, within, done, operation}
+use Rattle.rules.specs.Book.{Book, emptyBook, entered}
+use Rattle.book.specs.Sums.{loopsSum}
+use Rattle.book.specs.Consistent.{Consistent, Ranges}
+use Rattle.book.proofs.Counting.{and-left, and-right, ifFresh}
+use Rattle.book.proofs.Kept.{test-law}
+use Rattle.book.proofs.Effects.{Law, effect-law}
+
+-- the open edges of the loops
+abbrev opens : List Ring → ℕ
+opens ls = loopsSum (λ x y o. num o) ls
+
+-- bounds that each operation keeps; those of 21 follow
+pub record Bounded (b : Book) : Type 0 where
+  pub stated : inRange (b .machine .stated) ≡ true
+  pub counts : within (b .machine) ≡ true
+  pub places : b .machine .mostPlaces ≤ b .machine .stated .places
+  pub loops : b .machine .mostLoops ≤ b .machine .stated .loops
+  pub edges : b .machine .edges ≤ 3 * length (b .machine .triangles)
+  pub starts : b .machine .starts ≤ length (b .machine .triangles)
+  pub unions : b .machine .unions ≤ length (b .machine .triangles)
+  pub rims : b .machine .rims ≤ length (b .borders)
+  pub borders : opens (b .machine .loops) + length (b .borders) ≤ 3 * length (b .machine .triangles)
+
+record Within (m : Machine) : Type 0 where
+  vertices : m .used ≤ m .stated .vertices
+  triangles : length (m .triangles) ≤ m .stated .triangles
+  places : places (m .loops) ≤ m .stated .places
+  loops : length (m .loops) ≤ m .stated .loops
+
+within-each : (m : Machine) → within m ≡ true → Within m
+within-each m h =
+    let w1 = leb (m .used) (m .stated .vertices) in
+    let w2 = leb (length (m .triangles)) (m .stated .triangles) in
+    let w3 = leb (places (m .loops)) (m .stated .places) in
+    let w4 = leb (length (m .loops)) (m .stated .loops) in
+    let h3 = and-left (w1 && w2 && w3) w4 h in
+    let h2 = and-left (w1 && w2) w3 h3 in
+    record {
+      vertices = leb-true (m .used) (m .stated .vertices) (and-left w1 w2 h2);
+      triangles = leb-true (length (m .triangles)) (m .stated .triangles) (and-right w1 w2 h2);
+      places = leb-true (places (m .loops)) (m .stated .places) (and-right (w1 && w2) w3 h3);
+      loops = leb-true (length (m .loops)) (m .stated .loops) (and-right (w1 && w2 && w3) w4 h);
+    }
+
+pub bounded-ranges : (b : Book) → Bounded b → Ranges (b .machine)
+bounded-ranges b k =
+    let w = within-each (b .machine) (k .counts) in
+    record {
+      stated = k .stated;
+      counts = k .counts;
+      places = k .places;
+      loops = k .loops;
+      edges = omega (arith, w .triangles, k .edges);
+      starts = omega (arith, w .triangles, k .starts);
+      unions = omega (arith, w .triangles, k .unions);
+      rims = omega (arith, w .triangles, k .rims, k .borders);
+    }
+
+-- each side is glued or fresh
+sides : (s : Side) → ifFresh s 1 ≡ isFresh s
+sides glued = refl
+sides fresh = refl
+
+fresh-once : (s : Side) → isFresh s ≤ 1
+fresh-once glued = omega arith
+fresh-once fresh = omega arith
+
+bounded-by : (b : Book) → Bounded b → (e : Effect) → Law (b .machine .used) (b .machine .loops) e → Bounded (entered b (done (b .machine) e))
+unfolding done
+bounded-by b c not-allowed l = c
+bounded-by b c (builds ls t pq qr rp n s k) l =
+    let m = afterBuild (b .machine) ls t pq qr rp n s k in
+    test-law (λ (x : Step). Bounded (entered b x)) (within m) _ _ c
+    (λ e. test-law (λ (x : Step). Bounded (entered b x)) _ _ _ c
+    (λ rule.
+    let w = within-each m e in
+    let o = l .sums (λ x y o. num o) in
+    record {
+      stated = c .stated;
+      counts = e;
+      places = omega (arith, w .places, c .places);
+      loops = omega (arith, w .loops, c .loops);
+      edges = omega (arith, c .edges, fresh-once pq, fresh-once qr, fresh-once rp);
+      starts = omega (arith, c .starts, l .small);
+      unions = omega (arith, c .unions, l .small);
+      rims = c .rims;
+      borders = omega (arith, c .borders, o, sides pq, sides qr, sides rp, fresh-once pq, fresh-once qr, fresh-once rp);
+    }))
+bounded-by b c (marks ls d rim) l =
+    let m = afterMark (b .machine) ls rim in
+    test-law (λ (x : Step). Bounded (entered b x)) (within m) _ _ c
+    (λ e.
+    let w = within-each m e in
+    let o = l .sums (λ x y o. num o) in
+    record {
+      stated = c .stated;
+      counts = e;
+      places = omega (arith, w .places, c .places);
+      loops = omega (arith, w .loops, c .loops);
+      edges = c .edges;
+      starts = c .starts;
+      unions = c .unions;
+      rims = omega (arith, c .rims, l .small);
+      borders = omega (arith, c .borders, o .total);
+    })
+
+pub bounded-kept : (b : Book) → Consistent b → Bounded b → (o : Operation) → Bounded (entered b (operation (b .machine) o))
+bounded-kept b c k o = bounded-by b k (effect o (b .machine .used) (b .machine .loops)) (effect-law o (b .machine .used) (b .machine .loops) (c .loops))
+
+pub empty-bounded : (s : Counts) → inRange s ≡ true → Bounded (emptyBook s)
+unfolding loopsSum places
+empty-bounded s h = record {
+  stated = h;
+  counts = rw (le-leb 0 (s .vertices) (omega arith), le-leb 0 (s .triangles) (omega arith), le-leb 0 (s .places) (omega arith), le-leb 0 (s .loops) (omega arith));
+  places = omega arith;
+  loops = omega arith;
+  edges = omega arith;
+  starts = omega arith;
+  unions = omega arith;
+  rims = omega arith;
+  borders = omega arith;
+}

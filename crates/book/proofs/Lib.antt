@@ -1,0 +1,12 @@
+pub mod Counting
+pub mod Sums
+pub mod Effects
+pub mod Kept
+pub mod Bounds
+pub mod Calls
+pub mod Answers
+pub mod Euler
+pub mod Demand
+pub mod EdgeRule
+pub mod Ideal
+pub mod Below

@@ -1,0 +1,72 @@
+-- What holds of the book (a term of the rules) after any list of calls: how the loops' edges, the triangles and the edges declared
+-- border fit together, the Euler sum, and the bounds on the counts that 21 asks for.
+-- Assumes nothing.
+use Prim.Native.Nat.{ℕ, _+_, _*_, _≤_, _<_}
+use mathlib.Core.Bool.{true, _&&_}
+use mathlib.Core.List.{List, [], _∷_}
+use mathlib.Core.Path.{_≡_}
+use lib.ListN.{length}
+use lib.Dec.{eqb}
+use Rattle.rules.specs.declared.Triangle.{Triangle}
+use Rattle.rules.specs.Limits.{inRange}
+use Rattle.rules.specs.Triangle.{Edge, corners, edgesOf}
+use Rattle.rules.specs.Count.{num, occurs, count, uses, different, pairs}
+use Rattle.rules.specs.Ring.{Ring, firstOpen}
+use Rattle.rules.specs.Machine.{Machine, within}
+use Rattle.rules.specs.Book.{Book}
+use Rattle.book.specs.Sums.{openEdges, markedEdges}
+
+-- 1 if x→y is an open edge of the model, else 0: it is used, its opposite is not, and it is not declared border. Its arguments are
+-- how often x→y is used, how often y→x, and how often x→y is declared border
+abbrev pub openIf : ℕ → ℕ → ℕ → ℕ
+openIf used opposite border = num (eqb used 1 && eqb opposite 0 && eqb border 0)
+
+abbrev pub modelOpen : ℕ → ℕ → List Triangle → List Edge → ℕ
+modelOpen x y ts ds = openIf (uses x y ts) (uses y x ts) (count x y ds)
+
+-- a loop has three places or more, and its current edge is open
+pub record Sound (l : Ring) : Type 0 where
+  pub long : 3 ≤ length l
+  pub current : firstOpen l ≡ true
+
+abbrev pub AllSound : List Ring → Type 0
+AllSound [] = Unit {0}
+AllSound (l ∷ ls) = Sound l × AllSound ls
+
+pub record Consistent (b : Book) : Type 0 where
+  -- the numbers in triangles are those below `used`
+  pub below : (v : ℕ) → 1 ≤ occurs v (corners (b .machine .triangles)) → v < b .machine .used
+  pub each : (v : ℕ) → v < b .machine .used → 1 ≤ occurs v (corners (b .machine .triangles))
+  pub vertices : different (corners (b .machine .triangles)) ≡ b .machine .used
+  -- no directed edge is used twice
+  pub once : (x y : ℕ) → uses x y (b .machine .triangles) ≤ 1
+  -- no edge leads from a vertex to itself
+  pub proper : (x : ℕ) → uses x x (b .machine .triangles) ≡ 0
+  -- a used edge is open at one place, or declared border once, or its opposite is used, and only one of the three
+  pub all : (x y : ℕ)
+      → openEdges x y (b .machine .loops) + count x y (b .borders) + uses x y (b .machine .triangles) * uses y x (b .machine .triangles)
+      ≡ uses x y (b .machine .triangles)
+  -- marked edges are declared border
+  pub marks : (x y : ℕ) → markedEdges x y (b .machine .loops) ≤ count x y (b .borders)
+  pub loops : AllSound (b .machine .loops)
+  pub edges : b .machine .edges ≡ pairs (edgesOf (b .machine .triangles))
+  -- vertices - edges + triangles + live loops + rims = 2 starts - 2 unions
+  pub euler : b .machine .used + length (b .machine .triangles) + length (b .machine .loops) + b .machine .rims + 2 * b .machine .unions
+      ≡ b .machine .edges + 2 * b .machine .starts
+
+-- 21's bounds on the counts
+pub record Ranges (m : Machine) : Type 0 where
+  pub stated : inRange (m .stated) ≡ true
+  pub counts : within m ≡ true
+  pub places : m .mostPlaces ≤ m .stated .places
+  pub loops : m .mostLoops ≤ m .stated .loops
+  pub edges : m .edges ≤ 3 * m .stated .triangles
+  pub starts : m .starts ≤ 3 * m .stated .triangles
+  pub unions : m .unions ≤ 3 * m .stated .triangles
+  pub rims : m .rims ≤ 3 * m .stated .triangles
+
+-- a machine that some book with all this has
+pub record Possible (m : Machine) : Type 0 where
+  pub borders : List Edge
+  pub consistent : Consistent (record { machine = m; borders = borders })
+  pub ranges : Ranges m

@@ -1,0 +1,5 @@
+pub mod Sums
+pub mod Below
+pub mod Consistent
+pub mod Promises
+pub mod Demand

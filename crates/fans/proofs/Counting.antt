@@ -1,0 +1,147 @@
+-- Laws of counting numbers and directed edges.
+-- Assumes nothing.
+use Prim.Native.Nat.{ℕ, zero, suc, _+_, _≤_}
+use native.Mathlib.Omega.{arith}
+use mathlib.Core.Bool.{Bool, true, false, _&&_, and-comm, false≢true}
+use mathlib.Core.List.{List, [], _∷_, _++_}
+use mathlib.Core.Logic.{_⊎_, inl, inr}
+use mathlib.Core.Path.{_≡_, refl, sym, ap, _∙_, subst}
+use lib.ListN.{length}
+use lib.Dec.{eqb}
+use borrow.Author.Tests.{eqb-true, eq-eqb, ne-eqb}
+use Rattle.rules.specs.Triangle.{Edge, edge}
+use Rattle.rules.specs.Count.{num, same, hit, count}
+use Rattle.fans.specs.Chain.{total, starts, ends, Apart}
+
+-- both parts of a test
+pub and-left : (a b : Bool) → a && b ≡ true → a ≡ true
+and-left true b h = refl
+and-left false b h = h
+
+pub and-right : (a b : Bool) → a && b ≡ true → b ≡ true
+and-right true b h = h
+and-right false b h = absurd (false≢true h)
+
+pub and-both : (a b : Bool) → a ≡ true → b ≡ true → a && b ≡ true
+and-both true b g h = h
+and-both false b g h = g
+
+-- equal numbers
+pub same-yes : (v : ℕ) → same v v ≡ 1
+unfolding same
+same-yes v = rw (eq-eqb v v refl)
+
+pub same-no : (v x : ℕ) → (v ≡ x → ⊥) → same v x ≡ 0
+unfolding same
+same-no v x h = rw (ne-eqb v x h)
+
+pub same-is : (v x : ℕ) → 1 ≤ same v x → v ≡ x
+unfolding same
+same-is v x h = go (eqb v x) refl h
+  where
+    go : (t : Bool) → eqb v x ≡ t → 1 ≤ num t → v ≡ x
+    go true e k = eqb-true v x e
+    go false e k = absurd (omega arith)
+
+-- equal edges
+pub hit-yes : (p q : ℕ) → hit p q p q ≡ 1
+unfolding hit
+hit-yes p q = rw (eq-eqb p p refl, eq-eqb q q refl)
+
+pub hit-once : (x y p q : ℕ) → hit x y p q ≤ 1
+unfolding hit
+hit-once x y p q = go (eqb x p && eqb y q)
+  where
+    go : (s : Bool) → num s ≤ 1
+    go true = omega arith
+    go false = omega arith
+
+pub hit-from : (x y p q : ℕ) → hit x y p q ≤ same x p
+unfolding hit same
+hit-from x y p q = go (eqb x p) (eqb y q)
+  where
+    go : (s t : Bool) → num (s && t) ≤ num s
+    go true true = omega arith
+    go true false = omega arith
+    go false t = omega arith
+
+pub hit-swap : (x y p q : ℕ) → hit x y p q ≡ hit y x q p
+unfolding hit
+hit-swap x y p q = ap num (and-comm (eqb x p) (eqb y q))
+
+pub hit-to : (x y p q : ℕ) → hit x y p q ≤ same y q
+hit-to x y p q = omega (arith, hit-swap x y p q, hit-from y x q p)
+
+pub hit-is : (x y p q : ℕ) → 1 ≤ hit x y p q → (x ≡ p) × (y ≡ q)
+hit-is x y p q h = (same-is x p (omega (arith, hit-from x y p q)), same-is y q (omega (arith, hit-to x y p q)))
+
+-- sums of weights
+pub total-more : (v w : Edge → ℕ) → ((d : Edge) → v d ≤ w d) → (ds : List Edge) → total v ds ≤ total w ds
+unfolding total
+total-more v w h [] = omega arith
+total-more v w h (d ∷ ds) = omega (arith, h d, total-more v w h ds)
+
+pub total-append : (w : Edge → ℕ) (ds es : List Edge) → total w (ds ++ es) ≡ total w ds + total w es
+unfolding total
+total-append w [] es = omega arith
+total-append w (d ∷ ds) es = omega (arith, total-append w ds es)
+
+pub length-total : (ds : List Edge) → length ds ≡ total (λ d. 1) ds
+unfolding total
+length-total [] = refl
+length-total (d ∷ ds) = omega (arith, length-total ds)
+
+-- a count of edges is such a sum
+abbrev pub hits : ℕ → ℕ → Edge → ℕ
+hits x y d = hit x y (d .from) (d .to)
+
+pub count-total : (x y : ℕ) (ds : List Edge) → count x y ds ≡ total (hits x y) ds
+unfolding total count
+count-total x y [] = refl
+count-total x y (d ∷ ds) = omega (arith, count-total x y ds)
+
+pub count-starts : (x y : ℕ) (ds : List Edge) → count x y ds ≤ starts x ds
+count-starts x y ds =
+    omega (arith, count-total x y ds, total-more (hits x y) (λ d. same x (d .from)) (λ d. hit-from x y (d .from) (d .to)) ds)
+
+pub count-ends : (x y : ℕ) (ds : List Edge) → count x y ds ≤ ends y ds
+count-ends x y ds =
+    omega (arith, count-total x y ds, total-more (hits x y) (λ d. same y (d .to)) (λ d. hit-to x y (d .from) (d .to)) ds)
+
+-- an edge of a list is its first or one of the others
+pub member : (x y : ℕ) (d : Edge) (ds : List Edge) → 1 ≤ count x y (d ∷ ds) → ((x ≡ d .from) × (y ≡ d .to)) ⊎ (1 ≤ count x y ds)
+unfolding count
+member x y d ds h = go (hit x y (d .from) (d .to)) refl
+  where
+    go : (n : ℕ) → hit x y (d .from) (d .to) ≡ n → ((x ≡ d .from) × (y ≡ d .to)) ⊎ (1 ≤ count x y ds)
+    go zero e = inr (omega arith)
+    go (suc n) e = inl (hit-is x y (d .from) (d .to) (omega arith))
+
+-- an edge that is there can be taken out
+taken-out : (x y : ℕ) (ds : List Edge) → 1 ≤ count x y ds → (es : List Edge) × ((w : Edge → ℕ) → total w ds ≡ w (edge x y) + total w es)
+unfolding total count
+taken-out x y [] h = absurd (omega arith)
+taken-out x y (d ∷ ds) h = go (hit x y (d .from) (d .to)) refl (taken-out x y ds)
+  where
+    go : (n : ℕ) → hit x y (d .from) (d .to) ≡ n
+        → (1 ≤ count x y ds → (es : List Edge) × ((w : Edge → ℕ) → total w ds ≡ w (edge x y) + total w es))
+        → (es : List Edge) × ((w : Edge → ℕ) → w d + total w ds ≡ w (edge x y) + total w es)
+    go zero e k = let t = k (omega arith) in (d ∷ t .0, λ w. omega (arith, t .1 w))
+    go (suc n) e k = let q = hit-is x y (d .from) (d .to) (omega arith) in (ds, λ w. rw (q .0, q .1))
+
+-- lists that have each edge equally often have equal sums
+pub same-totals : (ds es : List Edge) → ((x y : ℕ) → count x y ds ≡ count x y es) → (w : Edge → ℕ) → total w ds ≡ total w es
+unfolding total count
+same-totals [] [] c w = refl
+same-totals [] (e ∷ es) c w = absurd (omega (arith, c (e .from) (e .to), hit-yes (e .from) (e .to)))
+same-totals (d ∷ ds) es c w =
+    let t = taken-out (d .from) (d .to) es (omega (arith, c (d .from) (d .to), hit-yes (d .from) (d .to))) in
+    let c′ : (x y : ℕ) → count x y ds ≡ count x y (t .0) =
+    λ x y. omega (arith, c x y, t .1 (hits x y), count-total x y es, count-total x y (t .0)) in
+    omega (arith, t .1 w, same-totals ds (t .0) c′ w)
+
+pub apart-same : (ds es : List Edge) → ((x y : ℕ) → count x y es ≡ count x y ds) → Apart ds → Apart es
+apart-same ds es c a = record {
+  starts-once = λ x. omega (arith, a .starts-once x, same-totals es ds c (λ d. same x (d .from)));
+  ends-once = λ x. omega (arith, a .ends-once x, same-totals es ds c (λ d. same x (d .to)));
+}

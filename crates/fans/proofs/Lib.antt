@@ -1,0 +1,11 @@
+pub mod Counting
+pub mod Turning
+pub mod OneRun
+pub mod Corners
+pub mod Tests
+pub mod About
+pub mod Fans
+pub mod Checks
+pub mod Finding
+pub mod Only
+pub mod Neighbours

@@ -1,0 +1,112 @@
+-- What the tests of 4, 5 and 6 say: different corners, no directed edge twice, each vertex used.
+-- Assumes nothing.
+use Prim.Native.Nat.{ℕ, zero, suc, _+_, _≤_, _<_}
+use native.Mathlib.Omega.{arith}
+use mathlib.Core.Bool.{Bool, true, false, _&&_, not, false≢true}
+use mathlib.Core.List.{List, [], _∷_}
+use mathlib.Core.Logic.{_↔_}
+use mathlib.Core.Path.{_≡_, refl, sym, ap, subst}
+use lib.Dec.{eqb}
+use borrow.Author.Tests.{eqb-true, eqb-false, eq-eqb, ne-eqb, not-true}
+use Rattle.rules.specs.declared.Triangle.{Triangle}
+use Rattle.rules.specs.Triangle.{Edge}
+use Rattle.rules.specs.Count.{hit, occurs, count}
+use Rattle.rules.specs.Check.{distinct, allDistinct, noneTwice, allUsed}
+use Rattle.fans.specs.Corner.{Rot, at-p, In, here, there, Different}
+use Rattle.fans.proofs.Counting.{and-left, and-right, and-both, hit-yes, hit-once, hit-is}
+use Rattle.fans.proofs.Corners.{rot-different}
+
+-- two numbers that a test finds different
+not-equal : (x y : ℕ) → (not (eqb x y) ≡ true) ↔ (x ≡ y → ⊥)
+not-equal x y = (λ h. eqb-false x y (not-true (eqb x y) h), λ h. ap not (ne-eqb x y h))
+
+pub distinct-different : (t : Triangle) → (distinct t ≡ true) ↔ Different (t .p) (t .q) (t .r)
+distinct-different t =
+    let a = not (eqb (t .p) (t .q)) in
+    let b = not (eqb (t .q) (t .r)) in
+    let c = not (eqb (t .r) (t .p)) in (
+      λ h. record {
+        x-y = not-equal (t .p) (t .q) .0 (and-left a b (and-left (a && b) c h));
+        y-z = not-equal (t .q) (t .r) .0 (and-right a b (and-left (a && b) c h));
+        z-x = not-equal (t .r) (t .p) .0 (and-right (a && b) c h);
+      },
+      λ d.
+          and-both (a && b) c (and-both a b (not-equal (t .p) (t .q) .1 (d .x-y)) (not-equal (t .q) (t .r) .1 (d .y-z)))
+          (not-equal (t .r) (t .p) .1 (d .z-x)),
+    )
+
+pub distinct-first : (t : Triangle) (ts : List Triangle) → allDistinct (t ∷ ts) ≡ true → Different (t .p) (t .q) (t .r)
+unfolding allDistinct
+distinct-first t ts h = distinct-different t .0 (and-left (distinct t) (allDistinct ts) h)
+
+pub distinct-rest : (t : Triangle) (ts : List Triangle) → allDistinct (t ∷ ts) ≡ true → allDistinct ts ≡ true
+unfolding allDistinct
+distinct-rest t ts h = and-right (distinct t) (allDistinct ts) h
+
+-- the test of 4 passes exactly if each triangle of the list has three different vertices
+pub all-distinct : (ts : List Triangle) → (allDistinct ts ≡ true) ↔ ((x y z : ℕ) → In x y z ts → Different x y z)
+unfolding allDistinct
+all-distinct ts = (λ h x y z i. each ts h i, all ts)
+  where
+    each : {x y z : ℕ} (us : List Triangle) → allDistinct us ≡ true → In x y z us → Different x y z
+    each (t ∷ us) h (here r) = rot-different (distinct-first t us h) r
+    each (t ∷ us) h (there i) = each us (distinct-rest t us h) i
+
+    all : (us : List Triangle) → ((x y z : ℕ) → In x y z us → Different x y z) → allDistinct us ≡ true
+    all [] h = refl
+    all (t ∷ us) h =
+        and-both (distinct t) (allDistinct us) (distinct-different t .1 (h (t .p) (t .q) (t .r) (here (at-p refl refl refl))))
+        (all us (λ x y z i. h x y z (there i)))
+
+-- the test of 5 passes exactly if each directed edge is there at most once
+pub none-twice : (ds : List Edge) → (noneTwice ds ≡ true) ↔ ((x y : ℕ) → count x y ds ≤ 1)
+unfolding noneTwice count
+none-twice ds = (once ds, none ds)
+  where
+    here-or-later : (x y : ℕ) (d : Edge) (es : List Edge) → count (d .from) (d .to) es ≡ 0 → count x y es ≤ 1 → (n : ℕ) → hit x y (d .from) (d .to) ≡ n
+        → n + count x y es ≤ 1
+    here-or-later x y d es h k zero e = omega arith
+    here-or-later x y d es h k (suc n) e =
+        let q = hit-is x y (d .from) (d .to) (omega arith) in
+        let c : count x y es ≡ 0 = rw (q .0, q .1) h in
+        omega (arith, hit-once x y (d .from) (d .to))
+
+    once : (es : List Edge) → noneTwice es ≡ true → (x y : ℕ) → count x y es ≤ 1
+    once [] h x y = omega arith
+    once (d ∷ es) h x y =
+        let a = eqb (count (d .from) (d .to) es) 0 in
+        here-or-later x y d es (eqb-true (count (d .from) (d .to) es) 0 (and-left a (noneTwice es) h)) (once es (and-right a (noneTwice es) h) x y)
+        (hit x y (d .from) (d .to)) refl
+
+    none : (es : List Edge) → ((x y : ℕ) → count x y es ≤ 1) → noneTwice es ≡ true
+    none [] h = refl
+    none (d ∷ es) h =
+        and-both (eqb (count (d .from) (d .to) es) 0) (noneTwice es)
+        (eq-eqb (count (d .from) (d .to) es) 0 (omega (arith, h (d .from) (d .to), hit-yes (d .from) (d .to))))
+        (none es (λ x y. omega (arith, h x y)))
+
+-- the test of 6 passes exactly if each number below n is there
+pub all-used : (n : ℕ) (xs : List ℕ) → (allUsed n xs ≡ true) ↔ ((v : ℕ) → v < n → 1 ≤ occurs v xs)
+unfolding allUsed
+all-used n xs = (each n, all n)
+  where
+    last : (m v : ℕ) → v < suc m → 1 ≤ occurs m xs → (v < m → 1 ≤ occurs v xs) → (b : Bool) → eqb v m ≡ b → 1 ≤ occurs v xs
+    last m v l h k true e = let e′ : v ≡ m = eqb-true v m e in rw e′ h
+    last m v l h k false e = k (omega (arith, eqb-false v m e))
+
+    some : (m : ℕ) → (m ≡ 0 → ⊥) → 1 ≤ m
+    some m h = omega arith
+
+    each : (m : ℕ) → allUsed m xs ≡ true → (v : ℕ) → v < m → 1 ≤ occurs v xs
+    each zero h v l = absurd (omega arith)
+    each (suc m) h v l =
+        let a = not (eqb (occurs m xs) 0) in
+        last m v l (some (occurs m xs) (not-equal (occurs m xs) 0 .0 (and-left a (allUsed m xs) h))) (each m (and-right a (allUsed m xs) h) v)
+        (eqb v m) refl
+
+    all : (m : ℕ) → ((v : ℕ) → v < m → 1 ≤ occurs v xs) → allUsed m xs ≡ true
+    all zero h = refl
+    all (suc m) h =
+        and-both (not (eqb (occurs m xs) 0)) (allUsed m xs)
+        (not-equal (occurs m xs) 0 .1 (λ e. omega (arith, h m (omega arith))))
+        (all m (λ v l. h v (omega arith)))

@@ -1,0 +1,50 @@
+-- Where an open edge stands in the rings, and what the packer sees of a place.
+-- Assumes nothing.
+use Prim.Native.Nat.{ℕ, zero, suc}
+use mathlib.Core.Bool.{true}
+use mathlib.Core.List.{List, [], _∷_, _++_}
+use mathlib.Core.Path.{_≡_}
+use mathlib.Core.Logic.{_⊎_}
+use lib.ListN.{length}
+use Rattle.rules.specs.declared.Triangle.{Triangle}
+use Rattle.rules.specs.Ring.{Node, Ring, vertex, isOpen, startOr}
+use Rattle.rules.specs.Choice.{sizeOf, following}
+use Rattle.gap.specs.Turn.{Unused}
+use Rattle.gap.specs.Corners.{endOr}
+
+-- the open edge x→y starts at place i of the list, after whose last place comes first
+abbrev pub EdgeIn : ℕ → List Node → ℕ → ℕ → ℕ → Type 0
+EdgeIn first [] i x y = ⊥
+EdgeIn first (p ∷ ps) zero x y = (isOpen p ≡ true) × (vertex p ≡ x) × (startOr first ps ≡ y)
+EdgeIn first (p ∷ ps) (suc i) x y = EdgeIn first ps i x y
+
+-- the open edge x→y starts at place i of ring l
+abbrev pub OpenAt : List Ring → ℕ → ℕ → ℕ → ℕ → Type 0
+OpenAt [] l i x y = ⊥
+OpenAt (w ∷ ws) zero i x y = EdgeIn (startOr 0 w) w i x y
+OpenAt (w ∷ ws) (suc l) i x y = OpenAt ws l i x y
+
+-- each open edge stands at one place
+abbrev pub Unique : List Ring → Type 0
+Unique ls = (x y l i m j : ℕ) → OpenAt ls l i x y → OpenAt ls m j x y → (l ≡ m) × (i ≡ j)
+
+-- place i of ring l is one of c, entered from x and left to y, each by an open edge or one that has no other side in M
+pub record Site (M : List Triangle) (ls : List Ring) (l i c x y : ℕ) : Type 0 where
+  pub from : ℕ
+  pub enter : Unused c x M ⊎ OpenAt ls l from x c
+  pub leave : Unused y c M ⊎ OpenAt ls l i c y
+  pub next : following (sizeOf ls l) from ≡ i
+
+-- place i of ring l is one of c, between vertices x and y: the parts of the rings about it
+pub record Spotted (ls : List Ring) (l i c x y : ℕ) : Type 0 where
+  pub before : List Ring
+  pub us : List Node
+  pub p : Node
+  pub vs : List Node
+  pub behind : List Ring
+  pub whole : ls ≡ before ++ ((us ++ (p ∷ vs)) ∷ behind)
+  pub number : length before ≡ l
+  pub position : length us ≡ i
+  pub own : vertex p ≡ c
+  pub enter : endOr (endOr (vertex p) vs) us ≡ x
+  pub leave : startOr (startOr (vertex p) us) vs ≡ y

@@ -1,0 +1,135 @@
+-- The places after an operation; and what an operation that the table allows asks of the rings of places.
+-- Assumes nothing.
+use Prim.Native.Nat.{ℕ, suc, _+_, _-_, _≤_}
+use native.Mathlib.Omega.{arith}
+use mathlib.Core.Bool.{Bool, true, false, _&&_}
+use mathlib.Core.List.{List, [], _∷_, _++_}
+use mathlib.Core.Path.{_≡_, refl, sym, ap, _∙_}
+use lib.ListN.{length, take, drop, take-append-drop}
+use lib.Dec.{leb}
+use borrow.Author.Tests.{leb-true, ltb-true}
+use Rattle.rules.specs.declared.Operation.{Operation}
+use Rattle.rules.specs.declared.Operation.the-variants.{New, Forward, Backward, Border, Split, Close, Union, Start}
+use Rattle.rules.specs.Triangle.{Edge, edge}
+use Rattle.rules.specs.Count.{same}
+use Rattle.rules.specs.Ring.{Node, opened, marked, Ring, vertex, startOr, lastOpen, lastVertex, front, onward, loopAt}
+use Rattle.rules.specs.Table.{Effect, not-allowed, builds, marks, allowed, marking, atEdge}
+use Rattle.rules.specs.Machine.{isFresh}
+use Rattle.book.specs.Sums.{pathSum, ringSum, loopsSum}
+use Rattle.book.proofs.Counting.{and-left, and-right}
+use Rattle.book.proofs.Sums.{sum-append, sum-turn, front-last, sum-without, turned}
+use Rattle.book.proofs.Effects.{sum-order}
+use Rattle.links.specs.Memory.{namedRing, namedLoops, placed}
+use Rattle.links.specs.Stores.{placesAfter, Takes, Fits}
+use Rattle.links.proofs.Named.{named-length, named-lastOpen, named-loopAt, named-lives}
+use Rattle.links.proofs.Surgery.{end-free}
+use Rattle.links.proofs.Stored.{alive-sum}
+
+-- at most the place q is new
+pub placed-after : (o : Operation) (q e : ℕ) (f g : Node) (ps : List Node) (ws : List Ring) → Fits o (f ∷ (g ∷ ps)) ws
+    → (x : ℕ) → placed x (placesAfter o q e (f ∷ (g ∷ ps)) ws) ≤ placed x ((opened e ∷ (f ∷ (g ∷ ps))) ∷ ws) + same x q
+unfolding placesAfter loopsSum ringSum pathSum lastOpen lastVertex front
+placed-after New q e f g ps ws k x = omega (arith, sum-append (λ p r o. same x p) (f ∷ (g ∷ ps)) (opened e ∷ []) q)
+placed-after Forward q e f g ps ws k x = omega arith
+placed-after Backward q e f g ps ws k x =
+    let l : ℕ = lastVertex (g ∷ ps) in
+    omega (
+      arith,
+      sum-append (λ p r o. same x p) (f ∷ front (g ∷ ps)) (opened l ∷ []) e,
+      ap (λ (y : List Node). pathSum (λ p r o. same x p) (f ∷ y) e) (front-last g ps k),
+    )
+placed-after Border q e f g ps ws k x =
+    omega (
+      arith,
+      alive-sum (λ p r o. same x p) (onward [] (f ∷ (g ∷ (ps ++ (marked e ∷ []))))) ws,
+      turned (λ p r o. same x p) [] (f ∷ (g ∷ (ps ++ (marked e ∷ [])))) .total,
+      sum-append (λ p r o. same x p) (f ∷ (g ∷ ps)) (marked e ∷ []) (vertex f),
+    )
+placed-after (Split i) q e f g ps ws k x =
+    let l : List Node = take i (f ∷ (g ∷ ps)) in
+    let r : List Node = drop i (f ∷ (g ∷ ps)) in
+    omega (
+      arith,
+      sum-order (λ p r o. same x p) (leb (length (opened q ∷ l)) (length (opened e ∷ r))) (opened q ∷ l) (opened e ∷ r) ws,
+      sum-append (λ p r o. same x p) l r e,
+      end-free (same x) l q (startOr e r),
+      ap (λ (y : List Node). pathSum (λ p r o. same x p) y e) (take-append-drop i (f ∷ (g ∷ ps))),
+    )
+placed-after Close q e f g ps ws k x = omega arith
+placed-after (Union n j) q e f g ps ws k x =
+    let w : Ring = loopAt ws (n - 1) in
+    let l : List Node = drop j w ++ take j w in
+    omega (
+      arith,
+      sum-append (λ p r o. same x p) (f ∷ (g ∷ ps)) (opened e ∷ l) q,
+      sum-without (λ p r o. same x p) ws (n - 1) (k .0),
+      sum-turn (λ p r o. same x p) (drop j w) (take j w),
+      end-free (same x) l q (startOr 0 l),
+      ap (λ (y : Ring). pathSum (λ p r o. same x p) y (startOr 0 y)) (take-append-drop j w),
+    )
+placed-after Start q e f g ps ws k x = absurd k
+
+-- what holds if the effect is not a refusal
+abbrev pub Unless : Type 0 → Effect → Type 0
+Unless P not-allowed = Unit {0}
+Unless P (builds ls t pq qr rp n s k) = P
+Unless P (marks ls d rim) = P
+
+allowed-unless : (P : Type 0) (t : Bool) (e : Effect) → (t ≡ true → Unless P e) → Unless P (allowed t e)
+unfolding allowed
+allowed-unless P true e h = h refl
+allowed-unless P false e h = tt
+
+marking-unless : (P : Type 0) (r : Ring) (ws : List Ring) (d : Edge) → P → Unless P (marking r ws d)
+marking-unless P [] ws d p = p
+marking-unless P (x ∷ r) ws d p = p
+
+-- an operation that the table allows fits the rings of places
+pub fits : (o : Operation) (vs : List ℕ) (u a : ℕ) (ps : List Node) (ws : List Ring)
+    → Unless (Fits o ps ws) (atEdge o u a (namedRing vs ps) (namedLoops vs ws))
+unfolding atEdge
+fits New vs u a ps ws = tt
+fits Forward vs u a ps ws =
+    allowed-unless _ _ _ (λ t. omega (arith, leb-true 4 (suc (length (namedRing vs ps))) (and-left (leb 4 (suc (length (namedRing vs ps)))) _ t), named-length vs ps))
+fits Backward vs u a ps ws = allowed-unless _ _ _ (λ t. sym (named-lastOpen vs ps) ∙ and-right (leb 4 (suc (length (namedRing vs ps)))) _ t)
+fits Border vs u a ps ws =
+    marking-unless (Unit {0}) (onward [] (namedRing vs ps ++ (marked a ∷ []))) (namedLoops vs ws) (edge a (startOr a (namedRing vs ps))) tt
+fits (Split i) vs u a ps ws =
+    allowed-unless _ _ _
+    (λ t.
+    let k = leb-true 2 i (and-left (leb 2 i) _ t) in
+    let l = leb-true (i + 3) (suc (length (namedRing vs ps))) (and-right (leb 2 i) _ t) in
+    (omega (arith, k), omega (arith, l, named-length vs ps)))
+fits Close vs u a ps ws = allowed-unless _ _ _ (λ t. tt)
+fits (Union n j) vs u a ps ws =
+    allowed-unless _ _ _
+    (λ t.
+    let b = leb 1 n && leb n (length (namedLoops vs ws)) in
+    let h = and-left b _ t in
+    let l = leb-true 1 n (and-left (leb 1 n) _ h) in
+    let k = leb-true n (length (namedLoops vs ws)) (and-right (leb 1 n) _ h) in
+    let i = ltb-true j (length (loopAt (namedLoops vs ws) (n - 1))) (and-right b _ t) in
+    (omega (arith, l, k, named-lives vs ws), omega (arith, i, ap length (named-loopAt vs ws (n - 1)), named-length vs (loopAt ws (n - 1)))))
+fits Start vs u a ps ws = tt
+
+-- an operation that takes a place has two new edges
+abbrev pub Grows : Effect → Type 0
+Grows not-allowed = Unit {0}
+Grows (builds ls t pq qr rp n s k) = (isFresh pq ≡ 0) × (isFresh qr ≡ 1) × (isFresh rp ≡ 1)
+Grows (marks ls d rim) = ⊥
+
+allowed-grows : (t : Bool) (e : Effect) → Grows e → Grows (allowed t e)
+unfolding allowed
+allowed-grows true e h = h
+allowed-grows false e h = tt
+
+pub grows : (o : Operation) → Takes o → (u a : ℕ) (ps : List Node) (ws : List Ring) → Grows (atEdge o u a ps ws)
+unfolding atEdge
+grows New h u a ps ws = (refl, refl, refl)
+grows (Split i) h u a ps ws = allowed-grows _ _ (refl, refl, refl)
+grows (Union n j) h u a ps ws = allowed-grows _ _ (refl, refl, refl)
+grows Forward h u a ps ws = absurd h
+grows Backward h u a ps ws = absurd h
+grows Border h u a ps ws = absurd h
+grows Close h u a ps ws = absurd h
+grows Start h u a ps ws = absurd h

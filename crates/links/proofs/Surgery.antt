@@ -1,0 +1,231 @@
+-- The operations' surgery on links, each by the one lemma `relink`. The loops here are rings of place numbers; q is a free place.
+-- Assumes nothing.
+use Prim.Native.Nat.{ℕ, _+_, _≤_, _<_}
+use native.Mathlib.Omega.{arith}
+use mathlib.Core.Bool.{Bool, true, false}
+use mathlib.Core.List.{List, [], _∷_, _++_}
+use mathlib.Core.Path.{_≡_, refl}
+use lib.Dec.{eqb}
+use borrow.Author.Tests.{eqb-true, eqb-false}
+use Rattle.rules.specs.Count.{same}
+use Rattle.rules.specs.Ring.{Node, opened, marked, Ring, vertex, lastOpen, lastVertex}
+use Rattle.rules.specs.Table.{inOrder}
+use Rattle.book.specs.Sums.{Weight, pathSum, ringSum, loopsSum}
+use Rattle.book.proofs.Counting.{same-yes, same-no, same-le}
+use Rattle.book.proofs.Sums.{sum-append}
+use Rattle.book.proofs.Effects.{sum-order}
+use Rattle.links.specs.Memory.{Memory, Long, arc, arcHit, among, Holds, placed, Apart, stored}
+use Rattle.links.proofs.Relink.{arc-yes, relink}
+
+-- one free place more, or no place more
+apart-more : (ls new : List Ring) (q : ℕ) → Apart ls → placed q ls ≡ 0 → ((x : ℕ) → placed x new ≤ placed x ls + same x q) → Apart new
+apart-more ls new q a f h x = go (eqb x q) refl
+  where
+    go : (t : Bool) → eqb x q ≡ t → placed x new ≤ 1
+    go true e = let z : x ≡ q = eqb-true x q e in rw z (omega (arith, h q, same-yes q))
+    go false e = omega (arith, h x, same-no x q (eqb-false x q e), a x)
+
+apart-less : (ls new : List Ring) → Apart ls → ((x : ℕ) → placed x new ≤ placed x ls) → Apart new
+apart-less ls new a h x = omega (arith, h x, a x)
+
+two-same : (x a b : ℕ) → (a ≡ b → ⊥) → same x a + same x b ≤ 1
+two-same x a b d = go (eqb x a) refl
+  where
+    go : (t : Bool) → eqb x a ≡ t → same x a + same x b ≤ 1
+    go true e = let z : x ≡ a = eqb-true x a e in rw z (omega (arith, same-yes a, same-no a b d))
+    go false e = omega (arith, same-no x a (eqb-false x a e), same-le x b)
+
+-- the last edge of a run of places goes elsewhere
+end-changed : (w : Weight) (p : Node) (ps : List Node) (b c : ℕ)
+    → pathSum w (p ∷ ps) c ≤ pathSum w (p ∷ ps) b + w (lastVertex (p ∷ ps)) c (lastOpen (p ∷ ps))
+unfolding pathSum lastVertex lastOpen
+end-changed w p [] b c = omega arith
+end-changed w p (q ∷ ps) b c = omega (arith, end-changed w q ps b c)
+
+pub end-there : (w : Weight) (p : Node) (ps : List Node) (c : ℕ) → w (lastVertex (p ∷ ps)) c (lastOpen (p ∷ ps)) ≤ pathSum w (p ∷ ps) c
+unfolding pathSum lastVertex lastOpen
+end-there w p [] c = omega arith
+end-there w p (q ∷ ps) c = omega (arith, end-there w q ps c)
+
+-- the places of a run do not depend on where it ends
+pub end-free : (g : ℕ → ℕ) (ps : List Node) (b c : ℕ) → pathSum (λ p q o. g p) ps b ≡ pathSum (λ p q o. g p) ps c
+unfolding pathSum
+end-free g [] b c = refl
+end-free g (p ∷ ps) b c = omega (arith, end-free g ps b c)
+
+-- after the surgery no two places are one, and the memory holds the loops
+pub record Done (m : Memory) (ls : List Ring) : Type 0 where
+  pub apart : Apart ls
+  pub holds : Holds m ls
+
+module _ (n : ℕ) (m : Memory) (long : Long n m) (ws : List Ring) where
+  pub do-new : (e q : ℕ) (f : Node) (ps : List Node) → Apart ((opened e ∷ (f ∷ ps)) ∷ ws) → placed q ((opened e ∷ (f ∷ ps)) ∷ ws) ≡ 0
+      → e < n → q < n → vertex f < n → Holds m ((opened e ∷ (f ∷ ps)) ∷ ws)
+      → Done (stored (arc e q true ∷ (arc q (vertex f) true ∷ [])) m) ((opened q ∷ (f ∷ (ps ++ (opened e ∷ [])))) ∷ ws)
+  unfolding loopsSum ringSum pathSum among
+  do-new e q f ps a z be bq bf h =
+      let new = (opened q ∷ (f ∷ (ps ++ (opened e ∷ [])))) ∷ ws in
+      let old = (opened e ∷ (f ∷ ps)) ∷ ws in
+      let s : (w : Weight) → pathSum w (f ∷ (ps ++ (opened e ∷ []))) q ≡ pathSum w (f ∷ ps) e + (w e q true + 0) =
+      λ w. sum-append w (f ∷ ps) (opened e ∷ []) q in
+      let a′ : Apart new = apart-more old new q a z (λ x. omega (arith, s (λ p r o. same x p))) in
+      record {
+        apart = a′;
+        holds =
+            relink new a′ n m long old h (arc e q true ∷ (arc q (vertex f) true ∷ [])) (
+              omega (arith, s (arcHit e q true), arc-yes e q true),
+              be,
+              bq,
+              (omega (arith, arc-yes q (vertex f) true), bq, bf, tt),
+            )
+            (λ x y o. omega (arith, s (arcHit x y o)));
+      }
+
+  pub do-forward : (e : ℕ) (f g : Node) (ps : List Node) → Apart ((opened e ∷ (f ∷ (g ∷ ps))) ∷ ws) → e < n → vertex g < n
+      → Holds m ((opened e ∷ (f ∷ (g ∷ ps))) ∷ ws) → Done (stored (arc e (vertex g) true ∷ []) m) ((opened e ∷ (g ∷ ps)) ∷ ws)
+  unfolding loopsSum ringSum pathSum among
+  do-forward e f g ps a be bg h =
+      let new = (opened e ∷ (g ∷ ps)) ∷ ws in
+      let old = (opened e ∷ (f ∷ (g ∷ ps))) ∷ ws in
+      let a′ : Apart new = apart-less old new a (λ x. omega arith) in
+      record {
+        apart = a′;
+        holds =
+            relink new a′ n m long old h (arc e (vertex g) true ∷ []) (omega (arith, arc-yes e (vertex g) true), be, bg, tt)
+            (λ x y o. omega arith);
+      }
+
+  pub do-backward : (e l : ℕ) (f : Node) (ps : List Node) → Apart ((opened e ∷ (f ∷ (ps ++ (opened l ∷ [])))) ∷ ws) → l < n → vertex f < n
+      → Holds m ((opened e ∷ (f ∷ (ps ++ (opened l ∷ [])))) ∷ ws) → Done (stored (arc l (vertex f) true ∷ []) m) ((opened l ∷ (f ∷ ps)) ∷ ws)
+  unfolding loopsSum ringSum pathSum among
+  do-backward e l f ps a bl bf h =
+      let new = (opened l ∷ (f ∷ ps)) ∷ ws in
+      let old = (opened e ∷ (f ∷ (ps ++ (opened l ∷ [])))) ∷ ws in
+      let s : (w : Weight) → pathSum w (f ∷ (ps ++ (opened l ∷ []))) e ≡ pathSum w (f ∷ ps) l + (w l e true + 0) =
+      λ w. sum-append w (f ∷ ps) (opened l ∷ []) e in
+      let sources : (x : ℕ) → placed x new ≤ placed x old = λ x. omega (arith, s (λ p r o. same x p)) in
+      let a′ : Apart new = apart-less old new a sources in
+      record {
+        apart = a′;
+        holds =
+            relink new a′ n m long old h (arc l (vertex f) true ∷ []) (omega (arith, arc-yes l (vertex f) true), bl, bf, tt)
+            (λ x y o. omega (arith, s (arcHit x y o)));
+      }
+
+  -- i places after f is the place c, l is before it, and q becomes c's second place
+  pub do-split : (e q : ℕ) (f : Node) (gs : List Node) (c : Node) (cs : List Node) (t : Bool) → Apart ((opened e ∷ (f ∷ (gs ++ (c ∷ cs)))) ∷ ws)
+      → placed q ((opened e ∷ (f ∷ (gs ++ (c ∷ cs)))) ∷ ws) ≡ 0
+      → e < n → q < n → vertex f < n → vertex c < n → lastVertex (f ∷ gs) < n → Holds m ((opened e ∷ (f ∷ (gs ++ (c ∷ cs)))) ∷ ws)
+      → Done (stored (arc q (vertex f) true ∷ (arc (lastVertex (f ∷ gs)) q (lastOpen (f ∷ gs)) ∷ (arc e (vertex c) true ∷ []))) m)
+      (inOrder t (opened q ∷ (f ∷ gs)) (opened e ∷ (c ∷ cs)) ws)
+  unfolding among
+  do-split e q f gs c cs t a z be bq bf bc bl h =
+      let new = inOrder t (opened q ∷ (f ∷ gs)) (opened e ∷ (c ∷ cs)) ws in
+      let old = (opened e ∷ (f ∷ (gs ++ (c ∷ cs)))) ∷ ws in
+      let l = lastVertex (f ∷ gs) in
+      let o = lastOpen (f ∷ gs) in
+      let after : (w : Weight) → loopsSum w new ≡ w q (vertex f) true + pathSum w (f ∷ gs) q + (w e (vertex c) true + pathSum w (c ∷ cs) e + loopsSum w ws) =
+      λ w. unfold loopsSum ringSum pathSum in omega (arith, sum-order w t (opened q ∷ (f ∷ gs)) (opened e ∷ (c ∷ cs)) ws) in
+      let before : (w : Weight) → loopsSum w old ≡ w e (vertex f) true + (pathSum w (f ∷ gs) (vertex c) + pathSum w (c ∷ cs) e) + loopsSum w ws =
+      λ w. unfold loopsSum ringSum pathSum in omega (arith, sum-append w (f ∷ gs) (c ∷ cs) e) in
+      let a′ : Apart new =
+      apart-more old new q a z
+      (λ x. omega (arith, after (λ p r o. same x p), before (λ p r o. same x p), end-free (same x) (f ∷ gs) q (vertex c))) in
+      record {
+        apart = a′;
+        holds =
+            relink new a′ n m long old h (arc q (vertex f) true ∷ (arc l q o ∷ (arc e (vertex c) true ∷ []))) (
+              omega (arith, after (arcHit q (vertex f) true), arc-yes q (vertex f) true),
+              bq,
+              bf,
+              (
+                omega (arith, after (arcHit l q o), arc-yes l q o, end-there (arcHit l q o) f gs q),
+                bl,
+                bq,
+                (omega (arith, after (arcHit e (vertex c) true), arc-yes e (vertex c) true), be, bc, tt),
+              ),
+            )
+            (λ x y r. omega (arith, after (arcHit x y r), before (arcHit x y r), end-changed (arcHit x y r) f gs (vertex c) q));
+      }
+
+  -- the waiting loop is c ∷ cs from the place c on; l is before c, and q becomes c's second place
+  pub do-union : (e q : ℕ) (f : Node) (ps : List Node) (c : Node) (cs : List Node)
+      → Apart ((opened e ∷ (f ∷ ps)) ∷ ((c ∷ cs) ∷ ws)) → placed q ((opened e ∷ (f ∷ ps)) ∷ ((c ∷ cs) ∷ ws)) ≡ 0
+      → e < n → q < n → vertex f < n → vertex c < n → lastVertex (c ∷ cs) < n → Holds m ((opened e ∷ (f ∷ ps)) ∷ ((c ∷ cs) ∷ ws))
+      → Done (stored (arc q (vertex f) true ∷ (arc (lastVertex (c ∷ cs)) q (lastOpen (c ∷ cs)) ∷ (arc e (vertex c) true ∷ []))) m)
+      ((opened q ∷ (f ∷ (ps ++ (opened e ∷ (c ∷ cs))))) ∷ ws)
+  unfolding among
+  do-union e q f ps c cs a z be bq bf bc bl h =
+      let new = (opened q ∷ (f ∷ (ps ++ (opened e ∷ (c ∷ cs))))) ∷ ws in
+      let old = (opened e ∷ (f ∷ ps)) ∷ ((c ∷ cs) ∷ ws) in
+      let l = lastVertex (c ∷ cs) in
+      let o = lastOpen (c ∷ cs) in
+      let after : (w : Weight) → loopsSum w new ≡ w q (vertex f) true + (pathSum w (f ∷ ps) e + (w e (vertex c) true + pathSum w (c ∷ cs) q)) + loopsSum w ws =
+      λ w. unfold loopsSum ringSum pathSum in omega (arith, sum-append w (f ∷ ps) (opened e ∷ (c ∷ cs)) q) in
+      let before : (w : Weight) → loopsSum w old ≡ w e (vertex f) true + pathSum w (f ∷ ps) e + (pathSum w (c ∷ cs) (vertex c) + loopsSum w ws) =
+      λ w. unfold loopsSum ringSum pathSum in refl in
+      let a′ : Apart new =
+      apart-more old new q a z
+      (λ x. omega (arith, after (λ p r o. same x p), before (λ p r o. same x p), end-free (same x) (c ∷ cs) q (vertex c))) in
+      record {
+        apart = a′;
+        holds =
+            relink new a′ n m long old h (arc q (vertex f) true ∷ (arc l q o ∷ (arc e (vertex c) true ∷ []))) (
+              omega (arith, after (arcHit q (vertex f) true), arc-yes q (vertex f) true),
+              bq,
+              bf,
+              (
+                omega (arith, after (arcHit l q o), arc-yes l q o, end-there (arcHit l q o) c cs q),
+                bl,
+                bq,
+                (omega (arith, after (arcHit e (vertex c) true), arc-yes e (vertex c) true), be, bc, tt),
+              ),
+            )
+            (λ x y r. omega (arith, after (arcHit x y r), before (arcHit x y r), end-changed (arcHit x y r) c cs (vertex c) q));
+      }
+
+  -- the edge is marked, before the ring is turned to its next open edge
+  pub do-mark : (e : ℕ) (f : Node) (ps : List Node) → Apart ((opened e ∷ (f ∷ ps)) ∷ ws) → e < n → vertex f < n
+      → Holds m ((opened e ∷ (f ∷ ps)) ∷ ws) → Done (stored (arc e (vertex f) false ∷ []) m) ((f ∷ (ps ++ (marked e ∷ []))) ∷ ws)
+  unfolding among
+  do-mark e f ps a be bf h =
+      let new = (f ∷ (ps ++ (marked e ∷ []))) ∷ ws in
+      let old = (opened e ∷ (f ∷ ps)) ∷ ws in
+      let after : (w : Weight) → loopsSum w new ≡ pathSum w (f ∷ ps) e + w e (vertex f) false + loopsSum w ws =
+      λ w. unfold loopsSum ringSum pathSum in omega (arith, sum-append w (f ∷ ps) (marked e ∷ []) (vertex f)) in
+      let before : (w : Weight) → loopsSum w old ≡ w e (vertex f) true + pathSum w (f ∷ ps) e + loopsSum w ws =
+      λ w. unfold loopsSum ringSum pathSum in refl in
+      let a′ : Apart new = apart-less old new a (λ x. omega (arith, after (λ p r o. same x p), before (λ p r o. same x p))) in
+      record {
+        apart = a′;
+        holds =
+            relink new a′ n m long old h (arc e (vertex f) false ∷ [])
+            (omega (arith, after (arcHit e (vertex f) false), arc-yes e (vertex f) false), be, bf, tt)
+            (λ x y r. omega (arith, after (arcHit x y r), before (arcHit x y r)));
+      }
+
+  -- loops with no other edges: a ring that is turned, or that ends
+  pub do-fewer : (old new : List Ring) → ((w : Weight) → loopsSum w new ≤ loopsSum w old) → Done m old → Done m new
+  do-fewer old new c d = record {
+    apart = λ x. omega (arith, c (λ p r o. same x p), d .apart x);
+    holds = λ x y o k. d .holds x y o (omega (arith, c (arcHit x y o)));
+  }
+
+  -- a triangle of three free places
+  pub do-start : (a b c : ℕ) → (a ≡ b → ⊥) → (b ≡ c → ⊥) → (c ≡ a → ⊥) → a < n → b < n → c < n
+      → Done (stored (arc a b true ∷ (arc b c true ∷ (arc c a true ∷ []))) m) ((opened a ∷ (opened b ∷ (opened c ∷ []))) ∷ [])
+  unfolding loopsSum ringSum pathSum among
+  do-start a b c ab bc ca la lb lc =
+      let new = (opened a ∷ (opened b ∷ (opened c ∷ []))) ∷ [] in
+      let a′ : Apart new = λ x. omega (arith, two-same x a b ab, two-same x b c bc, two-same x c a ca) in
+      record {
+        apart = a′;
+        holds =
+            relink new a′ n m long [] (λ x y o k. absurd (omega arith)) (arc a b true ∷ (arc b c true ∷ (arc c a true ∷ []))) (
+              omega (arith, arc-yes a b true),
+              la,
+              lb,
+              (omega (arith, arc-yes b c true), lb, lc, (omega (arith, arc-yes c a true), lc, la, tt)),
+            )
+            (λ x y r. omega arith);
+      }

@@ -1,0 +1,95 @@
+-- Loops of places, kept in three lists: for each place the place after it, the place before it, and whether its edge is open. A loop
+-- of places is a ring whose vertices are place numbers.
+-- Assumes nothing.
+use Prim.Native.Nat.{ℕ, zero, suc, _+_, _≤_}
+use mathlib.Core.Bool.{Bool, true, false}
+use mathlib.Core.List.{List, [], _∷_}
+use mathlib.Core.Path.{_≡_}
+use lib.ListN.{length, getD, set}
+use Rattle.rules.specs.Count.{num, same}
+use Rattle.rules.specs.Ring.{Node, opened, marked, Ring}
+use Rattle.book.specs.Sums.{Weight, loopsSum, openHit, markHit}
+
+pub record Memory : Type 0 where
+  pub afters : List ℕ
+  pub befores : List ℕ
+  -- 1 for an open edge, 0 for a marked one
+  pub opens : List ℕ
+
+-- a memory of n places
+pub record Long (n : ℕ) (m : Memory) : Type 0 where
+  pub afters : length (m .afters) ≡ n
+  pub befores : length (m .befores) ≡ n
+  pub opens : length (m .opens) ≡ n
+
+-- the edge from place x to place y is recorded, open or marked
+pub record Link (m : Memory) (x y : ℕ) (o : Bool) : Type 0 where
+  pub fore : getD (m .afters) x 0 ≡ y
+  pub back : getD (m .befores) y 0 ≡ x
+  pub mark : getD (m .opens) x 0 ≡ num o
+
+-- an edge between two places, open or marked
+pub record Arc : Type 0 where
+  pub from : ℕ
+  pub to : ℕ
+  pub live : Bool
+
+abbrev pub arc : ℕ → ℕ → Bool → Arc
+arc x y o = record { from = x; to = y; live = o }
+
+-- how often an edge is in the loops, and in a list
+abbrev pub arcHit : ℕ → ℕ → Bool → Weight
+arcHit x y true = openHit x y
+arcHit x y false = markHit x y
+
+abbrev pub arcs : ℕ → ℕ → Bool → List Ring → ℕ
+arcs x y o ls = loopsSum (arcHit x y o) ls
+
+unfoldable pub among : ℕ → ℕ → Bool → List Arc → ℕ
+among x y o [] = 0
+among x y o (d ∷ ds) = arcHit x y o (d .from) (d .to) (d .live) + among x y o ds
+
+-- the memory holds the loops: each of their edges is recorded
+abbrev pub Holds : Memory → List Ring → Type 0
+Holds m ls = (x y : ℕ) (o : Bool) → 1 ≤ arcs x y o ls → Link m x y o
+
+-- how often place x is in the loops
+abbrev pub placed : ℕ → List Ring → ℕ
+placed x ls = loopsSum (λ p q o. same x p) ls
+
+-- no place is in the loops twice
+abbrev pub Apart : List Ring → Type 0
+Apart ls = (x : ℕ) → placed x ls ≤ 1
+
+-- edges stored, the last of the list first
+unfoldable pub stored : List Arc → Memory → Memory
+stored [] m = m
+stored (d ∷ ds) m =
+    let r = stored ds m in
+    record {
+      afters = set (r .afters) (d .from) (d .to);
+      befores = set (r .befores) (d .to) (d .from);
+      opens = set (r .opens) (d .from) (num (d .live));
+    }
+
+-- k places read off from place x on, by following the links
+abbrev pub nodeFrom : ℕ → ℕ → Node
+nodeFrom zero x = marked x
+nodeFrom (suc f) x = opened x
+
+unfoldable pub read : Memory → ℕ → ℕ → Ring
+read m zero x = []
+read m (suc k) x = nodeFrom (getD (m .opens) x 0) x ∷ read m k (getD (m .afters) x 0)
+
+-- rings of vertices, from rings of places: vs has each place's vertex
+abbrev pub named : List ℕ → Node → Node
+named vs (opened x) = opened (getD vs x 0)
+named vs (marked x) = marked (getD vs x 0)
+
+unfoldable pub namedRing : List ℕ → Ring → Ring
+namedRing vs [] = []
+namedRing vs (p ∷ ps) = named vs p ∷ namedRing vs ps
+
+unfoldable pub namedLoops : List ℕ → List Ring → List Ring
+namedLoops vs [] = []
+namedLoops vs (l ∷ ls) = namedRing vs l ∷ namedLoops vs ls

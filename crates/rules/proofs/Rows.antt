@@ -1,0 +1,157 @@
+-- Rows for tables: a call, what the second program answered and left in the buffers, and the test that the definitions give the
+-- same. The table of the rules is in Models; more rows are drawn by tests/definitions.
+-- Assumes nothing.
+use Prim.Native.Nat.{ℕ}
+use mathlib.Core.Bool.{Bool, true, false, _&&_}
+use mathlib.Core.List.{List, [], _∷_, _++_}
+use lib.ListN.{length, replicate}
+use lib.Dec.{eqb}
+use lib.IntN.{ℤ, pos, negsuc}
+use Rattle.rules.specs.declared.Counts.{Counts}
+use Rattle.rules.specs.declared.Place.{Place}
+use Rattle.rules.specs.declared.Totals.{Totals}
+use Rattle.rules.specs.declared.Model.{Model}
+use Rattle.rules.specs.Triangle.{Edge}
+use Rattle.rules.specs.Count.{num}
+use Rattle.rules.specs.Ring.{Ring, vertex, isOpen}
+use Rattle.rules.specs.Machine.{Rooms, Machine}
+use Rattle.rules.specs.Answer.{Answer, refusal, accepted, triangle, no-triangle, numbers, packed, unpacked}
+use Rattle.rules.specs.Book.{Book, Call, emptyBook, answers, afterAll}
+use Rattle.rules.specs.Pack.{Most, PackBuffers, PackResult, packWithin}
+use Rattle.rules.specs.Unpack.{UnpackBuffers, UnpackResult, numbersOf, unpack}
+
+unfoldable pub equal : List ℕ → List ℕ → Bool
+equal [] [] = true
+equal [] (y ∷ ys) = false
+equal (x ∷ xs) [] = false
+equal (x ∷ xs) (y ∷ ys) = elim (eqb x y) [ true ↦ equal xs ys | false ↦ false ]
+
+abbrev pub place : ℕ → ℕ → ℕ → Bool → Place
+place v b a o = record { vertex = v; before = b; after = a; «open» = o }
+
+abbrev pub samePlace : Place → Place → Bool
+samePlace p q =
+    eqb (p .vertex) (q .vertex) && eqb (p .before) (q .before) && eqb (p .after) (q .after)
+    && eqb (num (p .«open»)) (num (q .«open»))
+
+unfoldable pub equalPlaces : List Place → List Place → Bool
+equalPlaces [] [] = true
+equalPlaces [] (q ∷ qs) = false
+equalPlaces (p ∷ ps) [] = false
+equalPlaces (p ∷ ps) (q ∷ qs) = elim (samePlace p q) [ true ↦ equalPlaces ps qs | false ↦ false ]
+
+-- an answer as numbers: its kind, and what it tells
+abbrev pub signed : ℤ → List ℕ
+signed (pos n) = 0 ∷ (n ∷ [])
+signed (negsuc n) = 1 ∷ (n ∷ [])
+
+abbrev pub writtenTotals : Totals → List ℕ
+writtenTotals x = x .edges ∷ (x .rims ∷ (x .unions ∷ signed (x .euler)))
+
+abbrev pub written : Answer → List ℕ
+written (refusal n) = 0 ∷ (n ∷ [])
+written accepted = 1 ∷ []
+written (triangle t) = 2 ∷ (t .p ∷ (t .q ∷ (t .r ∷ [])))
+written no-triangle = 3 ∷ []
+written (numbers x) = 4 ∷ writtenTotals x
+written (packed n) = 5 ∷ (n ∷ [])
+written (unpacked m) = 6 ∷ (m .vertices ∷ (m .triangles ∷ writtenTotals (m .totals)))
+
+unfoldable pub equalAnswers : List Answer → List Answer → Bool
+equalAnswers [] [] = true
+equalAnswers [] (y ∷ ys) = false
+equalAnswers (x ∷ xs) [] = false
+equalAnswers (x ∷ xs) (y ∷ ys) = elim (equal (written x) (written y)) [ true ↦ equalAnswers xs ys | false ↦ false ]
+
+abbrev pub sameAnswer : Answer → Answer → Bool
+sameAnswer x y = equal (written x) (written y)
+
+-- a packing
+pub record PackRow : Type 0 where
+  pub limits : Most
+  pub vertices : ℕ
+  pub list : List ℕ
+  pub lent : PackBuffers
+  pub answer : Answer
+  pub left : PackBuffers
+
+abbrev pub samePacking : PackResult → Answer → PackBuffers → Bool
+samePacking r a b =
+    sameAnswer (r .answer) a && equal (r .buffers .numbering) (b .numbering) && equal (r .buffers .pack) (b .pack)
+    && equalPlaces (r .buffers .places) (b .places)
+
+unfoldable pub packRight : PackRow → Bool
+packRight x = samePacking (packWithin (x .limits) (x .vertices) (x .list) (x .lent)) (x .answer) (x .left)
+
+-- an unpacking
+pub record UnpackRow : Type 0 where
+  pub bytes : List ℕ
+  pub lent : UnpackBuffers
+  pub answer : Answer
+  pub left : UnpackBuffers
+
+abbrev pub sameUnpacking : UnpackResult → Answer → UnpackBuffers → Bool
+sameUnpacking r a b =
+    sameAnswer (r .answer) a && equal (r .buffers .triangles) (b .triangles) && equalPlaces (r .buffers .places) (b .places)
+
+unfoldable pub unpackRight : UnpackRow → Bool
+unpackRight x = sameUnpacking (unpack (x .bytes) (x .lent)) (x .answer) (x .left)
+
+-- a book as numbers
+unfoldable pub writtenRing : Ring → List ℕ
+writtenRing [] = []
+writtenRing (p ∷ ps) = vertex p ∷ (num (isOpen p) ∷ writtenRing ps)
+
+unfoldable pub writtenRings : List Ring → List ℕ
+writtenRings [] = []
+writtenRings (l ∷ ls) = length l ∷ (writtenRing l ++ writtenRings ls)
+
+unfoldable pub writtenEdges : List Edge → List ℕ
+writtenEdges [] = []
+writtenEdges (d ∷ ds) = d .from ∷ (d .to ∷ writtenEdges ds)
+
+abbrev pub writtenMachine : Machine → List ℕ
+writtenMachine m =
+    m .used ∷ m .edges ∷ m .mostPlaces ∷ m .mostLoops ∷ m .starts ∷ m .unions ∷ m .rims ∷ numbersOf (m .triangles) ++ writtenRings (m .loops)
+
+-- a list of calls; the first of them begins; what they answer, and what the book then holds
+pub record CallRow : Type 0 where
+  pub rooms : Rooms
+  pub calls : List Call
+  pub told : List Answer
+  pub machine : List ℕ
+  pub borders : List ℕ
+
+abbrev pub counts : ℕ → ℕ → ℕ → ℕ → Counts
+counts v t p l = record { vertices = v; triangles = t; places = p; loops = l }
+
+abbrev pub sameBook : Book → CallRow → Bool
+sameBook b x = equal (writtenMachine (b .machine)) (x .machine) && equal (writtenEdges (b .borders)) (x .borders)
+
+abbrev pub noBook : Book
+noBook = emptyBook (counts 0 0 0 0)
+
+unfoldable pub callsRight : CallRow → Bool
+callsRight x =
+    equalAnswers (answers (x .rooms) noBook (x .calls)) (x .told) && sameBook (afterAll (x .rooms) noBook (x .calls)) x
+
+-- short forms for rows
+abbrev pub totalsOf : ℕ → ℕ → ℕ → ℤ → Totals
+totalsOf e r u x = record { edges = e; rims = r; unions = u; euler = x }
+
+abbrev pub modelOf : ℕ → ℕ → Totals → Answer
+modelOf v t x = unpacked (record { vertices = v; triangles = t; totals = x })
+
+abbrev pub packLent : List ℕ → List Place → List ℕ → PackBuffers
+packLent ns ps bs = record { numbering = ns; places = ps; pack = bs }
+
+abbrev pub unpackLent : List ℕ → List Place → UnpackBuffers
+unpackLent ts ps = record { triangles = ts; places = ps }
+
+abbrev pub rooms : ℕ → ℕ → Rooms
+rooms t p = record { triangles = t; places = p }
+
+-- all rows are right
+unfoldable pub allRight : {A : Type 0} → (A → Bool) → List A → Bool
+allRight f [] = true
+allRight f (x ∷ xs) = elim (f x) [ true ↦ allRight f xs | false ↦ false ]

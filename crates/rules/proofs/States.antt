@@ -1,0 +1,184 @@
+-- States for 21: one that passes, and for each clause of its sentence one that does not; and the view of the one that passes.
+-- The second program has no such states, so what is expected here is written by hand, from the rule's sentence.
+-- Assumes nothing.
+use Prim.Native.Nat.{ℕ, zero, suc}
+use mathlib.Core.Bool.{Bool, true, false, _&&_, not}
+use mathlib.Core.List.{List, [], _∷_, _++_}
+use lib.ListN.{replicate}
+use lib.Dec.{T}
+use Rattle.rules.specs.declared.Counts.{Counts}
+use Rattle.rules.specs.declared.Place.{Place}
+use Rattle.rules.specs.declared.Builder.{Builder}
+use Rattle.rules.specs.declared.Operation.the-variants.{New, Border, Split, Start}
+use Rattle.rules.specs.Triangle.{corners, edgesOf}
+use Rattle.rules.specs.Count.{same, hit, occurs, count}
+use Rattle.rules.specs.Check.{allBelow}
+use Rattle.rules.specs.Ring.{allOpen, vertexAt, lastOpen, lastVertex, front, onward, places, loopAt, without}
+use Rattle.rules.specs.Table.{allowed, inOrder, atEdge, atRest, effect}
+use Rattle.rules.specs.Machine.{test, done, beginning}
+use Rattle.rules.specs.Unpack.{numbersOf}
+use Rattle.rules.specs.Book.{Call, begin, operate, emptyBook, afterAll}
+use Rattle.rules.specs.Buffer.{freePlace}
+use Rattle.rules.specs.View.{follow, followed, nodes, loopsOf, trianglesBuilt, view}
+use Rattle.rules.specs.Test21.{placesOf, sizesOf, apart, placesFit, loopsFit, linksFit, sound}
+use Rattle.rules.proofs.Rows.{equal, place, counts, rooms, allRight, writtenRing, writtenRings, writtenMachine}
+
+-- a state and its buffers, and whether 21 lets it pass
+pub record StateRow : Type 0 where
+  pub state : Builder
+  pub triangles : List ℕ
+  pub places : List Place
+  pub passes : Bool
+
+-- the counts so far and the loops of a state
+pub record Parts : Type 0 where
+  pub used : ℕ
+  pub built : ℕ
+  pub mostPlaces : ℕ
+  pub mostLoops : ℕ
+  pub live : ℕ
+  pub current : List ℕ
+  pub sizes : List ℕ
+
+abbrev pub builder : Counts → Parts → ℕ → ℕ → ℕ → ℕ → Builder
+builder s p e n u r = record {
+  stated = s;
+  used = p .used;
+  built = p .built;
+  peaks = record { places = p .mostPlaces; loops = p .mostLoops };
+  edges = e;
+  starts = n;
+  unions = u;
+  rims = r;
+  live = p .live;
+  current = p .current ++ replicate 96 0;
+  sizes = p .sizes ++ replicate 96 0;
+}
+
+abbrev pub parts : ℕ → ℕ → ℕ → ℕ → ℕ → List ℕ → List ℕ → Parts
+parts v t p l n es ks = record { used = v; built = t; mostPlaces = p; mostLoops = l; live = n; current = es; sizes = ks }
+
+-- after start, new, border, new, split 2: the current loop is at places 5 2 0, the waiting one at 4 3 1
+abbrev pub stated : Counts
+stated = counts 5 4 6 2
+
+abbrev pub first : List ℕ
+first = 4 ∷ 5 ∷ 0 ∷ 0 ∷ []
+
+abbrev pub three : List ℕ
+three = 3 ∷ 3 ∷ 0 ∷ 0 ∷ []
+
+abbrev pub standing : Parts
+standing = parts 5 4 6 2 2 first three
+
+abbrev pub good : Builder
+good = builder stated standing 9 1 0 0
+
+abbrev pub numbers : List ℕ
+numbers = 0 ∷ 1 ∷ 2 ∷ 1 ∷ 0 ∷ 3 ∷ 2 ∷ 1 ∷ 4 ∷ 2 ∷ 4 ∷ 3 ∷ []
+
+abbrev pub frontPlaces : List Place
+frontPlaces = place 0 2 5 true ∷ place 1 3 4 true ∷ place 2 5 0 true ∷ place 3 4 1 false ∷ place 4 1 3 true ∷ place 3 0 2 true ∷ []
+
+abbrev pub memory : List Place
+memory = frontPlaces ++ replicate 1018 freePlace
+
+abbrev pub row : Bool → Builder → List ℕ → List Place → StateRow
+row b s xs ps = record { state = s; triangles = xs; places = ps; passes = b }
+
+-- a state that differs in its stated counts, or in its parts, or in its sums
+abbrev pub withStated : Bool → Counts → StateRow
+withStated b s = row b (builder s standing 9 1 0 0) (numbers ++ replicate 30000 0) memory
+
+abbrev pub withParts : Bool → Parts → StateRow
+withParts b p = row b (builder stated p 9 1 0 0) (numbers ++ replicate 3 0) memory
+
+abbrev pub withSums : Bool → ℕ → ℕ → ℕ → ℕ → StateRow
+withSums b e n u r = row b (builder stated standing e n u r) numbers memory
+
+abbrev pub withPlaces : Bool → List Place → StateRow
+withPlaces b ps = row b good numbers ps
+
+unfoldable pub stateRows : List StateRow
+stateRows =
+    row true good numbers memory
+    ∷
+    -- longer buffers, and free records that hold anything
+    row true good (numbers ++ (9 ∷ [])) (frontPlaces ++ replicate 1020 (place 9 9 9 true))
+    ∷
+    -- buffers shorter than 14 asks
+    row false good (0 ∷ 1 ∷ 2 ∷ 1 ∷ 0 ∷ 3 ∷ 2 ∷ 1 ∷ 4 ∷ 2 ∷ 4 ∷ []) memory
+    ∷ row false good numbers (frontPlaces ++ replicate 1017 freePlace)
+    ∷
+    -- a beginning's state, and one that was never begun
+    withParts true (parts 0 0 0 0 0 (0 ∷ 0 ∷ 0 ∷ 0 ∷ []) (0 ∷ 0 ∷ 0 ∷ 0 ∷ []))
+    ∷ row false (builder (counts 0 0 0 0) (parts 0 0 0 0 0 (0 ∷ 0 ∷ 0 ∷ 0 ∷ []) (0 ∷ 0 ∷ 0 ∷ 0 ∷ [])) 0 0 0 0) [] memory
+    ∷
+    -- counts that exceed 13's ranges
+    withStated true (counts 4096 8192 1024 100)
+    ∷ withStated false (counts 4097 8192 1024 100)
+    ∷ withStated false (counts 4096 8193 1024 100)
+    ∷ withStated false (counts 4096 8192 1025 100)
+    ∷ withStated false (counts 4096 8192 1024 101)
+    ∷
+    -- counts that exceed those stated: vertices, triangles, places, loops, both peaks
+    withStated false (counts 4 4 6 2)
+    ∷ withStated false (counts 5 3 6 2)
+    ∷ withParts false (parts 5 5 6 2 2 first three)
+    ∷ row false (builder (counts 5 4 5 2) (parts 5 4 5 2 2 first three) 9 1 0 0) numbers memory
+    ∷ row false (builder (counts 5 4 6 1) (parts 5 4 6 1 2 first three) 9 1 0 0) numbers memory
+    ∷ withParts false (parts 5 4 7 2 2 first three)
+    ∷ withParts false (parts 5 4 6 3 2 first three)
+    ∷
+    -- edges, starts, unions and rims at 3T and above it
+    withSums true 12 12 12 12
+    ∷ withSums false 13 1 0 0
+    ∷ withSums false 9 13 0 0
+    ∷ withSums false 9 1 13 0
+    ∷ withSums false 9 1 0 13
+    ∷
+    -- two loops at the same places; a loop that is shorter or longer than stated; one that is gone round twice; one with no place
+    withParts false (parts 5 4 6 2 2 (5 ∷ 5 ∷ 0 ∷ 0 ∷ []) three)
+    ∷ withParts false (parts 5 4 6 2 2 first (3 ∷ 2 ∷ 0 ∷ 0 ∷ []))
+    ∷ withParts false (parts 5 4 6 2 2 first (2 ∷ 4 ∷ 0 ∷ 0 ∷ []))
+    ∷ withParts false (parts 5 4 6 2 1 (5 ∷ 0 ∷ 0 ∷ 0 ∷ []) (6 ∷ 0 ∷ 0 ∷ 0 ∷ []))
+    ∷ withParts false (parts 5 4 6 2 2 first (3 ∷ 0 ∷ 0 ∷ 0 ∷ []))
+    ∷
+    -- loops of one and of two places are let pass
+    row true (builder stated (parts 5 4 6 2 2 (0 ∷ 1 ∷ 0 ∷ 0 ∷ []) (1 ∷ 2 ∷ 0 ∷ 0 ∷ [])) 9 1 0 0) numbers
+    (place 0 0 0 true ∷ place 1 2 2 true ∷ place 2 1 1 false ∷ replicate 1021 freePlace)
+    ∷
+    -- a link that disagrees; a link out of the first 1,024 records
+    withPlaces false
+    (place 0 2 5 true ∷ place 1 3 4 true ∷ place 2 4 0 true ∷ place 3 4 1 false ∷ place 4 1 3 true ∷ place 3 0 2 true ∷ replicate 1018 freePlace)
+    ∷ withPlaces false
+    (place 0 2 1024 true ∷ place 1 3 4 true ∷ place 2 1024 0 true ∷ place 3 4 1 false ∷ place 4 1 3 true ∷ replicate 1019 freePlace
+    ++ (place 3 0 2 true ∷ []))
+    ∷ row false (builder stated (parts 5 4 6 2 2 (4 ∷ 1024 ∷ 0 ∷ 0 ∷ []) three) 9 1 0 0) numbers
+    (place 0 2 1024 true ∷ place 1 3 4 true ∷ place 2 1024 0 true ∷ place 3 4 1 false ∷ place 4 1 3 true ∷ replicate 1019 freePlace
+    ++ (place 3 0 2 true ∷ []))
+    ∷
+    -- a current edge that is not open, of the waiting loop and of the current one
+    withParts false (parts 5 4 6 2 2 (3 ∷ 5 ∷ 0 ∷ 0 ∷ []) three)
+    ∷ withParts false (parts 5 4 6 2 2 (5 ∷ 3 ∷ 0 ∷ 0 ∷ []) three)
+    ∷
+    -- a vertex number that is not below the count so far, at a place and in a triangle
+    withPlaces false
+    (place 0 2 5 true ∷ place 5 3 4 true ∷ place 2 5 0 true ∷ place 3 4 1 false ∷ place 4 1 3 true ∷ place 3 0 2 true ∷ replicate 1018 freePlace)
+    ∷ row false good (0 ∷ 1 ∷ 2 ∷ 1 ∷ 0 ∷ 3 ∷ 2 ∷ 1 ∷ 4 ∷ 2 ∷ 4 ∷ 5 ∷ []) memory
+    ∷ []
+
+abbrev pub stateRight : StateRow → Bool
+stateRight x = elim (x .passes) [ true ↦ sound (x .state) (x .triangles) (x .places) | false ↦ not (sound (x .state) (x .triangles) (x .places)) ]
+
+unfoldable pub viewRight : Bool
+viewRight =
+    equal (writtenMachine (view good numbers memory))
+    (writtenMachine
+    (afterAll (rooms 12 1024) (emptyBook stated)
+    (begin stated ∷ operate Start ∷ operate New ∷ operate Border ∷ operate New ∷ operate (Split 2) ∷ [])
+    .machine))
+
+pub states : T (allRight stateRight stateRows && viewRight)
+unfolding same hit corners edgesOf numbersOf occurs count allBelow allOpen vertexAt lastOpen lastVertex front onward places loopAt without allowed inOrder atEdge atRest effect test done beginning afterAll follow followed nodes loopsOf trianglesBuilt view placesOf sizesOf apart placesFit loopsFit linksFit sound equal allRight stateRows writtenRing writtenRings viewRight
+states = tt

@@ -1,0 +1,24 @@
+-- What lent buffers hold after a call.
+-- Assumes nothing.
+use Prim.Native.Nat.{ℕ}
+use mathlib.Core.Bool.{false}
+use mathlib.Core.List.{List, _++_}
+use lib.ListN.{length, drop, replicate}
+use Rattle.rules.specs.declared.Place.{Place}
+use Rattle.rules.specs.Limits.{maxPlaces}
+
+-- results at the front, and nothing beyond them
+abbrev pub over : List ℕ → List ℕ → List ℕ
+over xs room = xs ++ drop (length xs) room
+
+-- the first n entries zero
+abbrev pub zeroed : ℕ → List ℕ → List ℕ
+zeroed n room = replicate n 0 ++ drop n room
+
+-- a record that is zero, its edge not open
+abbrev pub freePlace : Place
+freePlace = record { vertex = 0; before = 0; after = 0; «open» = false }
+
+-- the first 1,024 place records zero
+unfoldable pub cleared : List Place → List Place
+cleared ps = replicate maxPlaces freePlace ++ drop maxPlaces ps

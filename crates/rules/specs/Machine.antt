@@ -1,0 +1,146 @@
+-- The abstract machine: what the book (a term of the rules) holds but the edges declared border, on which no answer depends;
+-- and the three kinds of call on it, with their refusals.
+-- Assumes nothing.
+use Prim.Native.Nat.{ℕ, zero, suc, _+_, _*_, max}
+use mathlib.Core.Bool.{Bool, true, false, _&&_}
+use mathlib.Core.List.{List, [], _∷_}
+use lib.ListN.{length}
+use lib.Dec.{eqb, leb}
+use lib.IntN.{ℤ, pos, _+ℤ_, _-ℤ_}
+use Rattle.rules.specs.declared.Triangle.{Triangle}
+use Rattle.rules.specs.declared.Counts.{Counts}
+use Rattle.rules.specs.declared.Operation.{Operation}
+use Rattle.rules.specs.declared.Totals.{Totals}
+use Rattle.rules.specs.Limits.{maxPlaces, inRange}
+use Rattle.rules.specs.Triangle.{Edge}
+use Rattle.rules.specs.Fan.{oneFanEach}
+use Rattle.rules.specs.Ring.{Ring, places}
+use Rattle.rules.specs.Table.{Side, glued, fresh, Effect, not-allowed, builds, marks, effect, edgeRule}
+
+pub record Machine : Type 0 where
+  pub stated : Counts
+  -- the latest first
+  pub triangles : List Triangle
+  -- the current one, then the waiting ones, the latest first
+  pub loops : List Ring
+  pub used : ℕ
+  pub mostPlaces : ℕ
+  pub mostLoops : ℕ
+  pub edges : ℕ
+  pub starts : ℕ
+  pub unions : ℕ
+  pub rims : ℕ
+
+abbrev pub empty : Counts → Machine
+empty s = record {
+  stated = s;
+  triangles = [];
+  loops = [];
+  used = 0;
+  mostPlaces = 0;
+  mostLoops = 0;
+  edges = 0;
+  starts = 0;
+  unions = 0;
+  rims = 0;
+}
+
+abbrev pub isFresh : Side → ℕ
+isFresh glued = 0
+isFresh fresh = 1
+
+-- both peaks are taken after the operation
+abbrev pub afterBuild : Machine → List Ring → Triangle → Side → Side → Side → ℕ → ℕ → ℕ → Machine
+afterBuild m ls t pq qr rp n s k = record {
+  stated = m .stated;
+  triangles = t ∷ m .triangles;
+  loops = ls;
+  used = m .used + n;
+  mostPlaces = max (m .mostPlaces) (places ls);
+  mostLoops = max (m .mostLoops) (length ls);
+  edges = m .edges + (isFresh pq + isFresh qr + isFresh rp);
+  starts = m .starts + s;
+  unions = m .unions + k;
+  rims = m .rims;
+}
+
+abbrev pub afterMark : Machine → List Ring → ℕ → Machine
+afterMark m ls rim = record {
+  stated = m .stated;
+  triangles = m .triangles;
+  loops = ls;
+  used = m .used;
+  mostPlaces = max (m .mostPlaces) (places ls);
+  mostLoops = max (m .mostLoops) (length ls);
+  edges = m .edges;
+  starts = m .starts;
+  unions = m .unions;
+  rims = m .rims + rim;
+}
+
+-- what a call comes to: a refusal; a beginning; an operation's triangle, or the edge that it declares border; a finish's numbers
+pub data Step : Type 0 where
+  refused : ℕ → Step
+  begun : Machine → Step
+  built : Triangle → Machine → Step
+  declared : Edge → Machine → Step
+  finished : Totals → Step
+
+-- a test that a call must pass, and the refusal's number if it fails
+unfoldable pub test : Bool → ℕ → Step → Step
+test true n s = s
+test false n s = refused n
+
+-- 17: vertices, triangles, places and loops, as after the operation, are within those stated
+abbrev pub within : Machine → Bool
+within m =
+    leb (m .used) (m .stated .vertices) && leb (length (m .triangles)) (m .stated .triangles)
+    && leb (places (m .loops)) (m .stated .places) && leb (length (m .loops)) (m .stated .loops)
+
+unfoldable pub done : Machine → Effect → Step
+done m not-allowed = refused 16
+done m (builds ls t pq qr rp n s k) =
+    let m′ = afterBuild m ls t pq qr rp n s k in
+    test (within m′) 17 (test (edgeRule t pq qr rp (m .triangles)) 18 (built t m′))
+done m (marks ls d rim) = let m′ = afterMark m ls rim in test (within m′) 17 (declared d m′)
+
+-- an operation: 16, 17, 18
+abbrev pub operation : Machine → Operation → Step
+operation m o = done m (effect o (m .used) (m .loops))
+
+-- the lengths of the buffers that are lent
+pub record Rooms : Type 0 where
+  pub triangles : ℕ
+  pub places : ℕ
+
+-- 14
+abbrev pub roomy : Rooms → Counts → Bool
+roomy r s = leb (3 * s .triangles) (r .triangles) && leb maxPlaces (r .places)
+
+-- a beginning: 13, 14
+unfoldable pub beginning : Rooms → Counts → Step
+beginning r s = test (inRange s) 13 (test (roomy r s) 14 (begun (empty s)))
+
+abbrev pub complete : Machine → Bool
+complete m = eqb (length (m .triangles)) (m .stated .triangles) && eqb (length (m .loops)) 0
+
+-- 19: the vertices and both peaks are those stated
+abbrev pub asStated : Machine → Bool
+asStated m = eqb (m .used) (m .stated .vertices) && eqb (m .mostPlaces) (m .stated .places) && eqb (m .mostLoops) (m .stated .loops)
+
+-- the Euler number is vertices minus edges plus triangles
+abbrev pub totals : Machine → Totals
+totals m = record {
+  edges = m .edges;
+  rims = m .rims;
+  unions = m .unions;
+  euler = pos (m .used) -ℤ pos (m .edges) +ℤ pos (length (m .triangles));
+}
+
+-- 19, 20; an unpacking asks besides that the rest of its bytes is right
+unfoldable pub ending : Bool → Machine → Step
+ending rest m = test (rest && asStated m) 19 (test (oneFanEach (m .used) (m .triangles)) 20 (finished (totals m)))
+
+-- a finish: 15, 19, 20
+unfoldable pub finish : Machine → Step
+finish m = test (complete m) 15 (ending true m)

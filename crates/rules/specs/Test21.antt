@@ -1,0 +1,76 @@
+-- The test of 21: whether a building call can go on with the state and the buffers that it is lent.
+-- Assumes nothing.
+use Prim.Native.Nat.{ℕ, zero, suc, _+_, _*_}
+use mathlib.Core.Bool.{Bool, true, false, _&&_}
+use mathlib.Core.List.{List, [], _∷_, _++_}
+use lib.ListN.{length, getD, take}
+use lib.Dec.{eqb, ltb, leb}
+use Rattle.rules.specs.declared.Place.{Place}
+use Rattle.rules.specs.declared.Builder.{Builder}
+use Rattle.rules.specs.Limits.{maxPlaces, inRange}
+use Rattle.rules.specs.Count.{occurs}
+use Rattle.rules.specs.Check.{allBelow}
+use Rattle.rules.specs.Machine.{Rooms, roomy}
+use Rattle.rules.specs.View.{placeAt, followed, loopPlaces}
+
+-- all places of the first n loops, and how many they are by the state
+unfoldable pub placesOf : Builder → List Place → ℕ → List ℕ
+placesOf b ps zero = []
+placesOf b ps (suc n) = loopPlaces b ps n ++ placesOf b ps n
+
+unfoldable pub sizesOf : Builder → ℕ → ℕ
+sizesOf b zero = 0
+sizesOf b (suc n) = getD (b .sizes) n 0 + sizesOf b n
+
+-- the counts exceed neither those stated nor 13's ranges
+abbrev pub countsFit : Builder → Bool
+countsFit b =
+    inRange (b .stated) && leb (b .used) (b .stated .vertices) && leb (b .built) (b .stated .triangles)
+    && leb (b .live) (b .stated .loops) && leb (sizesOf b (b .live)) (b .stated .places)
+    && leb (b .peaks .loops) (b .stated .loops) && leb (b .peaks .places) (b .stated .places)
+
+-- edges, starts, unions and rims do not exceed 3T
+abbrev pub sumsFit : Builder → Bool
+sumsFit b =
+    let most = 3 * b .stated .triangles in
+    leb (b .edges) most && leb (b .starts) most && leb (b .unions) most && leb (b .rims) most
+
+-- no place is there twice
+unfoldable pub apart : List ℕ → Bool
+apart [] = true
+apart (i ∷ is) = eqb (occurs i is) 0 && apart is
+
+-- the link back from the next place agrees, and the vertex is below n, at each place of the list
+abbrev pub placeFits : List Place → ℕ → ℕ → Bool
+placeFits ps n i = eqb (placeAt ps (placeAt ps i .after) .before) i && ltb (placeAt ps i .vertex) n
+
+unfoldable pub placesFit : List Place → ℕ → List ℕ → Bool
+placesFit ps n [] = true
+placesFit ps n (i ∷ is) = placeFits ps n i && placesFit ps n is
+
+-- a loop has a place, returns after its stated places, and its current edge is open
+abbrev pub loopFits : Builder → List Place → ℕ → Bool
+loopFits b ps n =
+    let e = getD (b .current) n 0 in
+    let k = getD (b .sizes) n 0 in
+    leb 1 k && eqb (followed ps k e) e && placeAt ps e .«open»
+
+unfoldable pub loopsFit : Builder → List Place → ℕ → Bool
+loopsFit b ps zero = true
+loopsFit b ps (suc n) = loopFits b ps n && loopsFit b ps n
+
+unfoldable pub linksFit : Builder → List Place → Bool
+linksFit b ps =
+    let is = placesOf b ps (b .live) in
+    allBelow maxPlaces is && apart is && placesFit ps (b .used) is && loopsFit b ps (b .live)
+
+-- the numbers of the triangles built so far are below the count so far
+abbrev pub trianglesFit : Builder → List ℕ → Bool
+trianglesFit b xs = allBelow (b .used) (take (3 * b .built) xs)
+
+abbrev pub lent : List ℕ → List Place → Rooms
+lent xs ps = record { triangles = length xs; places = length {A = Place} ps }
+
+-- a state that passes
+unfoldable pub sound : Builder → List ℕ → List Place → Bool
+sound b xs ps = roomy (lent xs ps) (b .stated) && countsFit b && sumsFit b && linksFit b ps && trianglesFit b xs

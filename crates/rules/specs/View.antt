@@ -1,0 +1,61 @@
+-- A builder's state and lent buffers read as the abstract machine.
+-- Assumes nothing.
+use Prim.Native.Nat.{ℕ, zero, suc, _+_, _*_}
+use mathlib.Core.Bool.{Bool, true, false}
+use mathlib.Core.List.{List, [], _∷_}
+use lib.ListN.{getD}
+use Rattle.rules.specs.declared.Triangle.{Triangle}
+use Rattle.rules.specs.declared.Place.{Place}
+use Rattle.rules.specs.declared.Builder.{Builder}
+use Rattle.rules.specs.Triangle.{tri}
+use Rattle.rules.specs.Ring.{Node, opened, marked, Ring}
+use Rattle.rules.specs.Machine.{Machine}
+use Rattle.rules.specs.Buffer.{freePlace}
+
+-- a place's record
+abbrev pub placeAt : List Place → ℕ → Place
+placeAt ps i = getD ps i freePlace
+
+-- n places on from place i, by the links: place i and those after it; and the place where that leads
+unfoldable pub follow : List Place → ℕ → ℕ → List ℕ
+follow ps zero i = []
+follow ps (suc n) i = i ∷ follow ps n (placeAt ps i .after)
+
+unfoldable pub followed : List Place → ℕ → ℕ → ℕ
+followed ps zero i = i
+followed ps (suc n) i = followed ps n (placeAt ps i .after)
+
+abbrev pub nodeOf : Place → Node
+nodeOf p = elim (p .«open») [ true ↦ opened (p .vertex) | false ↦ marked (p .vertex) ]
+
+unfoldable pub nodes : List Place → List ℕ → Ring
+nodes ps [] = []
+nodes ps (i ∷ is) = nodeOf (placeAt ps i) ∷ nodes ps is
+
+-- the loop at number n of the state: its places, the current edge's first
+abbrev pub loopPlaces : Builder → List Place → ℕ → List ℕ
+loopPlaces b ps n = follow ps (getD (b .sizes) n 0) (getD (b .current) n 0)
+
+-- the last n loops, the current one first
+unfoldable pub loopsOf : Builder → List Place → ℕ → List Ring
+loopsOf b ps zero = []
+loopsOf b ps (suc n) = nodes ps (loopPlaces b ps n) ∷ loopsOf b ps n
+
+-- the first n triangles of the triangle buffer, the latest first
+unfoldable pub trianglesBuilt : List ℕ → ℕ → List Triangle
+trianglesBuilt xs zero = []
+trianglesBuilt xs (suc n) = tri (getD xs (3 * n) 0) (getD xs (3 * n + 1) 0) (getD xs (3 * n + 2) 0) ∷ trianglesBuilt xs n
+
+unfoldable pub view : Builder → List ℕ → List Place → Machine
+view b xs ps = record {
+  stated = b .stated;
+  triangles = trianglesBuilt xs (b .built);
+  loops = loopsOf b ps (b .live);
+  used = b .used;
+  mostPlaces = b .peaks .places;
+  mostLoops = b .peaks .loops;
+  edges = b .edges;
+  starts = b .starts;
+  unions = b .unions;
+  rims = b .rims;
+}

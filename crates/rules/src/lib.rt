@@ -1,0 +1,107 @@
+// The types of the service: what its calls take, hold and answer. Their meaning stands in specs/.
+
+// A triangle p q r has the directed edges p→q, q→r and r→p.
+pub struct Triangle {
+    pub p: u16,
+    pub q: u16,
+    pub r: u16,
+}
+
+// The counts that a pack or a beginning states.
+pub struct Counts {
+    pub vertices: u16,
+    pub triangles: u16,
+    pub places: u16,
+    pub loops: u16,
+}
+
+// The eight operations, with their indices.
+pub enum Operation {
+    New,
+    Forward,
+    Backward,
+    Border,
+    Split(u16),
+    Close,
+    Union(u16, u16),
+    Start,
+}
+
+// A record of the lent place list: its vertex, the places before and after it in its loop, and whether its edge to the
+// next place is open (else it is marked as border, or the place is free).
+pub struct Place {
+    pub vertex: u16,
+    pub before: u16,
+    pub after: u16,
+    pub open: bool,
+}
+
+// The most places and the most live loops so far.
+pub struct Peaks {
+    pub places: u16,
+    pub loops: u16,
+}
+
+// A model that is being built. Of the live loops the current one stands at `live - 1`, the latest waiting one before it,
+// and so on: `current` has the place where a loop's current edge starts, `sizes` how many places it has.
+pub struct Builder {
+    pub stated: Counts,
+    pub used: u16,
+    pub built: u16,
+    pub peaks: Peaks,
+    pub edges: u16,
+    pub starts: u16,
+    pub unions: u16,
+    pub rims: u16,
+    pub live: u16,
+    pub current: [u16; 100],
+    pub sizes: [u16; 100],
+}
+
+// What a finish gives.
+pub struct Totals {
+    pub edges: u16,
+    pub rims: u16,
+    pub unions: u16,
+    pub euler: i32,
+}
+
+// What an unpacking gives.
+pub struct Model {
+    pub vertices: u16,
+    pub triangles: u16,
+    pub totals: Totals,
+}
+
+// Where a directed edge is: the number of the triangle, the corner that the edge does not touch, and the vertex there.
+pub enum Across {
+    Found(u16, u8, u16),
+    Nothing,
+}
+
+// The answers of the calls.
+pub enum Checked {
+    Accepted,
+    Refused(u8),
+}
+
+pub enum Packed {
+    Length(u32),
+    Refused(u8),
+}
+
+pub enum Unpacked {
+    Model(Model),
+    Refused(u8),
+}
+
+pub enum Operated {
+    Built(Triangle),
+    Marked,
+    Refused(u8),
+}
+
+pub enum Finished {
+    Totals(Totals),
+    Refused(u8),
+}

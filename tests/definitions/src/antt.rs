@@ -1,0 +1,137 @@
+//! Values in the prover's notation.
+
+use crate::second::{Building, PackRooms, Packing, UnpackRooms, Unpacking};
+use cutborder::book::Book;
+use cutborder::{Answer, Place};
+use std::fmt::Write;
+
+/// A list, runs of equal values as `replicate`.
+fn list<T: PartialEq>(xs: &[T], show: impl Fn(&T) -> String) -> String {
+    let mut parts: Vec<String> = Vec::new();
+    let mut single: Vec<String> = Vec::new();
+    let mut i = 0;
+    while i < xs.len() {
+        let n = xs[i..].iter().take_while(|x| **x == xs[i]).count();
+        if n >= 8 {
+            flush(&mut single, &mut parts);
+            parts.push(format!("replicate {n} {}", show(&xs[i])));
+            i += n;
+        } else {
+            single.push(show(&xs[i]));
+            i += 1;
+        }
+    }
+    flush(&mut single, &mut parts);
+    match parts.len() {
+        0 => "[]".into(),
+        1 => format!("({})", parts[0]),
+        _ => format!("({})", parts.join(" ++ ")),
+    }
+}
+
+fn flush(single: &mut Vec<String>, parts: &mut Vec<String>) {
+    if !single.is_empty() {
+        parts.push(format!("({} ∷ [])", single.join(" ∷ ")));
+        single.clear();
+    }
+}
+
+fn numbers<T: Copy + PartialEq + Into<u64>>(xs: &[T]) -> String {
+    list(xs, |x| { let n: u64 = (*x).into(); n.to_string() })
+}
+
+fn places(ps: &[Place]) -> String {
+    list(ps, |p| format!("(place {} {} {} {})", p.vertex, p.before, p.after, p.open))
+}
+
+fn pack_rooms(r: &PackRooms) -> String {
+    format!("packLent {} {} {}", numbers(&r.numbering), places(&r.places), numbers(&r.pack))
+}
+
+fn unpack_rooms(r: &UnpackRooms) -> String {
+    format!("unpackLent {} {}", numbers(&r.triangles), places(&r.places))
+}
+
+fn integer(n: i64) -> String {
+    if n >= 0 { format!("(pos {n})") } else { format!("(negsuc {})", -n - 1) }
+}
+
+pub fn packing(x: &Packing) -> String {
+    let answer = match x.answer {
+        Ok(n) => format!("packed {n}"),
+        Err(n) => format!("refusal {n}"),
+    };
+    format!(
+        "record {{ limits = record {{ places = {}; loops = {} }}; vertices = {}; list = {}; lent = {}; answer = {answer}; left = {} }}",
+        x.limits.0, x.limits.1, x.v, numbers(&x.list), pack_rooms(&x.lent), pack_rooms(&x.left)
+    )
+}
+
+fn model(a: &Answer) -> String {
+    format!("modelOf {} {} (totalsOf {} {} {} {})", a.v, a.t, a.edges, a.rims, a.unions, integer(a.euler.into()))
+}
+
+pub fn unpacking(x: &Unpacking) -> String {
+    let answer = match &x.answer {
+        Ok(a) => model(a),
+        Err(n) => format!("refusal {n}"),
+    };
+    format!(
+        "record {{ bytes = {}; lent = {}; answer = {answer}; left = {} }}",
+        numbers(&x.bytes), unpack_rooms(&x.lent), unpack_rooms(&x.left)
+    )
+}
+
+fn call(line: &str) -> String {
+    let w: Vec<&str> = line.split(' ').collect();
+    match w.as_slice() {
+        ["begin", v, t, p, l, ..] => format!("begin (counts {v} {t} {p} {l})"),
+        ["finish"] => "end".into(),
+        ["op", name, indices @ ..] => {
+            let name = name[..1].to_uppercase() + &name[1..];
+            if indices.is_empty() { format!("operate {name}") } else { format!("operate ({name} {})", indices.join(" ")) }
+        }
+        _ => panic!("no call: {line}"),
+    }
+}
+
+fn answer(call: &str, told: &str) -> String {
+    let w: Vec<&str> = told.split(' ').collect();
+    match w.as_slice() {
+        ["refused", n] => format!("refusal {n}"),
+        ["ok"] if call.starts_with("begin") => "accepted".into(),
+        ["ok"] => "no-triangle".into(),
+        ["ok", p, q, r] => format!("triangle (tri {p} {q} {r})"),
+        ["ok", e, r, u, x] => format!("numbers (totalsOf {e} {r} {u} {})", integer(x.parse().unwrap())),
+        _ => panic!("no answer: {told}"),
+    }
+}
+
+pub fn building(x: &Building) -> String {
+    let mut calls = String::new();
+    let mut told = String::new();
+    for (c, t) in x.calls.iter().zip(&x.told) {
+        let _ = write!(calls, "{} ∷ ", call(c));
+        let _ = write!(told, "{} ∷ ", answer(c, t));
+    }
+    format!(
+        "record {{ rooms = rooms {} {}; calls = {calls}[]; told = {told}[]; machine = {}; borders = {} }}",
+        x.rooms.0, x.rooms.1, numbers(&machine(&x.book)), numbers(&borders(&x.book))
+    )
+}
+
+/// What the book holds, as numbers: the counts, the triangles as built, then each loop's length and places.
+fn machine(b: &Book) -> Vec<u32> {
+    let mut out = vec![b.used, b.edges(), b.peak_places, b.peak_loops, b.starts, b.unions, b.rims];
+    out.extend(b.triangles.iter().flatten().map(|&n| u32::from(n)));
+    for ring in &b.live {
+        out.push(ring.len() as u32);
+        out.extend(ring.iter().flat_map(|s| [u32::from(s.vertex), u32::from(s.open)]));
+    }
+    out
+}
+
+/// The edges declared border, the latest first.
+fn borders(b: &Book) -> Vec<u16> {
+    b.borders.iter().rev().flat_map(|&(x, y)| [x, y]).collect()
+}

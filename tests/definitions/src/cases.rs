@@ -1,0 +1,67 @@
+//! Random cases: models, damaged lists, packs, damaged packs and lists of calls.
+
+use crate::antt;
+use crate::prelude::{prelude, Home};
+use crate::second::{Building, PackRooms, Packing, UnpackRooms, Unpacking, LIMITS};
+use cutborder::gen;
+use cutborder::ops::split_fields;
+use cutborder::rng::Rng;
+use cutborder::Place;
+
+/// A room of about n entries, now and then one too short, filled with one value.
+fn length(rng: &mut Rng, n: usize) -> usize {
+    match rng.below(12) {
+        0 => n.saturating_sub(1),
+        1 => rng.below(n + 1),
+        2..=5 => n,
+        _ => n + rng.below(5),
+    }
+}
+
+fn places(rng: &mut Rng) -> Vec<Place> {
+    let p = Place { vertex: rng.below(9) as u16, before: 1, after: 2, open: rng.chance(1, 2) };
+    vec![p; length(rng, 1_024)]
+}
+
+pub fn packing(rng: &mut Rng, max_t: usize) -> Packing {
+    let m = gen::model(rng, max_t);
+    let limits = if rng.chance(1, 4) { (rng.range(3, 9) as u32, rng.range(1, 3) as u32) } else { LIMITS };
+    let size = gen::packed(&m).map_or(20, |p| p.len());
+    let lent = PackRooms {
+        numbering: vec![7; length(rng, m.v.min(5_000) as usize)],
+        places: places(rng),
+        pack: vec![5; length(rng, size)],
+    };
+    Packing::new(limits, m.v, &m.list, lent)
+}
+
+pub fn unpacking(rng: &mut Rng, max_t: usize) -> Unpacking {
+    let bytes = gen::pack(rng, max_t);
+    let t = split_fields(&bytes).map_or(1, |(c, _)| c.t as usize);
+    // A count near the limits is tried; its buffers are not: they would only be long.
+    let n = if t > 400 { 5 } else { length(rng, 3 * t) };
+    let lent = UnpackRooms { triangles: vec![6; n], places: places(rng) };
+    Unpacking::new(&bytes, lent)
+}
+
+pub fn building(rng: &mut Rng, max_t: usize) -> Building {
+    Building::new(&gen::calls(rng, max_t))
+}
+
+/// A theorem for each case, so that a refusal names it.
+pub fn module(seed: u64, count: usize) -> String {
+    let (uses, unfolding) = prelude(&Home::Outside);
+    let mut out = format!("-- Cases of seed {seed}, drawn by tests/definitions.\n-- Assumes nothing.\n{uses}");
+    let mut rng = Rng::new(seed);
+    for i in 0..count {
+        let mut r = rng.fork();
+        let max_t = [4, 8, 14, 20][r.below(4)];
+        let (kind, right, row) = match i % 3 {
+            0 => ("PackRow", "packRight", antt::packing(&packing(&mut r, max_t))),
+            1 => ("UnpackRow", "unpackRight", antt::unpacking(&unpacking(&mut r, max_t))),
+            _ => ("CallRow", "callsRight", antt::building(&building(&mut r, max_t))),
+        };
+        out += &format!("\nabbrev row{i} : {kind}\nrow{i} =\n    {row}\n\npub case{i} : T ({right} row{i})\n{unfolding}\ncase{i} = tt\n");
+    }
+    out
+}

@@ -1,0 +1,142 @@
+//! Calls of the second program, with all that goes in and comes out.
+
+use cutborder::book::Book;
+use cutborder::ops::{encode_ops, pack_bytes, Counts, Op};
+use cutborder::proto::Calls;
+use cutborder::{plain, Answer, Place, Refusal};
+
+/// The limits of the rules.
+pub const LIMITS: (u32, u32) = (1_024, 100);
+
+#[derive(Clone)]
+pub struct PackRooms {
+    pub numbering: Vec<u16>,
+    pub places: Vec<Place>,
+    pub pack: Vec<u8>,
+}
+
+pub struct Packing {
+    pub limits: (u32, u32),
+    pub v: u64,
+    pub list: Vec<u16>,
+    pub lent: PackRooms,
+    pub answer: Result<usize, Refusal>,
+    pub left: PackRooms,
+}
+
+impl Packing {
+    pub fn new(limits: (u32, u32), v: u64, list: &[u16], lent: PackRooms) -> Packing {
+        let mut left = lent.clone();
+        let answer = if limits == LIMITS {
+            plain::pack(v, list, &mut left.numbering, &mut left.places, &mut left.pack)
+        } else {
+            pack_within(limits, v, list, &mut left)
+        };
+        Packing { limits, v, list: list.to_vec(), lent, answer, left }
+    }
+}
+
+/// `plain::pack` with other limits on places and loops.
+fn pack_within(limits: (u32, u32), v: u64, list: &[u16], r: &mut PackRooms) -> Result<usize, Refusal> {
+    plain::check(v, list)?;
+    let n = v as usize;
+    if r.numbering.len() < n || r.places.len() < 1_024 {
+        return Err(8);
+    }
+    let mut trace = plain::Trace::default();
+    let chosen = plain::choose_within(v as u32, list, &mut trace, limits.0, limits.1);
+    r.places[..1_024].fill(Place::default());
+    let result = chosen.and_then(|(book, number)| {
+        let c = Counts { v: v as u32, t: (list.len() / 3) as u32, places: book.peak_places, loops: book.peak_loops };
+        let bytes = pack_bytes(c, &encode_ops(&trace.ops));
+        if bytes.len() > r.pack.len() {
+            Err(11)
+        } else {
+            Ok((bytes, number))
+        }
+    });
+    match result {
+        Ok((bytes, number)) => {
+            r.pack[..bytes.len()].copy_from_slice(&bytes);
+            r.numbering[..n].copy_from_slice(&number);
+            Ok(bytes.len())
+        }
+        Err(e) => {
+            r.pack.fill(0);
+            r.numbering[..n].fill(0);
+            Err(e)
+        }
+    }
+}
+
+#[derive(Clone)]
+pub struct UnpackRooms {
+    pub triangles: Vec<u16>,
+    pub places: Vec<Place>,
+}
+
+pub struct Unpacking {
+    pub bytes: Vec<u8>,
+    pub lent: UnpackRooms,
+    pub answer: Result<Answer, Refusal>,
+    pub left: UnpackRooms,
+}
+
+impl Unpacking {
+    pub fn new(bytes: &[u8], lent: UnpackRooms) -> Unpacking {
+        let mut left = lent.clone();
+        let answer = plain::unpack(bytes, &mut left.triangles, &mut left.places);
+        Unpacking { bytes: bytes.to_vec(), lent, answer, left }
+    }
+}
+
+/// A list of calls in the second program's words; every beginning has the same room lengths.
+pub struct Building {
+    pub rooms: (usize, usize),
+    pub calls: Vec<String>,
+    pub told: Vec<String>,
+    pub book: Book,
+}
+
+impl Building {
+    pub fn new(calls: &[String]) -> Building {
+        let rooms = |line: &String| -> Option<(usize, usize)> {
+            let w: Vec<&str> = line.split(' ').collect();
+            (w[0] == "begin").then(|| (w[5].parse().unwrap(), w[6].parse().unwrap()))
+        };
+        let all: Vec<_> = calls.iter().filter_map(rooms).collect();
+        assert!(calls[0].starts_with("begin") && all.iter().all(|r| *r == all[0]), "one pair of rooms: {calls:?}");
+        let mut lines = Calls::default();
+        let told: Vec<String> = calls.iter().map(|c| lines.line(c)).collect();
+        let mut book = Book::empty(Counts { v: 0, t: 0, places: 0, loops: 0 });
+        for (c, t) in calls.iter().zip(&told) {
+            if !t.starts_with("refused") {
+                book = after(book, c);
+            }
+        }
+        Building { rooms: all[0], calls: calls.to_vec(), told, book }
+    }
+}
+
+/// The book after an accepted call.
+fn after(mut book: Book, call: &str) -> Book {
+    let w: Vec<&str> = call.split(' ').collect();
+    let n = |i: usize| w[i].parse::<u32>().unwrap();
+    if w[0] == "begin" {
+        return Book::empty(Counts { v: n(1), t: n(2), places: n(3), loops: n(4) });
+    }
+    if w[0] == "op" {
+        let op = match w[1] {
+            "new" => Op::New,
+            "forward" => Op::Forward,
+            "backward" => Op::Backward,
+            "border" => Op::Border,
+            "close" => Op::Close,
+            "start" => Op::Start,
+            "split" => Op::Split(n(2)),
+            _ => Op::Union(n(2), n(3)),
+        };
+        book.op(op).expect("an accepted operation");
+    }
+    book
+}

@@ -1,0 +1,218 @@
+//! The table of the rules: M1 to M10 and rows that pin the other rules.
+
+use crate::antt;
+use crate::prelude::{prelude, Home};
+use crate::second::{Building, PackRooms, Packing, UnpackRooms, Unpacking, LIMITS};
+use cutborder::ops::Op;
+use cutborder::proto::unhex;
+use cutborder::{plain, Place};
+
+const MODELS: &str = include_str!("../../../reference/vectors/models.txt");
+const PACKS: &str = include_str!("../../../reference/vectors/packs.txt");
+const CALLS: &str = include_str!("../../../reference/vectors/calls.txt");
+const MORE_CALLS: &str = include_str!("../calls.txt");
+
+/// The lines of a vector file, each with the remark above it.
+fn lines(text: &str) -> Vec<(String, String)> {
+    let mut name = String::new();
+    let mut out = Vec::new();
+    for line in text.lines() {
+        match line.strip_prefix("# ") {
+            Some(remark) => name = remark.to_owned(),
+            None => out.push((name.clone(), line.to_owned())),
+        }
+    }
+    out
+}
+
+const USED: Place = Place { vertex: 3, before: 1, after: 2, open: true };
+
+/// Rooms with some entries more than are needed.
+fn ample(v: usize) -> PackRooms {
+    PackRooms { numbering: vec![7; v + 2], places: vec![USED; 1_026], pack: vec![5; 60] }
+}
+
+fn model(line: &str) -> (u64, Vec<u16>) {
+    let mut w = line.split(' ').map(|n| n.parse::<u64>().expect("a number"));
+    (w.next().unwrap(), w.map(|n| n as u16).collect())
+}
+
+fn pack_row(name: &str, limits: (u32, u32), line: &str, change: impl Fn(&mut PackRooms)) -> (String, String) {
+    let (v, list) = model(line);
+    let mut rooms = ample(v as usize);
+    change(&mut rooms);
+    let x = Packing::new(limits, v, &list, rooms);
+    let told = match x.answer {
+        Ok(_) => "accepted".to_owned(),
+        Err(n) => format!("refusal {n}"),
+    };
+    (format!("{name}: {told}"), antt::packing(&x))
+}
+
+const SPLIT: &str = "6 1 3 2 2 4 5 2 3 4 1 0 3 2 5 0 0 1 2";
+
+fn packings() -> Vec<(String, String)> {
+    let same = |_: &mut PackRooms| ();
+    let mut rows: Vec<_> = lines(MODELS).iter().map(|(name, line)| pack_row(name, LIMITS, line, same)).collect();
+    for (name, line) in [
+        ("the first place that has c does not do", "7 0 1 2 3 1 4 1 5 6 5 1 3 5 0 2 4 5 2 1 0 4 6 5 4 0 6 4"),
+        ("1: four numbers", "4 0 1 2 3"),
+        ("1 before 2", "2"),
+        ("2: V 2", "2 0 1 0"),
+        ("2: V 4,097", "4097 0 1 2"),
+        ("V 4,096", "4096 0 1 2"),
+        ("2 before 3", "2 0 1 2"),
+        ("3: a number is V", "3 0 1 3"),
+        ("3 before 4", "3 0 3 3"),
+        ("4: first and second corner", "3 0 0 1 0 1 2"),
+        ("4: second and third corner", "3 0 1 2 0 1 1"),
+        ("4: third and first corner", "3 0 1 2 2 0 2"),
+        ("4 before 5", "4 0 1 2 0 1 3 3 3 0"),
+        ("5: second edges", "5 0 1 2 3 1 2 0 4 3"),
+        ("5: a first and a third edge", "4 0 1 2 1 3 0 2 3 1"),
+        ("5 before 6", "5 0 1 2 0 1 3"),
+        ("6 before 7", "6 0 1 2 0 3 4"),
+        ("6: vertex 0", "4 1 2 3"),
+        ("7: a closed fan and an open one", "6 0 1 2 0 2 3 0 3 1 0 4 5"),
+        ("7: two closed fans", "7 0 1 2 0 2 3 0 3 1 0 4 5 0 5 6 0 6 4"),
+        ("one fan, listed from its middle", "5 0 2 3 0 1 2 0 3 4"),
+    ] {
+        rows.push(pack_row(name, LIMITS, line, same));
+    }
+    let long = |n: usize| format!("3{}", " 0".repeat(n));
+    rows.push(pack_row("24,576 numbers", LIMITS, &long(24_576), same));
+    rows.push(pack_row("1: 24,579 numbers", LIMITS, &long(24_579), same));
+    rows.push(pack_row("7 before 8", LIMITS, "5 0 1 2 0 3 4", |r| r.numbering.clear()));
+    rows.push(pack_row("8: numbering", LIMITS, "3 0 1 2", |r| r.numbering.truncate(2)));
+    rows.push(pack_row("8: places", LIMITS, "3 0 1 2", |r| r.places.truncate(1_023)));
+    rows.push(pack_row("8 before 9", (3, 1), "4 0 1 2 1 0 3", |r| r.numbering.clear()));
+    rows.push(pack_row("buffers just long enough", LIMITS, "3 0 1 2", |r| {
+        r.numbering.truncate(3);
+        r.places.truncate(1_024);
+        r.pack.truncate(16);
+    }));
+    rows.push(pack_row("9", (3, 1), "4 0 1 2 1 0 3", same));
+    rows.push(pack_row("10", (1_024, 1), SPLIT, same));
+    rows.push(pack_row("9 before 10 at one operation", (7, 1), SPLIT, same));
+    rows.push(pack_row("10 at an operation before that of 9", (7, 2), "12 0 1 2 1 3 2 4 5 6 7 2 8 7 0 2 3 0 7 3 9 0 1 0 9 10 1 9 3 1 10 3 10 11 11 9 3 8 9 11 8 11 7", same));
+    rows.push(pack_row("9 before 11", (3, 1), "4 0 1 2 1 0 3", |r| r.pack.clear()));
+    rows.push(pack_row("10 before 11", (1_024, 1), SPLIT, |r| r.pack.clear()));
+    rows.push(pack_row("11", LIMITS, "3 0 1 2", |r| r.pack.truncate(15)));
+    rows
+}
+
+fn unpack_row(name: &str, hex: &str, triangles: usize, places: usize) -> (String, String) {
+    let bytes = unhex(hex).expect("hexadecimal");
+    let x = Unpacking::new(&bytes, UnpackRooms { triangles: vec![6; triangles], places: vec![USED; places] });
+    let told = match x.answer {
+        Ok(_) => "accepted".to_owned(),
+        Err(n) => format!("refusal {n}"),
+    };
+    (format!("{name}: {told}"), antt::unpacking(&x))
+}
+
+fn unpackings() -> Vec<(String, String)> {
+    let mut rows: Vec<_> = lines(PACKS).iter().map(|(name, hex)| unpack_row(name, hex, if name == "18: M10" { 24_577 } else { 32 }, 1_026)).collect();
+    // The packs of the models.
+    for (name, line) in lines(MODELS) {
+        let (v, list) = model(&line);
+        let x = Packing::new(LIMITS, v, &list, ample(v as usize));
+        if let Ok(n) = x.answer {
+            let hex: String = x.left.pack[..n].iter().map(|b| format!("{b:02x}")).collect();
+            rows.push(unpack_row(&name, &hex, list.len() + 1, 1_024));
+        }
+    }
+    const M1: &str = "0100080003000100030001020002edb0";
+    for (name, hex, triangles, places) in [
+        ("buffers just long enough", M1, 3, 1_024),
+        ("12 before 13", "0100080002000100030001020002edb000", 32, 1_024),
+        ("13 before 14", "0100080002000100030001020002edb0", 0, 1_024),
+        ("14: triangles", M1, 2, 1_024),
+        ("14: places", M1, 3, 1_023),
+        ("14 before 15", "0100080003000100030001020000", 2, 1_024),
+        ("16 before 17: forward in a loop of three", "0100080003000100030001020001e4", 3, 1_024),
+        ("17 before 18: M10 with too few places", "0100080005000400050002020003e04008", 12, 1_024),
+        ("18 before 19: M10 with a vertex too many", "0100080006000400060002020003e04008", 12, 1_024),
+        ("a field after tag 02", "0100080003000100030001020002edb0030000", 32, 1_024),
+        ("counts of 4,096, 8,192, 1,024 and 100, and no operations", "0100081000200004000064020000", 24_576, 1_024),
+        ("eight fill bits", "0100080003000200030001020002f400", 32, 1_024),
+        ("five fill bits, the first is one", "0100080003000200030001020001f5", 32, 1_024),
+    ] {
+        rows.push(unpack_row(name, hex, triangles, places));
+    }
+    rows
+}
+
+/// An accepted model built by calls, its operations those of its packing.
+fn built(name: &str, line: &str) -> Option<(String, String)> {
+    let (v, list) = model(line);
+    plain::check(v, &list).ok()?;
+    let mut trace = plain::Trace::default();
+    let (book, _) = plain::choose(v as u32, &list, &mut trace).ok()?;
+    let mut calls = vec![format!("begin {v} {} {} {} {} 1024", list.len() / 3, book.peak_places, book.peak_loops, list.len())];
+    calls.extend(trace.ops.iter().map(|o| words(*o)));
+    calls.push("finish".to_owned());
+    Some((name.to_owned(), antt::building(&Building::new(&calls))))
+}
+
+fn words(o: Op) -> String {
+    match o {
+        Op::Split(i) => format!("op split {i}"),
+        Op::Union(p, j) => format!("op union {p} {j}"),
+        _ => format!("op {o:?}").to_lowercase(),
+    }
+}
+
+/// Lists of calls; each begins at a remark, those of the second program at a beginning too.
+fn buildings() -> Vec<(String, String)> {
+    let mut rows: Vec<_> = lines(MODELS).iter().filter_map(|(name, line)| built(name, line)).collect();
+    for text in [CALLS, MORE_CALLS] {
+        let mut name = String::new();
+        let mut calls: Vec<String> = Vec::new();
+        let mut end = |name: &str, calls: &mut Vec<String>| {
+            if !calls.is_empty() {
+                rows.push((name.to_owned(), antt::building(&Building::new(calls))));
+                calls.clear();
+            }
+        };
+        for line in text.lines().map(str::trim) {
+            if let Some(remark) = line.strip_prefix("# ") {
+                end(&name, &mut calls);
+                name = remark.to_owned();
+            } else if line.starts_with("begin") && std::ptr::eq(text, CALLS) {
+                end(&name, &mut calls);
+            }
+            if !line.starts_with('#') {
+                calls.push(line.to_owned());
+            }
+        }
+        end(&name, &mut calls);
+    }
+    rows
+}
+
+fn section(name: &str, kind: &str, rows: &[(String, String)]) -> String {
+    let mut out = format!("\nunfoldable pub {name} : List {kind}\n{name} =\n");
+    for (remark, row) in rows {
+        out += &format!("    -- {remark}\n    {row}\n    ∷\n");
+    }
+    out + "    []\n"
+}
+
+pub fn module() -> String {
+    let (uses, unfolding) = prelude(&Home::Rules);
+    let mut out = String::from(
+        "-- The models, packs and lists of calls of the rules (M1 to M10) and rows that pin the other rules, with the answers of the
+-- second program: one table, by computation. Written by tests/definitions, never by hand; the states of 21 are in States.
+-- Assumes nothing.
+",
+    );
+    out += &uses;
+    out += &section("packRows", "PackRow", &packings());
+    out += &section("unpackRows", "UnpackRow", &unpackings());
+    out += &section("callRows", "CallRow", &buildings());
+    out += &format!(
+        "\npub table : T (allRight packRight packRows && allRight unpackRight unpackRows && allRight callsRight callRows)\n{unfolding} packRows unpackRows callRows\ntable = tt\n"
+    );
+    out
+}
