@@ -14,7 +14,7 @@ use Rattle.rules.specs.Limits.{inRange}
 use Rattle.rules.specs.Count.{num}
 use Rattle.rules.specs.Ring.{Ring, places}
 use Rattle.rules.specs.Table.{Side, glued, fresh, Effect, not-allowed, builds, marks, effect}
-use Rattle.rules.specs.Machine.{Machine, isFresh, afterBuild, afterMark, Step, within, done, operation}
+use Rattle.rules.specs.Machine.{Machine, freshSides, afterBuild, afterMark, Step, within, done, operation}
 use Rattle.rules.specs.Book.{Book, emptyBook, entered}
 use Rattle.book.specs.Sums.{loopsSum}
 use Rattle.book.specs.Consistent.{Consistent, Ranges}
@@ -74,11 +74,11 @@ bounded-ranges b k =
     }
 
 -- each side is glued or fresh
-sides : (s : Side) → ifFresh s 1 ≡ isFresh s
+sides : (s : Side) → ifFresh s 1 ≡ freshSides s
 sides glued = refl
 sides fresh = refl
 
-fresh-once : (s : Side) → isFresh s ≤ 1
+fresh-once : (s : Side) → freshSides s ≤ 1
 fresh-once glued = omega arith
 fresh-once fresh = omega arith
 

@@ -12,7 +12,7 @@ use Rattle.rules.specs.declared.Triangle.{Triangle}
 use Rattle.rules.specs.Triangle.{Edge, edge, corners, edgesOf}
 use Rattle.rules.specs.Count.{num, same, hit, occurs, count, uses, different, pairs}
 use Rattle.rules.specs.Table.{Side, glued, fresh, sideRule}
-use Rattle.rules.specs.Machine.{isFresh}
+use Rattle.rules.specs.Machine.{freshSides}
 
 pub and-left : (a b : Bool) → a && b ≡ true → a ≡ true
 and-left true b h = refl
@@ -211,7 +211,7 @@ rule-unjoined fresh x y ts h =
 -- one more edge: the open edges change by it, and so does the number of pairs
 pub record Added (O′ B : ℕ → ℕ → ℕ) (p q : ℕ) (s : Side) (D : List Edge) : Type 0 where
   pub fits : Fits O′ B (edge p q ∷ D)
-  pub more-pairs : pairs (edge p q ∷ D) ≡ isFresh s + pairs D
+  pub more-pairs : pairs (edge p q ∷ D) ≡ freshSides s + pairs D
 
 no-and : (a b : Bool) → b ≡ false → a && b ≡ false
 no-and true b h = h
@@ -292,7 +292,7 @@ module _ (O B O′ : ℕ → ℕ → ℕ) (D : List Edge) (f : Fits O B D) (p q 
   pub triangle-fits : Fits O′ B (edge r p ∷ (edge q r ∷ (edge p q ∷ D)))
   triangle-fits = s3 .fits
 
-  pub triangle-pairs : pairs (edge r p ∷ (edge q r ∷ (edge p q ∷ D))) ≡ pairs D + (isFresh pq + isFresh qr + isFresh rp)
+  pub triangle-pairs : pairs (edge r p ∷ (edge q r ∷ (edge p q ∷ D))) ≡ pairs D + (freshSides pq + freshSides qr + freshSides rp)
   triangle-pairs = omega (arith, s1 .more-pairs, s2 .more-pairs, s3 .more-pairs)
 
 -- the numbers in vs are those below n

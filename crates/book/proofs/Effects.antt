@@ -14,7 +14,7 @@ use Rattle.rules.specs.declared.Operation.the-variants.{New, Forward, Backward,
 use Rattle.rules.specs.Triangle.{tri, Edge, edge}
 use Rattle.rules.specs.Ring.{Node, opened, marked, Ring, vertex, allOpen, startOr, vertexAt, lastOpen, lastVertex, front, onward, loopAt, without}
 use Rattle.rules.specs.Table.{Side, glued, fresh, Effect, not-allowed, builds, marks, allowed, inOrder, marking, atEdge, atRest, effect}
-use Rattle.rules.specs.Machine.{isFresh}
+use Rattle.rules.specs.Machine.{freshSides}
 use Rattle.book.specs.Sums.{Weight, pathSum, ringSum, loopsSum}
 use Rattle.book.specs.Consistent.{Sound, AllSound}
 use Rattle.book.proofs.Counting.{and-left, and-right, ifFresh, ifGlued}
@@ -37,7 +37,7 @@ pub record Builds (u : ℕ) (before ls : List Ring) (t : Triangle) (pq qr rp : S
       ≡ loopsSum w before + (ifFresh pq (w (t .p) (t .q) true) + (ifFresh qr (w (t .q) (t .r) true) + ifFresh rp (w (t .r) (t .p) true)))
   pub sound : AllSound ls
   pub numbers : Corners before u n (t .p) (t .q) (t .r)
-  pub lives : n + 1 + length ls + 2 * k ≡ length before + (isFresh pq + isFresh qr + isFresh rp) + 2 * s
+  pub lives : n + 1 + length ls + 2 * k ≡ length before + (freshSides pq + freshSides qr + freshSides rp) + 2 * s
   pub small : s + k ≤ 1
 
 -- an edge is marked: it stops to weigh as an open one. If the loop ends, its marked edges are lost too

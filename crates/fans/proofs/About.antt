@@ -1,20 +1,20 @@
 -- The triangles about a vertex, as edges opposite to it: which they are, and that no two start or end at the same vertex.
 -- Assumes nothing.
-use Prim.Native.Nat.{ℕ, zero, suc, _+_, _≤_}
+use Prim.Native.Nat.{ℕ, _≤_}
 use native.Mathlib.Omega.{arith}
 use mathlib.Core.Bool.{Bool, true, false}
 use mathlib.Core.List.{List, [], _∷_}
-use mathlib.Core.Logic.{_↔_, ⊎-elim}
-use mathlib.Core.Path.{_≡_, refl, sym, ap, _∙_, subst}
+use mathlib.Core.Logic.{⊎-elim}
+use mathlib.Core.Path.{_≡_, refl, sym, subst}
 use lib.Dec.{eqb}
 use borrow.Author.Tests.{eqb-true, eqb-false}
 use Rattle.rules.specs.declared.Triangle.{Triangle}
-use Rattle.rules.specs.Triangle.{Edge, edge, edgesOf}
-use Rattle.rules.specs.Count.{same, hit, count, uses}
+use Rattle.rules.specs.Triangle.{edge, edgesOf}
+use Rattle.rules.specs.Count.{count, uses}
 use Rattle.rules.specs.Fan.{about}
 use Rattle.rules.specs.Check.{allDistinct, noneTwice}
 use Rattle.fans.specs.Chain.{total, starts, ends, Apart}
-use Rattle.fans.specs.Corner.{Rot, at-p, at-q, at-r, In, here, there, Different, sides}
+use Rattle.fans.specs.Corner.{Rot, at-p, at-q, at-r, In, here, there}
 use Rattle.fans.proofs.Counting.{hit-yes, member}
 use Rattle.fans.proofs.Corners.{rot-different, uses-rot, uses-cons, sides-leaving, sides-entering, sides-no, rot-others, sides-yes}
 use Rattle.fans.proofs.Tests.{distinct-first, distinct-rest, none-twice}
@@ -65,7 +65,8 @@ about-in v x y (t ∷ ts) h = go (first v t ts) (about-in v x y ts)
   where
     go : First v t ts → (1 ≤ count x y (about v ts) → In v x y ts) → In v x y (t ∷ ts)
     go (meets a b r e) k =
-        ⊎-elim (λ q. here (rw (q .0, q .1) r)) (λ m. there (k m)) (member x y (edge a b) (about v ts) (subst (λ ds. 1 ≤ count x y ds) e h))
+        ⊎-elim (λ q. here (rw (q .0, q .1) r)) (λ m. there (k m))
+        (member x y (edge a b) (about v ts) (subst (λ ds. 1 ≤ count x y ds) e h))
     go (misses p q r e) k = there (k (subst (λ ds. 1 ≤ count x y ds) e h))
 
 pub in-about : {v x y : ℕ} (ts : List Triangle) → allDistinct ts ≡ true → In v x y ts → 1 ≤ count x y (about v ts)
@@ -78,7 +79,8 @@ in-about {v} {x} {y} (t ∷ ts) d (here r) = go (first v t ts)
         let k = rot-others (rot-different c r) (rot-different c s) r s in
         rw (e, k .0, k .1) (omega (arith, hit-yes a b))
     go (misses p q s e) =
-        absurd (omega (arith, uses-rot v x ts r, uses-cons v x t ts, sides-yes v x y, sides-no v x (t .p) (t .q) (t .r) p q s .0))
+        let n = sides-no v x (t .p) (t .q) (t .r) p q s in
+        absurd (omega (arith, uses-rot v x ts r, uses-cons v x t ts, sides-yes v x y, n .0))
 in-about {v} {x} {y} (t ∷ ts) d (there i) = go (first v t ts) (in-about ts (distinct-rest t ts d) i)
   where
     go : First v t ts → 1 ≤ count x y (about v ts) → 1 ≤ count x y (about v (t ∷ ts))

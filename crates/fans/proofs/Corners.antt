@@ -9,7 +9,7 @@ use borrow.Author.Tests.{eq-eqb}
 use Rattle.rules.specs.declared.Triangle.{Triangle}
 use Rattle.rules.specs.Triangle.{edgesOf}
 use Rattle.rules.specs.Count.{same, hit, count, uses}
-use Rattle.fans.specs.Corner.{Rot, at-p, at-q, at-r, In, here, there, Free, Different, sides}
+use Rattle.fans.specs.Corner.{Rot, at-p, at-q, at-r, In, here, there, Free, Different, sides, sidesOf}
 use Rattle.fans.proofs.Counting.{same-yes, same-no, same-is, hit-yes, hit-from, hit-swap, hit-is}
 
 -- a triangle seen from its next corner
@@ -40,13 +40,14 @@ pub rot-third : {t : Triangle} {x y z w : ℕ} → Rot t x y z → Rot t x y w �
 rot-third a b = omega (arith, rot-sum a, rot-sum b)
 
 -- the directed edges of a triangle, from any corner on
-pub uses-rot : {t : Triangle} {a b c : ℕ} (x y : ℕ) (ts : List Triangle) → Rot t a b c → uses x y (t ∷ ts) ≡ sides x y a b c + uses x y ts
+pub uses-rot : {t : Triangle} {a b c : ℕ} (x y : ℕ) (ts : List Triangle) → Rot t a b c
+    → uses x y (t ∷ ts) ≡ sides x y a b c + uses x y ts
 unfolding count edgesOf sides
 uses-rot x y ts (at-p a b c) = rw (← a, ← b, ← c) (omega arith)
 uses-rot x y ts (at-q a b c) = rw (← a, ← b, ← c) (omega arith)
 uses-rot x y ts (at-r a b c) = rw (← a, ← b, ← c) (omega arith)
 
-pub uses-cons : (x y : ℕ) (t : Triangle) (ts : List Triangle) → uses x y (t ∷ ts) ≡ sides x y (t .p) (t .q) (t .r) + uses x y ts
+pub uses-cons : (x y : ℕ) (t : Triangle) (ts : List Triangle) → uses x y (t ∷ ts) ≡ sidesOf x y t + uses x y ts
 uses-cons x y t ts = uses-rot x y ts (at-p refl refl refl)
 
 -- those that leave a corner, and those that enter it
@@ -90,12 +91,14 @@ sides-no v x a b c h k l = (
 )
 
 -- if they differ, one corner tells the other two
-pub rot-others : {t : Triangle} {v x y a b : ℕ} → Different v x y → Different v a b → Rot t v x y → Rot t v a b → (x ≡ a) × (y ≡ b)
-rot-others {t} {v} {x} {y} {a} {b} d e r s =
-    let k : x ≡ a =
+rot-second : {t : Triangle} {v x y a b : ℕ} → Different v x y → Different v a b → Rot t v x y → Rot t v a b → x ≡ a
+rot-second {t} {v} {x} {y} {a} {b} d e r s =
     same-is x a
-    (omega (arith, uses-rot v x [] r, uses-rot v x [] s, sides-leaving v x x y d, sides-leaving v x a b e, same-yes x)) in
-    (k, omega (arith, rot-sum r, rot-sum s))
+    (omega (arith, uses-rot v x [] r, uses-rot v x [] s, sides-leaving v x x y d, sides-leaving v x a b e, same-yes x))
+
+pub rot-others : {t : Triangle} {v x y a b : ℕ} → Different v x y → Different v a b → Rot t v x y → Rot t v a b
+    → (x ≡ a) × (y ≡ b)
+rot-others d e r s = let k = rot-second d e r s in (k, omega (arith, rot-sum r, rot-sum s))
 
 -- a directed edge that a triangle has
 pub sides-yes : (x y z : ℕ) → 1 ≤ sides x y x y z
@@ -106,7 +109,7 @@ pub in-uses : {x y z : ℕ} {ts : List Triangle} → In x y z ts → 1 ≤ uses 
 in-uses {x} {y} {z} (here {ts = ts} r) = omega (arith, uses-rot x y ts r, sides-yes x y z)
 in-uses {x} {y} {z} (there {t = t} {ts = ts} i) = omega (arith, uses-cons x y t ts, in-uses i)
 
-sides-rot : (x y : ℕ) (t : Triangle) → 1 ≤ sides x y (t .p) (t .q) (t .r) → (z : ℕ) × Rot t x y z
+pub sides-rot : (x y : ℕ) (t : Triangle) → 1 ≤ sidesOf x y t → (z : ℕ) × Rot t x y z
 unfolding sides
 sides-rot x y t h = go (hit x y (t .p) (t .q)) refl (hit x y (t .q) (t .r)) refl
   where
@@ -118,9 +121,9 @@ sides-rot x y t h = go (hit x y (t .p) (t .q)) refl (hit x y (t .q) (t .r)) refl
 pub uses-in : (x y : ℕ) (ts : List Triangle) → 1 ≤ uses x y ts → (z : ℕ) × In x y z ts
 unfolding count edgesOf
 uses-in x y [] h = absurd (omega arith)
-uses-in x y (t ∷ ts) h = go (sides x y (t .p) (t .q) (t .r)) refl (uses-in x y ts)
+uses-in x y (t ∷ ts) h = go (sidesOf x y t) refl (uses-in x y ts)
   where
-    go : (n : ℕ) → sides x y (t .p) (t .q) (t .r) ≡ n → (1 ≤ uses x y ts → (z : ℕ) × In x y z ts) → (z : ℕ) × In x y z (t ∷ ts)
+    go : (n : ℕ) → sidesOf x y t ≡ n → (1 ≤ uses x y ts → (z : ℕ) × In x y z ts) → (z : ℕ) × In x y z (t ∷ ts)
     go zero e k = let i = k (omega (arith, uses-cons x y t ts)) in (i .0, there (i .1))
     go (suc n) e k = let r = sides-rot x y t (omega arith) in (r .0, here (r .1))
 

@@ -1,14 +1,14 @@
 -- Laws of counting numbers and directed edges.
 -- Assumes nothing.
-use Prim.Native.Nat.{ℕ, zero, suc, _+_, _≤_}
+use Prim.Native.Nat.{ℕ, zero, suc, _+_, _≤_, _<_}
 use native.Mathlib.Omega.{arith}
 use mathlib.Core.Bool.{Bool, true, false, _&&_, and-comm, false≢true}
-use mathlib.Core.List.{List, [], _∷_, _++_}
+use mathlib.Core.List.{List, [], _∷_}
 use mathlib.Core.Logic.{_⊎_, inl, inr}
-use mathlib.Core.Path.{_≡_, refl, sym, ap, _∙_, subst}
+use mathlib.Core.Path.{_≡_, refl, sym, ap, subst}
 use lib.ListN.{length}
 use lib.Dec.{eqb}
-use borrow.Author.Tests.{eqb-true, eq-eqb, ne-eqb}
+use borrow.Author.Tests.{eqb-true, eqb-false, eq-eqb, ne-eqb}
 use Rattle.rules.specs.Triangle.{Edge, edge}
 use Rattle.rules.specs.Count.{num, same, hit, count}
 use Rattle.fans.specs.Chain.{total, starts, ends, Apart}
@@ -26,7 +26,23 @@ pub and-both : (a b : Bool) → a ≡ true → b ≡ true → a && b ≡ true
 and-both true b g h = h
 and-both false b g h = g
 
+-- what holds for the last number and for those below it
+pub below-suc : (P : ℕ → Type 0) (n v : ℕ) → v < suc n → P n → (v < n → P v) → P v
+below-suc P n v l h k = go (eqb v n) refl
+  where
+    go : (b : Bool) → eqb v n ≡ b → P v
+    go true e = subst P (sym (eqb-true v n e)) h
+    go false e = k (omega (arith, eqb-false v n e))
+
 -- equal numbers
+num-once : (s : Bool) → num s ≤ 1
+num-once true = omega arith
+num-once false = omega arith
+
+pub same-once : (v x : ℕ) → same v x ≤ 1
+unfolding same
+same-once v x = num-once (eqb v x)
+
 pub same-yes : (v : ℕ) → same v v ≡ 1
 unfolding same
 same-yes v = rw (eq-eqb v v refl)
@@ -44,17 +60,13 @@ same-is v x h = go (eqb v x) refl h
     go false e k = absurd (omega arith)
 
 -- equal edges
+pub hit-once : (x y p q : ℕ) → hit x y p q ≤ 1
+unfolding hit
+hit-once x y p q = num-once (eqb x p && eqb y q)
+
 pub hit-yes : (p q : ℕ) → hit p q p q ≡ 1
 unfolding hit
 hit-yes p q = rw (eq-eqb p p refl, eq-eqb q q refl)
-
-pub hit-once : (x y p q : ℕ) → hit x y p q ≤ 1
-unfolding hit
-hit-once x y p q = go (eqb x p && eqb y q)
-  where
-    go : (s : Bool) → num s ≤ 1
-    go true = omega arith
-    go false = omega arith
 
 pub hit-from : (x y p q : ℕ) → hit x y p q ≤ same x p
 unfolding hit same
@@ -81,11 +93,6 @@ unfolding total
 total-more v w h [] = omega arith
 total-more v w h (d ∷ ds) = omega (arith, h d, total-more v w h ds)
 
-pub total-append : (w : Edge → ℕ) (ds es : List Edge) → total w (ds ++ es) ≡ total w ds + total w es
-unfolding total
-total-append w [] es = omega arith
-total-append w (d ∷ ds) es = omega (arith, total-append w ds es)
-
 pub length-total : (ds : List Edge) → length ds ≡ total (λ d. 1) ds
 unfolding total
 length-total [] = refl
@@ -109,7 +116,8 @@ count-ends x y ds =
     omega (arith, count-total x y ds, total-more (hits x y) (λ d. same y (d .to)) (λ d. hit-to x y (d .from) (d .to)) ds)
 
 -- an edge of a list is its first or one of the others
-pub member : (x y : ℕ) (d : Edge) (ds : List Edge) → 1 ≤ count x y (d ∷ ds) → ((x ≡ d .from) × (y ≡ d .to)) ⊎ (1 ≤ count x y ds)
+pub member : (x y : ℕ) (d : Edge) (ds : List Edge) → 1 ≤ count x y (d ∷ ds)
+    → ((x ≡ d .from) × (y ≡ d .to)) ⊎ (1 ≤ count x y ds)
 unfolding count
 member x y d ds h = go (hit x y (d .from) (d .to)) refl
   where
@@ -118,14 +126,15 @@ member x y d ds h = go (hit x y (d .from) (d .to)) refl
     go (suc n) e = inl (hit-is x y (d .from) (d .to) (omega arith))
 
 -- an edge that is there can be taken out
-taken-out : (x y : ℕ) (ds : List Edge) → 1 ≤ count x y ds → (es : List Edge) × ((w : Edge → ℕ) → total w ds ≡ w (edge x y) + total w es)
+abbrev Without : ℕ → ℕ → List Edge → Type 0
+Without x y ds = (es : List Edge) × ((w : Edge → ℕ) → total w ds ≡ w (edge x y) + total w es)
+
+taken-out : (x y : ℕ) (ds : List Edge) → 1 ≤ count x y ds → Without x y ds
 unfolding total count
 taken-out x y [] h = absurd (omega arith)
 taken-out x y (d ∷ ds) h = go (hit x y (d .from) (d .to)) refl (taken-out x y ds)
   where
-    go : (n : ℕ) → hit x y (d .from) (d .to) ≡ n
-        → (1 ≤ count x y ds → (es : List Edge) × ((w : Edge → ℕ) → total w ds ≡ w (edge x y) + total w es))
-        → (es : List Edge) × ((w : Edge → ℕ) → w d + total w ds ≡ w (edge x y) + total w es)
+    go : (n : ℕ) → hit x y (d .from) (d .to) ≡ n → (1 ≤ count x y ds → Without x y ds) → Without x y (d ∷ ds)
     go zero e k = let t = k (omega arith) in (d ∷ t .0, λ w. omega (arith, t .1 w))
     go (suc n) e k = let q = hit-is x y (d .from) (d .to) (omega arith) in (ds, λ w. rw (q .0, q .1))
 
@@ -136,9 +145,11 @@ same-totals [] [] c w = refl
 same-totals [] (e ∷ es) c w = absurd (omega (arith, c (e .from) (e .to), hit-yes (e .from) (e .to)))
 same-totals (d ∷ ds) es c w =
     let t = taken-out (d .from) (d .to) es (omega (arith, c (d .from) (d .to), hit-yes (d .from) (d .to))) in
-    let c′ : (x y : ℕ) → count x y ds ≡ count x y (t .0) =
-    λ x y. omega (arith, c x y, t .1 (hits x y), count-total x y es, count-total x y (t .0)) in
-    omega (arith, t .1 w, same-totals ds (t .0) c′ w)
+    omega (
+      arith,
+      t .1 w,
+      same-totals ds (t .0) (λ x y. omega (arith, c x y, t .1 (hits x y), count-total x y es, count-total x y (t .0))) w,
+    )
 
 pub apart-same : (ds es : List Edge) → ((x y : ℕ) → count x y es ≡ count x y ds) → Apart ds → Apart es
 apart-same ds es c a = record {

@@ -5,17 +5,16 @@ use native.Mathlib.Omega.{arith}
 use mathlib.Core.Bool.{Bool, true, false, false≢true}
 use mathlib.Core.List.{List, [], _∷_}
 use mathlib.Core.Logic.{_↔_}
-use mathlib.Core.Path.{_≡_, refl, sym, ap, _∙_, subst}
-use lib.Dec.{eqb}
-use borrow.Author.Tests.{eqb-true, eqb-false}
+use mathlib.Core.Path.{_≡_, refl, sym, _∙_}
+use lib.ListN.{length}
 use Rattle.rules.specs.declared.Triangle.{Triangle}
 use Rattle.rules.specs.Triangle.{Edge, edgesOf}
 use Rattle.rules.specs.Count.{same, count, uses}
-use Rattle.rules.specs.Fan.{about, Run, OneFan, oneRun, oneFanEach}
+use Rattle.rules.specs.Fan.{about, OneFan, turnOn, turnBack, isNil, oneRun, oneFanEach}
 use Rattle.rules.specs.Check.{allDistinct, noneTwice}
-use Rattle.fans.specs.Chain.{total, Chained}
-use Rattle.fans.proofs.Counting.{same-is, hits, count-total, apart-same}
-use Rattle.fans.proofs.OneRun.{chain-degree, chain-run, run-chained, run-passes}
+use Rattle.fans.specs.Chain.{Chained}
+use Rattle.fans.proofs.Counting.{below-suc, same-is, apart-same}
+use Rattle.fans.proofs.OneRun.{chain-degree, chain-run, run-chained, chained-count, run-passes}
 use Rattle.fans.proofs.About.{about-edges, about-apart}
 
 -- this half holds for any list
@@ -24,12 +23,12 @@ run-fan v ts h =
     let c = run-chained (about v ts) h in
     record {
       run = c .path;
-      each = λ x y. omega (arith, c .sum (hits x y), count-total x y (c .path), count-total x y (about v ts));
+      each = chained-count (about v ts) c;
       shared = chain-run (c .start) (c .finish) (c .path) (c .chain);
     }
 
 module _ (ts : List Triangle) (distinct : allDistinct ts ≡ true) (once : noneTwice (edgesOf ts) ≡ true) where
-  -- from any triangle about v turning one way and then the other reaches all of them, in whatever order they stand
+  -- the test passes in whatever order the triangles about v stand
   pub any-order : (v : ℕ) → OneFan v ts → (ds : List Edge) → ((x y : ℕ) → count x y ds ≡ count x y (about v ts)) → oneRun ds ≡ true
   any-order v f ds c =
       run-passes ds (f .run) (apart-same (about v ts) ds c (about-apart v ts distinct once)) (f .shared)
@@ -44,7 +43,8 @@ module _ (ts : List Triangle) (distinct : allDistinct ts ≡ true) (once : noneT
   unfolding oneFanEach
   one-fan-each n = (each n, all n)
     where
-      both : (m : ℕ) → oneFanEach (suc m) ts ≡ true → (b : Bool) → oneRun (about m ts) ≡ b → (b ≡ true) × (oneFanEach m ts ≡ true)
+      both : (m : ℕ) → oneFanEach (suc m) ts ≡ true → (b : Bool) → oneRun (about m ts) ≡ b
+          → (b ≡ true) × (oneFanEach m ts ≡ true)
       both m h true e = (refl, rw (oneFanEach, e) at h)
       both m h false e = absurd (false≢true (rw (oneFanEach, e) at h))
 
@@ -52,11 +52,7 @@ module _ (ts : List Triangle) (distinct : allDistinct ts ≡ true) (once : noneT
       each zero h v l = absurd (omega arith)
       each (suc m) h v l =
           let k = both m h (oneRun (about m ts)) refl in
-          last (eqb v m) refl (run-fan m ts (k .0)) (each m (k .1) v)
-        where
-          last : (b : Bool) → eqb v m ≡ b → OneFan m ts → (v < m → OneFan v ts) → OneFan v ts
-          last true e f g = subst (λ (x : ℕ). OneFan x ts) (sym (eqb-true v m e)) f
-          last false e f g = g (omega (arith, eqb-false v m e))
+          below-suc (λ (x : ℕ). OneFan x ts) m v l (run-fan m ts (k .0)) (each m (k .1) v)
 
       all : (m : ℕ) → ((v : ℕ) → v < m → OneFan v ts) → oneFanEach m ts ≡ true
       all zero h = refl
@@ -88,8 +84,20 @@ module _ (ts : List Triangle) (distinct : allDistinct ts ≡ true) (once : noneT
   border-out : (v : ℕ) (f : OneFan v ts) (x : ℕ) → 1 ≤ uses v x ts → uses x v ts ≡ 0 → x ≡ fan-chained v f .start
   border-out v f x h k = same-is x (fan-chained v f .start) (omega (arith, fan-degree v f x))
 
-  pub one-border-in : (v : ℕ) → OneFan v ts → (x y : ℕ) → 1 ≤ uses x v ts → uses v x ts ≡ 0 → 1 ≤ uses y v ts → uses v y ts ≡ 0 → x ≡ y
+  pub one-border-in : (v : ℕ) → OneFan v ts → (x y : ℕ) → 1 ≤ uses x v ts → uses v x ts ≡ 0 → 1 ≤ uses y v ts → uses v y ts ≡ 0
+      → x ≡ y
   one-border-in v f x y a b c d = border-in v f x a b ∙ sym (border-in v f y c d)
 
-  pub one-border-out : (v : ℕ) → OneFan v ts → (x y : ℕ) → 1 ≤ uses v x ts → uses x v ts ≡ 0 → 1 ≤ uses v y ts → uses y v ts ≡ 0 → x ≡ y
+  pub one-border-out : (v : ℕ) → OneFan v ts → (x y : ℕ) → 1 ≤ uses v x ts → uses x v ts ≡ 0 → 1 ≤ uses v y ts → uses y v ts ≡ 0
+      → x ≡ y
   one-border-out v f x y a b c d = border-out v f x a b ∙ sym (border-out v f y c d)
+
+  -- from any triangle d about v turning one way and then the other leaves none of the others
+  pub turning-reaches-all : (v : ℕ) → OneFan v ts → (d : Edge) (ds : List Edge)
+      → ((x y : ℕ) → count x y (d ∷ ds) ≡ count x y (about v ts)) → turnBack (length ds) (d .from) (turnOn (length ds) (d .to) ds) ≡ []
+  unfolding oneRun
+  turning-reaches-all v f d ds c = nil (turnBack (length ds) (d .from) (turnOn (length ds) (d .to) ds)) (any-order v f (d ∷ ds) c)
+    where
+      nil : (es : List Edge) → isNil es ≡ true → es ≡ []
+      nil [] h = refl
+      nil (e ∷ es) h = absurd (false≢true h)

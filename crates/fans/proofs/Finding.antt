@@ -1,6 +1,6 @@
--- The look-up `across` of a directed edge: what it finds, when it finds nothing, and that it finds the only one.
+-- The look-up `across` of a directed edge: what it finds, and when it finds nothing.
 -- Assumes nothing.
-use Prim.Native.Nat.{ℕ, zero, suc, _+_, _*_, _≤_, _<_}
+use Prim.Native.Nat.{ℕ, zero, suc, _≤_, _<_}
 use native.Mathlib.Omega.{arith}
 use mathlib.Core.Bool.{Bool, true, false, _&&_, true≢false}
 use mathlib.Core.List.{List, [], _∷_, _++_}
@@ -13,12 +13,12 @@ use Rattle.rules.specs.declared.Triangle.{Triangle}
 use Rattle.rules.specs.declared.Across.{Across}
 use Rattle.rules.specs.declared.Across.the-variants.{Found, Nothing}
 use Rattle.rules.specs.Triangle.{edgesOf}
-use Rattle.rules.specs.Count.{num, hit, count, uses}
+use Rattle.rules.specs.Count.{hit, count, uses}
 use Rattle.rules.specs.Across.{inTriangle, across}
-use Rattle.fans.specs.Corner.{Rot, at-p, at-q, at-r, third, In, here, there, sides}
+use Rattle.fans.specs.Corner.{Rot, at-p, at-q, at-r, third, In, here, there, sides, sidesOf}
 use Rattle.fans.specs.Finding.{FoundAt, Told}
 use Rattle.fans.proofs.Counting.{and-left, and-right, and-both, hit-is}
-use Rattle.fans.proofs.Corners.{uses-rot, uses-cons, sides-yes, in-uses}
+use Rattle.fans.proofs.Corners.{uses-cons, in-uses}
 
 -- both numbers are the tested ones
 pair : (a b x y : ℕ) → eqb a x && eqb b y ≡ true → (a ≡ x) × (b ≡ y)
@@ -66,7 +66,9 @@ told-first x y t ts u =
         → eqb (t .r) x && eqb (t .p) y ≡ c → Told x y (t ∷ ts) (inTriangle x y t)
     go true e b f c g = let k = pair (t .p) (t .q) x y e in rw (inTriangle, e) (first-of t ts (at-p (k .0) (k .1) refl) u)
     go false e true f c g = let k = pair (t .q) (t .r) x y f in rw (inTriangle, e, f) (first-of t ts (at-q (k .0) (k .1) refl) u)
-    go false e false f true g = let k = pair (t .r) (t .p) x y g in rw (inTriangle, e, f, g) (first-of t ts (at-r (k .0) (k .1) refl) u)
+    go false e false f true g =
+        let k = pair (t .r) (t .p) x y g in
+        rw (inTriangle, e, f, g) (first-of t ts (at-r (k .0) (k .1) refl) u)
     go false e false f false g =
         rw (inTriangle, e, f, g)
         (omega (
@@ -90,11 +92,6 @@ told x y (t ∷ ts) = go (across x y ts) refl (told x y ts)
 pub across-found : (x y : ℕ) (ts : List Triangle) (n k z : ℕ) → across x y ts ≡ Found n k z → FoundAt x y ts n k z
 across-found x y ts n k z e = subst (Told x y ts) e (told x y ts)
 
-uses-append : (x y : ℕ) (ts us : List Triangle) → uses x y (ts ++ us) ≡ uses x y ts + uses x y us
-unfolding count edgesOf
-uses-append x y [] us = omega arith
-uses-append x y (t ∷ ts) us = omega (arith, uses-append x y ts us)
-
 in-append : {x y z : ℕ} (us : List Triangle) {ts : List Triangle} → In x y z ts → In x y z (us ++ ts)
 in-append [] i = i
 in-append (u ∷ us) i = there (in-append us i)
@@ -113,6 +110,27 @@ found-below ts f =
 
 pub found-place : {x y n k z : ℕ} (ts : List Triangle) (f : FoundAt x y ts n k z) (d : Triangle) → getD ts n d ≡ f .triangle
 found-place ts f d = rw (f .whole, ← f .place) (middle (f .before) (f .after) (f .triangle) d)
+
+-- the triangles after it do not have the edge
+pub place-sides : (x y : ℕ) (ts : List Triangle) (d : Triangle) (n : ℕ) → n < length ts
+    → sidesOf x y (getD ts n d) ≤ uses x y ts
+place-sides x y [] d n l = absurd (omega arith)
+place-sides x y (t ∷ ts) d zero l = omega (arith, uses-cons x y t ts)
+place-sides x y (t ∷ ts) d (suc n) l = omega (arith, uses-cons x y t ts, place-sides x y ts d n (omega arith))
+
+later-sides : (x y : ℕ) (us vs : List Triangle) (t d : Triangle) (m : ℕ) → length us < m → m < length (us ++ (t ∷ vs))
+    → sidesOf x y (getD (us ++ (t ∷ vs)) m d) ≤ uses x y vs
+later-sides x y us vs t d zero k l = absurd (omega arith)
+later-sides x y [] vs t d (suc m) k l = place-sides x y vs d m (omega arith)
+later-sides x y (u ∷ us) vs t d (suc m) k l = later-sides x y us vs t d m (omega arith) (omega arith)
+
+pub found-later : {x y n k z : ℕ} (ts : List Triangle) → FoundAt x y ts n k z → (d : Triangle) (m : ℕ) → n < m → m < length ts
+    → sidesOf x y (getD ts m d) ≡ 0
+found-later {x} {y} ts f d m k l =
+    let us = f .before ++ (f .triangle ∷ f .after) in
+    let within : m < length us = omega (arith, ap (length {A = Triangle}) (f .whole)) in
+    rw (f .whole)
+    (omega (arith, f .none-later, later-sides x y (f .before) (f .after) (f .triangle) d m (omega (arith, f .place)) within))
 
 -- it finds nothing exactly if the edge is not used
 pub across-nothing : (x y : ℕ) (ts : List Triangle) → (across x y ts ≡ Nothing) ↔ (uses x y ts ≡ 0)

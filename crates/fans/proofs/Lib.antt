@@ -9,3 +9,5 @@ pub mod Checks
 pub mod Finding
 pub mod Only
 pub mod Neighbours
+pub mod Accepted
+pub mod Once

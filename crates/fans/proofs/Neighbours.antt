@@ -1,27 +1,26 @@
 -- One fan as neighbours in a row: the two forms say the same, and a list that `check` accepts has it at each vertex.
 -- Assumes nothing.
-use Prim.Native.Nat.{ℕ, zero, suc, _+_, _≤_, _<_}
+use Prim.Native.Nat.{ℕ, _+_, _≤_, _<_}
 use native.Mathlib.Omega.{arith}
 use mathlib.Core.Bool.{Bool, true, false}
 use mathlib.Core.List.{List, [], _∷_}
 use mathlib.Core.Logic.{_↔_, _⊎_, inl, inr, ⊎-elim}
-use mathlib.Core.Path.{_≡_, refl, sym, ap, _∙_, subst}
+use mathlib.Core.Path.{_≡_, refl, sym, _∙_, subst}
 use lib.Dec.{eqb}
 use borrow.Author.Tests.{eqb-true, eqb-false}
 use Rattle.rules.specs.declared.Triangle.{Triangle}
 use Rattle.rules.specs.declared.Checked.the-variants.{Accepted}
 use Rattle.rules.specs.Triangle.{Edge, edge, trianglesOf, edgesOf}
-use Rattle.rules.specs.Count.{same, hit, count, uses}
+use Rattle.rules.specs.Count.{same, count, uses}
 use Rattle.rules.specs.Fan.{about, Run, OneFan}
 use Rattle.rules.specs.Check.{allDistinct, noneTwice, check}
-use Rattle.fans.specs.Chain.{total, Chain}
+use Rattle.fans.specs.Chain.{Chain}
 use Rattle.fans.specs.Corner.{In, Free}
-use Rattle.fans.specs.Neighbours.{Linked, Pair, endOf, Round, Neighbours}
-use Rattle.fans.specs.Passing.{Passes}
-use Rattle.fans.proofs.Counting.{same-yes, same-no, hits, hit-yes, count-total, member}
+use Rattle.fans.specs.Neighbours.{Linked, Pair, endOf, Neighbours}
+use Rattle.fans.proofs.Counting.{same-yes, same-no, hit-yes, member}
 use Rattle.fans.proofs.Corners.{free-unused}
 use Rattle.fans.proofs.Tests.{none-twice}
-use Rattle.fans.proofs.OneRun.{run-passes}
+use Rattle.fans.proofs.OneRun.{chained-count, run-passes}
 use Rattle.fans.proofs.About.{about-apart, about-in, in-about}
 use Rattle.fans.proofs.Checks.{check-accepted}
 use Rattle.fans.proofs.Fans.{run-fan, fan-chained, fan-degree, one-fan-each}
@@ -78,8 +77,8 @@ along-in v ts x z (m ∷ (n ∷ ns)) l h =
 
 module _ (ts : List Triangle) (distinct : allDistinct ts ≡ true) (once : noneTwice (edgesOf ts) ≡ true) where
   -- the chain comes round, or nothing at v leads to its start or on from its finish
-  fan-ends : (v : ℕ) (f : OneFan v ts) (s t : ℕ) → fan-chained ts distinct once v f .start ≡ s → fan-chained ts distinct once v f .finish ≡ t
-      → (s ≡ t) ⊎ (Free s v ts × Free v t ts)
+  fan-ends : (v : ℕ) (f : OneFan v ts) (s t : ℕ) → fan-chained ts distinct once v f .start ≡ s
+      → fan-chained ts distinct once v f .finish ≡ t → (s ≡ t) ⊎ (Free s v ts × Free v t ts)
   fan-ends v f s t a b = go (eqb s t) refl
     where
       degree : (x : ℕ) → uses v x ts + same x t ≡ uses x v ts + same x s
@@ -100,12 +99,13 @@ module _ (ts : List Triangle) (distinct : allDistinct ts ≡ true) (once : noneT
       let c = fan-chained ts distinct once v f in
       let s = c .start in
       let t = c .finish in
-      let has : (x y : ℕ) → count x y (c .path) ≡ count x y (about v ts) =
-      λ x y. omega (arith, c .sum (hits x y), count-total x y (c .path), count-total x y (about v ts)) in
+      let has = chained-count (about v ts) c in
       record {
         fan = s ∷ tos (c .path);
         run = chain-linked v ts s t (c .path) (c .chain) (λ x y h. about-in v x y ts (omega (arith, has x y)));
-        round = subst (λ (k : ℕ). (s ≡ k) ⊎ (Free s v ts × Free v k ts)) (sym (chain-end s t (c .path) (c .chain))) (fan-ends v f s t refl refl);
+        round =
+            subst (λ (k : ℕ). (s ≡ k) ⊎ (Free s v ts × Free v k ts)) (sym (chain-end s t (c .path) (c .chain)))
+            (fan-ends v f s t refl refl);
         whole = λ x z i. chain-pair x z s t (c .path) (c .chain) (omega (arith, has x z, in-about ts distinct i));
       }
 
@@ -125,4 +125,5 @@ module _ (ts : List Triangle) (distinct : allDistinct ts ≡ true) (once : noneT
 pub check-neighbours : (v : ℕ) (xs : List ℕ) → check v xs ≡ Accepted → (c : ℕ) → c < v → Neighbours (trianglesOf xs) c
 check-neighbours v xs h c l =
     let p = check-accepted v xs .0 h in
-    one-fan-neighbours (trianglesOf xs) (p .distinct) (p .once) c .0 (one-fan-each (trianglesOf xs) (p .distinct) (p .once) v .0 (p .fans) c l)
+    let ts = trianglesOf xs in
+    one-fan-neighbours ts (p .distinct) (p .once) c .0 (one-fan-each ts (p .distinct) (p .once) v .0 (p .fans) c l)

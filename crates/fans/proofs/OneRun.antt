@@ -1,18 +1,18 @@
--- The test `oneRun` on a list of edges: if it passes, the edges are one chain; if in some order they are one run, it passes.
+-- The test `oneRun` on a list of edges: if it passes, the edges are one chain; if one run has the same edges, it passes.
 -- Assumes nothing.
 use Prim.Native.Nat.{ℕ, zero, suc, _+_, _≤_}
 use native.Mathlib.Omega.{arith}
-use mathlib.Core.Bool.{Bool, true, false, false≢true}
+use mathlib.Core.Bool.{true, false≢true}
 use mathlib.Core.List.{List, [], _∷_, reverseAux}
-use mathlib.Core.Logic.{_↔_, _⊎_, inl, inr, ⊎-elim}
-use mathlib.Core.Path.{_≡_, refl, sym, ap, _∙_, subst}
+use mathlib.Core.Logic.{_↔_, inl, inr, ⊎-elim}
+use mathlib.Core.Path.{_≡_, refl, sym, ap, subst}
 use lib.ListN.{length}
 use Rattle.rules.specs.Triangle.{Edge}
-use Rattle.rules.specs.Count.{same, hit, count}
+use Rattle.rules.specs.Count.{same, count}
 use Rattle.rules.specs.Fan.{Shares, Run, leaving, entering, turnOn, turnBack, isNil, oneRun}
 use Rattle.fans.specs.Chain.{total, starts, ends, Apart, Walk, Chain, Chained}
 use Rattle.fans.proofs.Counting.{same-is, hit-yes, member, length-total, hits, count-total, count-starts, count-ends}
-use Rattle.fans.proofs.Turning.{onward, backward, Turned, turned}
+use Rattle.fans.proofs.Turning.{onward, backward, turned}
 
 -- a way back, turned round, before a chain
 chain-onto : (x s t : ℕ) (bs ds : List Edge) → Walk (λ d. d .to) (λ d. d .from) x bs s → Chain x ds t → Chain s (reverseAux bs ds) t
@@ -68,7 +68,7 @@ reached d ds =
       none-back = back .stuck (omega (arith, on .sum (λ e. 1), length-total ds, length-total es));
     }
 
--- it passes
+-- if it passes, they are one chain
 no-rest : (w : Edge → ℕ) (ds : List Edge) → isNil ds ≡ true → total w ds ≡ 0
 unfolding total
 no-rest w [] h = refl
@@ -87,13 +87,16 @@ run-chained (d ∷ ds) h =
       sum = λ w. omega (arith, r .sum w, no-rest w (left d ds) h);
     }
 
+pub chained-count : (ds : List Edge) (c : Chained ds) (x y : ℕ) → count x y (c .path) ≡ count x y ds
+chained-count ds c x y = omega (arith, c .sum (hits x y), count-total x y (c .path), count-total x y ds)
+
 shares-sym : (d e : Edge) → Shares d e → Shares e d
 shares-sym d e (inl h) = inr h
 shares-sym d e (inr h) = inl h
 
--- all edges ds are different at both ends; some of them, rest, are left
+-- no two of the edges d, ds start or end at the same vertex; rest are those that are not reached from d
 module _ (d : Edge) (ds rest : List Edge) (apart : Apart (d ∷ ds)) (r : Reached d ds rest) where
-  -- no edge that is left touches an end of a reached one
+  -- x is met by the chain, or it is the chain's end t, from which nothing goes on: no edge that is left starts at x
   closed : (near : Edge → ℕ) (x t : ℕ) → total (λ e. same x (near e)) (d ∷ ds) ≤ 1
       → 1 ≤ total (λ e. same x (near e)) (r .path) + same x t → total (λ e. same t (near e)) rest ≡ 0
       → total (λ e. same x (near e)) rest ≡ 0
@@ -103,7 +106,21 @@ module _ (d : Edge) (ds rest : List Edge) (apart : Apart (d ∷ ds)) (r : Reache
       go zero e = omega (arith, r .sum (λ f. same x (near f)))
       go (suc n) e = let e′ : x ≡ t = same-is x t (omega arith) in rw e′ none
 
-  is-reached : (e : Edge) → 1 ≤ count (e .from) (e .to) (d ∷ ds) → count (e .from) (e .to) rest ≡ 0 → 1 ≤ count (e .from) (e .to) (r .path)
+  degree : (x : ℕ) → starts x (r .path) + same x (r .finish) ≡ ends x (r .path) + same x (r .start)
+  degree x = chain-degree x (r .start) (r .finish) (r .path) (r .chain)
+
+  none-after : (e : Edge) → 1 ≤ count (e .from) (e .to) (r .path) → starts (e .to) rest ≡ 0
+  none-after e h =
+      closed (λ g. g .from) (e .to) (r .finish) (apart .starts-once (e .to))
+      (omega (arith, count-ends (e .from) (e .to) (r .path), degree (e .to))) (r .none-on)
+
+  none-before : (e : Edge) → 1 ≤ count (e .from) (e .to) (r .path) → ends (e .from) rest ≡ 0
+  none-before e h =
+      closed (λ g. g .to) (e .from) (r .start) (apart .ends-once (e .from))
+      (omega (arith, count-starts (e .from) (e .to) (r .path), degree (e .from))) (r .none-back)
+
+  is-reached : (e : Edge) → 1 ≤ count (e .from) (e .to) (d ∷ ds) → count (e .from) (e .to) rest ≡ 0
+      → 1 ≤ count (e .from) (e .to) (r .path)
   is-reached e h k =
       omega (
         arith,
@@ -117,19 +134,9 @@ module _ (d : Edge) (ds rest : List Edge) (apart : Apart (d ∷ ds)) (r : Reache
   neighbour : (e f : Edge) → Shares e f → 1 ≤ count (e .from) (e .to) (d ∷ ds) → count (e .from) (e .to) rest ≡ 0
       → count (f .from) (f .to) rest ≡ 0
   neighbour e f (inl s) h k =
-      let on : starts (e .to) rest ≡ 0 =
-      closed (λ g. g .from) (e .to) (r .finish) (apart .starts-once (e .to))
-      (omega (arith, is-reached e h k, count-ends (e .from) (e .to) (r .path), chain-degree (e .to) (r .start) (r .finish) (r .path) (r .chain)))
-      (r .none-on) in
-      let on′ : starts (f .from) rest ≡ 0 = subst (λ (x : ℕ). starts x rest ≡ 0) s on in
-      omega (arith, count-starts (f .from) (f .to) rest)
+      omega (arith, count-starts (f .from) (f .to) rest, subst (λ (x : ℕ). starts x rest ≡ 0) s (none-after e (is-reached e h k)))
   neighbour e f (inr s) h k =
-      let back : ends (e .from) rest ≡ 0 =
-      closed (λ g. g .to) (e .from) (r .start) (apart .ends-once (e .from))
-      (omega (arith, is-reached e h k, count-starts (e .from) (e .to) (r .path), chain-degree (e .from) (r .start) (r .finish) (r .path) (r .chain)))
-      (r .none-back) in
-      let back′ : ends (f .to) rest ≡ 0 = subst (λ (x : ℕ). ends x rest ≡ 0) (sym s) back in
-      omega (arith, count-ends (f .from) (f .to) rest)
+      omega (arith, count-ends (f .from) (f .to) rest, subst (λ (x : ℕ). ends x rest ≡ 0) (sym s) (none-before e (is-reached e h k)))
 
   -- in a run of the edges: from its first edge on, and back to it
   abbrev Among : List Edge → Type 0
@@ -161,7 +168,9 @@ module _ (d : Edge) (ds rest : List Edge) (apart : Apart (d ∷ ds)) (r : Reache
       ⊎-elim (λ q. rw (← q .0, ← q .1) k) (λ m. absurd (none-in x y m)) (member x y e [] h)
   to-first e (f ∷ es) s a x y h k =
       ⊎-elim (λ q. rw (← q .0, ← q .1) k)
-      (λ m. neighbour f e (shares-sym e f (s .0)) (among-first f es (among-rest e (f ∷ es) a)) (to-first f es (s .1) (among-rest e (f ∷ es) a) x y m k))
+      (λ m.
+      let b = among-rest e (f ∷ es) a in
+      neighbour f e (shares-sym e f (s .0)) (among-first f es b) (to-first f es (s .1) b x y m k))
       (member x y e (f ∷ es) h)
 
   first-reached : count (d .from) (d .to) rest ≡ 0
@@ -196,7 +205,8 @@ module _ (d : Edge) (ds rest : List Edge) (apart : Apart (d ∷ ds)) (r : Reache
       none-left rest (λ x y h. omega (arith, r .sum (hits x y), count-total x y (d ∷ ds), count-total x y rest)) (among-all es s a b)
 
 -- it passes if there is one run that has the same edges, each at least once
-pub run-passes : (ds es : List Edge) → Apart ds → Run es → ((x y : ℕ) → (1 ≤ count x y es) ↔ (1 ≤ count x y ds)) → oneRun ds ≡ true
+pub run-passes : (ds es : List Edge) → Apart ds → Run es → ((x y : ℕ) → (1 ≤ count x y es) ↔ (1 ≤ count x y ds))
+    → oneRun ds ≡ true
 unfolding oneRun
 run-passes [] es a s c = refl
 run-passes (d ∷ ds) es a s c = all-reached d ds (left d ds) a (reached d ds) es s (λ x y. c x y .0) (λ x y. c x y .1)

@@ -11,33 +11,33 @@ use Rattle.rules.specs.declared.Across.{Across}
 use Rattle.rules.specs.declared.Across.the-variants.{Found, Nothing}
 use Rattle.rules.specs.Count.{hit, uses}
 use Rattle.rules.specs.Across.{across}
-use Rattle.fans.specs.Corner.{Rot, at-p, at-q, at-r, third, In, here, there, sides}
-use Rattle.fans.specs.Finding.{FoundAt, SameFound}
+use Rattle.fans.specs.Corner.{Rot, at-p, at-q, at-r, third, In, here, there, sides, sidesOf}
+use Rattle.fans.specs.Finding.{SameFound}
 use Rattle.fans.proofs.Counting.{hit-yes}
 use Rattle.fans.proofs.Corners.{rot-sum, rot-third, uses-rot, uses-cons, sides-yes, in-uses}
-use Rattle.fans.proofs.Finding.{across-found, across-nothing, found-in, found-below, found-place}
+use Rattle.fans.proofs.Finding.{across-found, across-nothing, found-in, found-below, found-place, place-sides}
 
 -- two corners of a triangle tell which the third is
 hit-eq : (x y p q : ℕ) → p ≡ x → q ≡ y → hit x y p q ≡ 1
 hit-eq x y p q e f = rw (e, f) (hit-yes x y)
 
-corner-hits : {t : Triangle} {x y z : ℕ} (r : Rot t x y z) → sides x y (t .p) (t .q) (t .r) ≤ 1
+corner-hits : {t : Triangle} {x y z : ℕ} (r : Rot t x y z) → sidesOf x y t ≤ 1
     → third r ≡ hit x y (t .r) (t .p) + 2 * hit x y (t .p) (t .q)
 unfolding sides
 corner-hits {t} {x} {y} (at-p a b c) h = omega (arith, hit-eq x y (t .p) (t .q) a b)
 corner-hits {t} {x} {y} (at-q a b c) h = omega (arith, hit-eq x y (t .q) (t .r) a b)
 corner-hits {t} {x} {y} (at-r a b c) h = omega (arith, hit-eq x y (t .r) (t .p) a b)
 
-rot-corner : {t u : Triangle} {x y z w : ℕ} → t ≡ u → (a : Rot t x y z) (b : Rot u x y w) → sides x y (u .p) (u .q) (u .r) ≤ 1
+rot-corner : {t u : Triangle} {x y z w : ℕ} → t ≡ u → (a : Rot t x y z) (b : Rot u x y w) → sidesOf x y u ≤ 1
     → (third a ≡ third b) × (z ≡ w)
 rot-corner {t} {u} {x} {y} e a b h =
     let f : Triangle → ℕ = λ v. hit x y (v .r) (v .p) + 2 * hit x y (v .p) (v .q) in
-    let one : sides x y (t .p) (t .q) (t .r) ≤ 1 = subst (λ (v : Triangle). sides x y (v .p) (v .q) (v .r) ≤ 1) (sym e) h in (
+    let one : sidesOf x y t ≤ 1 = subst (λ (v : Triangle). sidesOf x y v ≤ 1) (sym e) h in (
       corner-hits a one ∙ (ap f e ∙ sym (corner-hits b h)),
       omega (arith, rot-sum a, rot-sum b, ap (λ (v : Triangle). v .p + v .q + v .r) e),
     )
 
-rot-sides : {t : Triangle} {x y z : ℕ} → Rot t x y z → 1 ≤ sides x y (t .p) (t .q) (t .r)
+rot-sides : {t : Triangle} {x y z : ℕ} → Rot t x y z → 1 ≤ sidesOf x y t
 rot-sides {t} {x} {y} {z} r = omega (arith, uses-rot x y [] r, uses-cons x y t [], sides-yes x y z)
 
 -- the triangle of a list that has x→y, if it is used once
@@ -46,12 +46,6 @@ in-third (t ∷ ts) o (here a) (here b) = rot-third a b
 in-third {x} {y} (t ∷ ts) o (here a) (there j) = absurd (omega (arith, uses-cons x y t ts, rot-sides a, in-uses j))
 in-third {x} {y} (t ∷ ts) o (there i) (here b) = absurd (omega (arith, uses-cons x y t ts, rot-sides b, in-uses i))
 in-third {x} {y} (t ∷ ts) o (there i) (there j) = in-third ts (omega (arith, uses-cons x y t ts)) i j
-
-place-sides : (x y : ℕ) (ts : List Triangle) (d : Triangle) (n : ℕ) → n < length ts
-    → sides x y (getD ts n d .p) (getD ts n d .q) (getD ts n d .r) ≤ uses x y ts
-place-sides x y [] d n l = absurd (omega arith)
-place-sides x y (t ∷ ts) d zero l = omega (arith, uses-cons x y t ts)
-place-sides x y (t ∷ ts) d (suc n) l = omega (arith, uses-cons x y t ts, place-sides x y ts d n (omega arith))
 
 one-place : {x y z w : ℕ} (ts : List Triangle) (d : Triangle) → uses x y ts ≤ 1 → (m n : ℕ) → m < length ts → n < length ts
     → Rot (getD ts m d) x y z → Rot (getD ts n d) x y w → m ≡ n
@@ -73,7 +67,7 @@ across-only x y ts n k z o e d m w l r =
     let p = one-place ts d o m n l (found-below ts f) r s in
     let g = ap (λ (i : ℕ). getD ts i d) p ∙ found-place ts f d in
     let one = le-trans (place-sides x y ts d n (found-below ts f)) o in
-    let c = rot-corner g r (f .seen) (subst (λ (t : Triangle). sides x y (t .p) (t .q) (t .r) ≤ 1) (found-place ts f d) one) in
+    let c = rot-corner g r (f .seen) (subst (λ (t : Triangle). sidesOf x y t ≤ 1) (found-place ts f d) one) in
     record { same-place = p; same-corner = c .0 ∙ f .corner; same-vertex = c .1 }
 
 -- and it is found

@@ -1,20 +1,38 @@
--- What the tests of 4, 5 and 6 say: different corners, no directed edge twice, each vertex used.
+-- What the tests of 3 to 6 say: numbers below v, different corners, no directed edge twice, each vertex used.
 -- Assumes nothing.
 use Prim.Native.Nat.{ℕ, zero, suc, _+_, _≤_, _<_}
 use native.Mathlib.Omega.{arith}
-use mathlib.Core.Bool.{Bool, true, false, _&&_, not, false≢true}
+use mathlib.Core.Bool.{true, _&&_, not}
 use mathlib.Core.List.{List, [], _∷_}
 use mathlib.Core.Logic.{_↔_}
-use mathlib.Core.Path.{_≡_, refl, sym, ap, subst}
-use lib.Dec.{eqb}
-use borrow.Author.Tests.{eqb-true, eqb-false, eq-eqb, ne-eqb, not-true}
+use mathlib.Core.Path.{_≡_, refl, ap}
+use lib.Dec.{eqb, ltb}
+use borrow.Author.Tests.{eqb-true, eqb-false, eq-eqb, ne-eqb, not-true, ltb-true, lt-ltb}
 use Rattle.rules.specs.declared.Triangle.{Triangle}
 use Rattle.rules.specs.Triangle.{Edge}
-use Rattle.rules.specs.Count.{hit, occurs, count}
-use Rattle.rules.specs.Check.{distinct, allDistinct, noneTwice, allUsed}
-use Rattle.fans.specs.Corner.{Rot, at-p, In, here, there, Different}
-use Rattle.fans.proofs.Counting.{and-left, and-right, and-both, hit-yes, hit-once, hit-is}
+use Rattle.rules.specs.Count.{same, hit, occurs, count}
+use Rattle.rules.specs.Check.{allBelow, distinct, allDistinct, noneTwice, allUsed}
+use Rattle.fans.specs.Corner.{at-p, In, here, there, Different}
+use Rattle.fans.proofs.Counting.{and-left, and-right, and-both, below-suc, same-yes, same-is, hit-yes, hit-once, hit-is}
 use Rattle.fans.proofs.Corners.{rot-different}
+
+-- the test of 3 passes exactly if each number is below v
+pub all-below : (v : ℕ) (xs : List ℕ) → (allBelow v xs ≡ true) ↔ ((x : ℕ) → 1 ≤ occurs x xs → x < v)
+unfolding allBelow occurs
+all-below v xs = (each xs, all xs)
+  where
+    each : (ys : List ℕ) → allBelow v ys ≡ true → (x : ℕ) → 1 ≤ occurs x ys → x < v
+    each [] h x k = absurd (omega arith)
+    each (y ∷ ys) h x k = go (same x y) refl (each ys (and-right (ltb y v) (allBelow v ys) h) x)
+      where
+        go : (n : ℕ) → same x y ≡ n → (1 ≤ occurs x ys → x < v) → x < v
+        go zero e l = l (omega arith)
+        go (suc n) e l = omega (arith, same-is x y (omega arith), ltb-true y v (and-left (ltb y v) (allBelow v ys) h))
+
+    all : (ys : List ℕ) → ((x : ℕ) → 1 ≤ occurs x ys → x < v) → allBelow v ys ≡ true
+    all [] h = refl
+    all (y ∷ ys) h =
+        and-both (ltb y v) (allBelow v ys) (lt-ltb y v (h y (omega (arith, same-yes y)))) (all ys (λ x k. h x (omega arith)))
 
 -- two numbers that a test finds different
 not-equal : (x y : ℕ) → (not (eqb x y) ≡ true) ↔ (x ≡ y → ⊥)
@@ -63,8 +81,8 @@ pub none-twice : (ds : List Edge) → (noneTwice ds ≡ true) ↔ ((x y : ℕ) �
 unfolding noneTwice count
 none-twice ds = (once ds, none ds)
   where
-    here-or-later : (x y : ℕ) (d : Edge) (es : List Edge) → count (d .from) (d .to) es ≡ 0 → count x y es ≤ 1 → (n : ℕ) → hit x y (d .from) (d .to) ≡ n
-        → n + count x y es ≤ 1
+    here-or-later : (x y : ℕ) (d : Edge) (es : List Edge) → count (d .from) (d .to) es ≡ 0 → count x y es ≤ 1
+        → (n : ℕ) → hit x y (d .from) (d .to) ≡ n → n + count x y es ≤ 1
     here-or-later x y d es h k zero e = omega arith
     here-or-later x y d es h k (suc n) e =
         let q = hit-is x y (d .from) (d .to) (omega arith) in
@@ -74,9 +92,9 @@ none-twice ds = (once ds, none ds)
     once : (es : List Edge) → noneTwice es ≡ true → (x y : ℕ) → count x y es ≤ 1
     once [] h x y = omega arith
     once (d ∷ es) h x y =
-        let a = eqb (count (d .from) (d .to) es) 0 in
-        here-or-later x y d es (eqb-true (count (d .from) (d .to) es) 0 (and-left a (noneTwice es) h)) (once es (and-right a (noneTwice es) h) x y)
-        (hit x y (d .from) (d .to)) refl
+        let n = count (d .from) (d .to) es in
+        here-or-later x y d es (eqb-true n 0 (and-left (eqb n 0) (noneTwice es) h))
+        (once es (and-right (eqb n 0) (noneTwice es) h) x y) (hit x y (d .from) (d .to)) refl
 
     none : (es : List Edge) → ((x y : ℕ) → count x y es ≤ 1) → noneTwice es ≡ true
     none [] h = refl
@@ -90,10 +108,6 @@ pub all-used : (n : ℕ) (xs : List ℕ) → (allUsed n xs ≡ true) ↔ ((v : �
 unfolding allUsed
 all-used n xs = (each n, all n)
   where
-    last : (m v : ℕ) → v < suc m → 1 ≤ occurs m xs → (v < m → 1 ≤ occurs v xs) → (b : Bool) → eqb v m ≡ b → 1 ≤ occurs v xs
-    last m v l h k true e = let e′ : v ≡ m = eqb-true v m e in rw e′ h
-    last m v l h k false e = k (omega (arith, eqb-false v m e))
-
     some : (m : ℕ) → (m ≡ 0 → ⊥) → 1 ≤ m
     some m h = omega arith
 
@@ -101,8 +115,8 @@ all-used n xs = (each n, all n)
     each zero h v l = absurd (omega arith)
     each (suc m) h v l =
         let a = not (eqb (occurs m xs) 0) in
-        last m v l (some (occurs m xs) (not-equal (occurs m xs) 0 .0 (and-left a (allUsed m xs) h))) (each m (and-right a (allUsed m xs) h) v)
-        (eqb v m) refl
+        below-suc (λ (k : ℕ). 1 ≤ occurs k xs) m v l (some (occurs m xs) (not-equal (occurs m xs) 0 .0 (and-left a (allUsed m xs) h)))
+        (each m (and-right a (allUsed m xs) h) v)
 
     all : (m : ℕ) → ((v : ℕ) → v < m → 1 ≤ occurs v xs) → allUsed m xs ≡ true
     all zero h = refl

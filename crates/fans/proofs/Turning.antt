@@ -21,7 +21,8 @@ pub record Turn (near far : Edge → ℕ) (pick : ℕ → List Edge → Taken) (
   pub pick-later : (x : ℕ) (d : Edge) (ds : List Edge) → eqb (near d) x ≡ false → pick x (d ∷ ds) ≡ keep d (pick x ds)
   pub turn-zero : (x : ℕ) (ds : List Edge) → turn zero x ds ≡ ds
   pub turn-stop : (n x : ℕ) (ds : List Edge) → pick x ds ≡ no-edge → turn (suc n) x ds ≡ ds
-  pub turn-more : (n x : ℕ) (ds : List Edge) (d : Edge) (es : List Edge) → pick x ds ≡ taken d es → turn (suc n) x ds ≡ turn n (far d) es
+  pub turn-more : (n x : ℕ) (ds : List Edge) (d : Edge) (es : List Edge) → pick x ds ≡ taken d es
+      → turn (suc n) x ds ≡ turn n (far d) es
 
 pub onward : Turn (λ d. d .from) (λ d. d .to) leaving turnOn
 unfolding leaving turnOn
@@ -58,8 +59,10 @@ pub record Turned (near far : Edge → ℕ) (n x : ℕ) (ds rest : List Edge) : 
   pub sum : (w : Edge → ℕ) → total w ds ≡ total w path + total w rest
   pub stuck : length ds ≤ n → total (λ d. same end (near d)) rest ≡ 0
 
-module _ (near far : Edge → ℕ) (pick : ℕ → List Edge → Taken) (turn : ℕ → ℕ → List Edge → List Edge) (law : Turn near far pick turn) where
-  parts-keep : (x : ℕ) (d : Edge) (ds : List Edge) (r : Taken) → eqb (near d) x ≡ false → Parts near x ds r → Parts near x (d ∷ ds) (keep d r)
+module _ (near far : Edge → ℕ) (pick : ℕ → List Edge → Taken) (turn : ℕ → ℕ → List Edge → List Edge)
+    (law : Turn near far pick turn) where
+  parts-keep : (x : ℕ) (d : Edge) (ds : List Edge) (r : Taken) → eqb (near d) x ≡ false → Parts near x ds r
+      → Parts near x (d ∷ ds) (keep d r)
   unfolding total
   parts-keep x d ds no-edge e h = omega (arith, h, same-no x (near d) (λ q. eqb-false (near d) x e (sym q)))
   parts-keep x d ds (taken f es) e h = (h .0, λ w. omega (arith, h .1 w))
@@ -99,8 +102,10 @@ module _ (near far : Edge → ℕ) (pick : ℕ → List Edge → Taken) (turn : 
       subst (Turned near far zero x ds) (sym (law .turn-zero x ds)) (stop zero x ds (λ h. none-left (λ d. same x (near d)) ds h))
   turned (suc n) x ds = go (pick x ds) refl (parts x ds) (λ d es. turned n (far d) es)
     where
-      go : (r : Taken) → pick x ds ≡ r → Parts near x ds r → ((d : Edge) (es : List Edge) → Turned near far n (far d) es (turn n (far d) es))
+      go : (r : Taken) → pick x ds ≡ r → Parts near x ds r
+          → ((d : Edge) (es : List Edge) → Turned near far n (far d) es (turn n (far d) es))
           → Turned near far (suc n) x ds (turn (suc n) x ds)
       go no-edge e h k = subst (Turned near far (suc n) x ds) (sym (law .turn-stop n x ds e)) (stop (suc n) x ds (λ l. h))
       go (taken d es) e h k =
-          subst (Turned near far (suc n) x ds) (sym (law .turn-more n x ds d es e)) (one-more n x ds d es (turn n (far d) es) h (k d es))
+          subst (Turned near far (suc n) x ds) (sym (law .turn-more n x ds d es e))
+          (one-more n x ds d es (turn n (far d) es) h (k d es))

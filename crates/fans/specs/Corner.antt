@@ -1,7 +1,7 @@
 -- A triangle seen from one of its corners, and the triangles of a list.
 -- Assumes nothing.
 use Prim.Native.Nat.{ℕ, _+_}
-use mathlib.Core.List.{List, _∷_}
+use mathlib.Core.List.{List, [], _∷_}
 use mathlib.Core.Path.{_≡_}
 use Rattle.rules.specs.declared.Triangle.{Triangle}
 use Rattle.rules.specs.Count.{hit}
@@ -33,6 +33,17 @@ pub record Different (x y z : ℕ) : Type 0 where
   pub y-z : y ≡ z → ⊥
   pub z-x : z ≡ x → ⊥
 
+-- no directed edge twice, and no triangle has a vertex twice
+abbrev pub Once : List Triangle → Type 0
+Once [] = Unit {0}
+Once (t ∷ ts) =
+    (Free (t .p) (t .q) ts × Free (t .q) (t .r) ts × Free (t .r) (t .p) ts)
+    × ((t .p ≡ t .q → ⊥) × (t .q ≡ t .r → ⊥) × (t .r ≡ t .p → ⊥))
+    × Once ts
+
 -- how often the triangle a b c has the directed edge x→y
 unfoldable pub sides : ℕ → ℕ → ℕ → ℕ → ℕ → ℕ
 sides x y a b c = hit x y a b + hit x y b c + hit x y c a
+
+abbrev pub sidesOf : ℕ → ℕ → Triangle → ℕ
+sidesOf x y t = sides x y (t .p) (t .q) (t .r)

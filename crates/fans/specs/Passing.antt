@@ -1,15 +1,18 @@
 -- The seven tests of a list of triangles, in their order, and the first of them that fails.
 -- Assumes nothing.
-use Prim.Native.Nat.{ℕ, zero, suc}
+use Prim.Native.Nat.{ℕ, zero, suc, _≤_, _<_}
 use mathlib.Core.Bool.{Bool, true, false}
 use mathlib.Core.List.{List, [], _∷_}
 use mathlib.Core.Path.{_≡_}
+use Rattle.rules.specs.declared.Triangle.{Triangle}
 use Rattle.rules.specs.declared.Checked.{Checked}
 use Rattle.rules.specs.declared.Checked.the-variants.{Accepted}
 use Rattle.rules.specs.Limits.{vertexRange}
 use Rattle.rules.specs.Triangle.{trianglesOf, corners, edgesOf}
-use Rattle.rules.specs.Fan.{oneFanEach}
+use Rattle.rules.specs.Count.{uses}
+use Rattle.rules.specs.Fan.{OneFan, oneFanEach}
 use Rattle.rules.specs.Check.{sizeFits, allBelow, allDistinct, noneTwice, allUsed, passes}
+use Rattle.fans.specs.Corner.{In, Different}
 
 abbrev pub tests : ℕ → List ℕ → List Bool
 tests v xs =
@@ -42,3 +45,11 @@ pub record Passes (v : ℕ) (xs : List ℕ) : Type 0 where
   pub once : noneTwice (edgesOf (trianglesOf xs)) ≡ true
   pub used : allUsed v (corners (trianglesOf xs)) ≡ true
   pub fans : oneFanEach v (trianglesOf xs) ≡ true
+
+-- the same in the words of the rules, for the triangles of a list
+pub record Mesh (v : ℕ) (ts : List Triangle) : Type 0 where
+  pub below : (x y z : ℕ) → In x y z ts → x < v
+  pub different : (x y z : ℕ) → In x y z ts → Different x y z
+  pub once : (x y : ℕ) → uses x y ts ≤ 1
+  pub used : (x : ℕ) → x < v → (y : ℕ) × (z : ℕ) × In x y z ts
+  pub fan : (x : ℕ) → x < v → OneFan x ts

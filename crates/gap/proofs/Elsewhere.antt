@@ -4,7 +4,7 @@ use Prim.Native.Nat.{ℕ, _+_, _≤_}
 use native.Mathlib.Omega.{arith}
 use mathlib.Core.Bool.{Bool, true, false, false≢true}
 use mathlib.Core.List.{List, [], _∷_, _++_}
-use mathlib.Core.Path.{_≡_, refl, sym, ap, ap₂, _∙_, subst}
+use mathlib.Core.Path.{_≡_, refl, sym, ap, _∙_, subst}
 use mathlib.Core.Logic.{_⊎_, inl, inr}
 use lib.ListN.{length}
 use lib.Dec.{leb}
@@ -19,7 +19,7 @@ use Rattle.gap.specs.Tally.{tally, ringTally, total}
 use Rattle.gap.proofs.Rings.{ring-join, ring-parts, ring-swap, last-append}
 use Rattle.gap.proofs.Fate.{rings-append, rings-split}
 use Rattle.gap.proofs.Tallies.{tally-append, tally-swap, total-append}
-use Rattle.gap.proofs.Legal.{hit-one}
+use Rattle.gap.proofs.Legal.{hit-one, hit-here}
 use Rattle.gap.proofs.Sites.{last-join, first-join}
 
 -- the vertices before and after the place that an operation names
@@ -47,9 +47,6 @@ entering u v x (p ∷ ps) = hit u v x (vertex p) + entering u v (vertex p) ps
 entering-edges : (u v x : ℕ) (us : List Node) (y : ℕ) → entering u v x us + hit u v (endOr x us) y ≡ hit u v x (startOr y us) + tally u v us y
 entering-edges u v x [] y = omega arith
 entering-edges u v x (p ∷ us) y = let h = entering-edges u v (vertex p) us y in omega arith
-
-hit-here : (x y u v : ℕ) → u ≡ x → v ≡ y → hit x y u v ≡ 1
-hit-here x y u v p q = ap₂ (hit x y) p q ∙ hit-one x y
 
 -- Q holds, or the place is e, or f, or the place of c between xP and yP
 abbrev pub Kept : (ℕ → ℕ → ℕ → Type 0) → ℕ → ℕ → ℕ → ℕ → ℕ → ℕ → ℕ → ℕ → Type 0

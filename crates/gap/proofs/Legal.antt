@@ -4,7 +4,7 @@ use Prim.Native.Nat.{ℕ, _+_, _≤_}
 use native.Mathlib.Omega.{arith}
 use mathlib.Core.Bool.{Bool, true, false, _&&_, false≢true}
 use mathlib.Core.List.{List, _∷_}
-use mathlib.Core.Path.{_≡_, refl, sym, ap, _∙_, subst}
+use mathlib.Core.Path.{_≡_, refl, sym, ap, ap₂, _∙_, subst}
 use mathlib.Core.Logic.{_⊎_, inl, inr}
 use lib.Dec.{eqb}
 use borrow.Author.Tests.{eqb-true, eq-eqb}
@@ -26,7 +26,7 @@ Lawful B n x y = (n ≡ 0) ⊎ ((n ≡ 1) × ((z : ℕ) × In x y z B) × Unused
 abbrev pub Legal : List Triangle → List Ring → Type 0
 Legal B ls = (x y : ℕ) → Lawful B (total x y ls) x y
 
-abbrev Counted : ℕ → ℕ → ℕ → ℕ → Type 0
+abbrev pub Counted : ℕ → ℕ → ℕ → ℕ → Type 0
 Counted x y u v = ((hit x y u v ≡ 0) × (u ≡ x → v ≡ y → ⊥)) ⊎ ((hit x y u v ≡ 1) × (u ≡ x) × (v ≡ y))
 
 pub counted : (x y u v : ℕ) → Counted x y u v
@@ -50,6 +50,9 @@ hit-one x y = go (counted x y x y)
     go : Counted x y x y → hit x y x y ≡ 1
     go (inl r) = absurd (r .1 refl refl)
     go (inr r) = r .0
+
+pub hit-here : (x y u v : ℕ) → u ≡ x → v ≡ y → hit x y u v ≡ 1
+hit-here x y u v p q = ap₂ (hit x y) p q ∙ hit-one x y
 
 when-zero : (g : Bool) (n : ℕ) → n ≡ 0 → when g n ≡ 0
 when-zero true n h = h

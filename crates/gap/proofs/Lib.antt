@@ -34,3 +34,13 @@ pub mod Marked
 pub mod First
 pub mod Runs
 pub mod Example
+pub mod Effects
+pub mod Falling
+pub mod Numbering
+pub mod Dropping
+pub mod Choosing
+pub mod Whole
+pub mod Uses
+pub mod Walks
+pub mod Fans
+pub mod Accepted

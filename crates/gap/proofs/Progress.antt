@@ -78,9 +78,9 @@ good-border e f ps ws g (q ∷ qs) h =
     ((r .0, omega (arith, length-append ps (marked (vertex e) ∷ []))), g .1)
 
 -- whether a vertex has a triangle
-has : (c : ℕ) (ts : List Triangle) → ((m : ℕ) × (n : ℕ) × In c m n ts) ⊎ ((m n : ℕ) → In c m n ts → ⊥)
-has c [] = inr (λ m n i. elim i [ ])
-has c (t ∷ ts) = go (eqb (t .p) c) (eqb (t .q) c) (eqb (t .r) c) refl refl refl (has c ts)
+has-triangle : (c : ℕ) (ts : List Triangle) → ((m : ℕ) × (n : ℕ) × In c m n ts) ⊎ ((m n : ℕ) → In c m n ts → ⊥)
+has-triangle c [] = inr (λ m n i. elim i [ ])
+has-triangle c (t ∷ ts) = go (eqb (t .p) c) (eqb (t .q) c) (eqb (t .r) c) refl refl refl (has-triangle c ts)
   where
     go : (u v w : Bool) → eqb (t .p) c ≡ u → eqb (t .q) c ≡ v → eqb (t .r) c ≡ w → ((m : ℕ) × (n : ℕ) × In c m n ts) ⊎ ((m n : ℕ) → In c m n ts → ⊥)
         → ((m : ℕ) × (n : ℕ) × In c m n (t ∷ ts)) ⊎ ((m n : ℕ) → In c m n (t ∷ ts) → ⊥)
@@ -101,10 +101,11 @@ pub data Goes (M R B : List Triangle) (ls rims : List Ring) : Type 0 where
   by-start : (t : Triangle) (R′ : List Triangle) → R ≡ t ∷ R′ → ls ≡ []
       → Keeps M R′ (t ∷ B) ((opened (t .p) ∷ (opened (t .q) ∷ (opened (t .r) ∷ []))) ∷ []) rims → AllGood ((opened (t .p) ∷ (opened (t .q) ∷ (opened (t .r) ∷ []))) ∷ [])
       → Goes M R B ls rims
-  -- a triangle b a c that is left; c has no built triangle, or the operation is the packer's choice
+  -- a triangle b a c that is left; c has no built triangle and the operation is new, or it has one and the operation is the packer's choice
   by-build : (e f : Node) (ps : List Node) (ws : List Ring) (c : ℕ) (i : In (vertex f) (vertex e) c R) → ls ≡ (e ∷ (f ∷ ps)) ∷ ws
       → (p : Packed M (others i) B e f ps ws rims c)
-      → ((m n : ℕ) → In c m n B → ⊥) ⊎ (choosePlace (vertex e) (vertex f) c (others i) ((e ∷ (f ∷ ps)) ∷ ws) ≡ p .o)
+      → (((m n : ℕ) → In c m n B → ⊥) × (p .o ≡ New))
+      ⊎ (((m : ℕ) × (n : ℕ) × In c m n B) × (choosePlace (vertex e) (vertex f) c (others i) ((e ∷ (f ∷ ps)) ∷ ws) ≡ p .o))
       → AllGood (p .ls) → Goes M R B ls rims
   by-border : (e f : Node) (ps : List Node) (ws : List Ring) → ls ≡ (e ∷ (f ∷ ps)) ∷ ws → Unused (vertex f) (vertex e) R
       → Keeps M R B (withRing (afterBorder e f ps) ws) (withRim (afterBorder e f ps) (rimOf e f ps) rims) → AllGood (withRing (afterBorder e f ps) ws)
@@ -120,13 +121,13 @@ live-step M R B e f ps ws rims k g fan = go (look (vertex f) (vertex e) R)
         let three : 1 ≤ length ps = (let h = g .0 .1 in omega arith) in
         let p =
         pack-old M (others i) B e f ps ws rims c (keeps-take M R B ((e ∷ (f ∷ ps)) ∷ ws) rims (vertex f) (vertex e) c i k) (fan c) (g .0 .0) three (r .0) (r .1) (r .2) in
-        by-build e f ps ws c i refl (p .0) (inr (p .1)) (good-step e f ps ws (p .0 .ls) c (p .0 .o) (p .0 .does) g)
+        by-build e f ps ws c i refl (p .0) (inr (r, p .1)) (good-step e f ps ws (p .0 .ls) c (p .0 .o) (p .0 .does) g)
     built c i (inr n) =
         let p = pack-new M (others i) B e f ps ws rims c (keeps-take M R B ((e ∷ (f ∷ ps)) ∷ ws) rims (vertex f) (vertex e) c i k) (fan c) n in
-        by-build e f ps ws c i refl p (inl n) (good-step e f ps ws (p .ls) c (p .o) (p .does) g)
+        by-build e f ps ws c i refl (p .0) (inl (n, p .1)) (good-step e f ps ws (p .0 .ls) c (p .0 .o) (p .0 .does) g)
 
     go : ((z : ℕ) × In (vertex f) (vertex e) z R) ⊎ Unused (vertex f) (vertex e) R → Goes M R B ((e ∷ (f ∷ ps)) ∷ ws) rims
-    go (inl r) = built (r .0) (r .1) (has (r .0) B)
+    go (inl r) = built (r .0) (r .1) (has-triangle (r .0) B)
     go (inr n) = by-border e f ps ws refl n (keeps-border M R B e f ps ws rims k n) (good-border e f ps ws g (afterBorder e f ps) refl)
 
 -- packing is never stuck: it is complete, or goes on

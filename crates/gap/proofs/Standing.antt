@@ -3,7 +3,7 @@
 use Prim.Native.Nat.{ℕ, zero, suc, _+_, _≤_}
 use native.Mathlib.Omega.{arith}
 use mathlib.Core.List.{List, [], _∷_}
-use mathlib.Core.Path.{_≡_, refl, ap, ap₂, _∙_}
+use mathlib.Core.Path.{_≡_, refl, ap}
 use mathlib.Core.Logic.{inl, inr}
 use Rattle.rules.specs.declared.Triangle.{Triangle}
 use Rattle.rules.specs.Count.{hit}
@@ -12,11 +12,8 @@ use Rattle.gap.specs.Turn.{In}
 use Rattle.gap.specs.Corners.{endOr, Along, Around, Everywhere}
 use Rattle.gap.specs.Spots.{EdgeIn, OpenAt, Unique}
 use Rattle.gap.specs.Tally.{tally, ringTally, total}
-use Rattle.gap.proofs.Legal.{hit-one, Lawful}
+use Rattle.gap.proofs.Legal.{hit-one, Lawful, hit-here}
 use Rattle.gap.proofs.Exists.{Used}
-
-hit-here : (x y u v : ℕ) → u ≡ x → v ≡ y → hit x y u v ≡ 1
-hit-here x y u v p q = ap₂ (hit x y) p q ∙ hit-one x y
 
 edge-counts : (x y first : ℕ) (ps : List Node) (i : ℕ) → EdgeIn first ps i x y → 1 ≤ tally x y ps first
 edge-counts x y first (p ∷ ps) zero h = let k = hit-here x y (vertex p) (startOr first ps) (h .1) (h .2) in omega arith

@@ -219,20 +219,22 @@ module _ (M R B : List Triangle) (e f : Node) (ps : List Node) (ws rims : List R
   once-each u v = let h = at-most-one B _ u v (k .legal u v) in omega arith
 
   -- c has no built triangle: new
-  pub pack-new : ((m n : ℕ) → In c m n B → ⊥) → Packed M R B e f ps ws rims c
+  pub pack-new : ((m n : ℕ) → In c m n B → ⊥) → (p : Packed M R B e f ps ws rims c) × (p .o ≡ New)
   unfolding pk
   pack-new none =
-      let s = on-new refl in
-      record {
-        o = New;
-        ls = (opened c ∷ (f ∷ (ps ++ (opened (vertex e) ∷ [])))) ∷ ws;
-        does = s;
-        ruleA = rA;
-        ruleB = rB;
-        keeps =
-            keeps-next M R B e f ps ws ((opened c ∷ (f ∷ (ps ++ (opened (vertex e) ∷ [])))) ∷ ws) rims c New k s rA rB
-            (gaps-new M R B e f ps ws c pk fan once-each none (λ u v h. is-used B _ u v (omega arith) (k .legal u v)) ((opened c ∷ (f ∷ (ps ++ (opened (vertex e) ∷ [])))) ∷ ws) s);
-      }
+      let s = on-new refl in (
+        record {
+          o = New;
+          ls = (opened c ∷ (f ∷ (ps ++ (opened (vertex e) ∷ [])))) ∷ ws;
+          does = s;
+          ruleA = rA;
+          ruleB = rB;
+          keeps =
+              keeps-next M R B e f ps ws ((opened c ∷ (f ∷ (ps ++ (opened (vertex e) ∷ [])))) ∷ ws) rims c New k s rA rB
+              (gaps-new M R B e f ps ws c pk fan once-each none (λ u v h. is-used B _ u v (omega arith) (k .legal u v)) ((opened c ∷ (f ∷ (ps ++ (opened (vertex e) ∷ [])))) ∷ ws) s);
+        },
+        refl,
+      )
     where
       rA : gluesA New ≡ false → Unused (vertex e) c B × Unused c (vertex e) B
       rA g = (ac, λ z i. none (vertex e) z i)

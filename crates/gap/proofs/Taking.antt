@@ -34,7 +34,7 @@ free-3 (t ∷ ts) (here r) o w j = free-rot ts (o .0) (rot-next (rot-next r)) w 
 free-3 (t ∷ ts) (there i) o w (here r) = free-rot ts (o .0) r _ (in-last i)
 free-3 (t ∷ ts) (there i) o w (there j) = free-3 ts i (o .2) w j
 
-corners : {x y z : ℕ} (ts : List Triangle) → In x y z ts → Once ts → ((x ≡ y) → ⊥) × ((y ≡ z) → ⊥) × ((z ≡ x) → ⊥)
+pub corners : {x y z : ℕ} (ts : List Triangle) → In x y z ts → Once ts → ((x ≡ y) → ⊥) × ((y ≡ z) → ⊥) × ((z ≡ x) → ⊥)
 corners (t ∷ ts) (here (at-p a b c)) o = (λ q. o .1 .0 (a ∙ (q ∙ sym b)), λ q. o .1 .1 (b ∙ (q ∙ sym c)), λ q. o .1 .2 (c ∙ (q ∙ sym a)))
 corners (t ∷ ts) (here (at-q a b c)) o = (λ q. o .1 .1 (a ∙ (q ∙ sym b)), λ q. o .1 .2 (b ∙ (q ∙ sym c)), λ q. o .1 .0 (c ∙ (q ∙ sym a)))
 corners (t ∷ ts) (here (at-r a b c)) o = (λ q. o .1 .2 (a ∙ (q ∙ sym b)), λ q. o .1 .0 (b ∙ (q ∙ sym c)), λ q. o .1 .1 (c ∙ (q ∙ sym a)))

@@ -19,7 +19,7 @@ use Rattle.gap.proofs.Links.{in-last, once-func, free-rot, rot-next}
 use Rattle.gap.proofs.Bools.{and-true, and-both}
 
 -- what a look at one triangle tells of its having x→y
-pub Told : ℕ → ℕ → Triangle → Across → Type 0
+unfoldable pub Told : ℕ → ℕ → Triangle → Across → Type 0
 Told x y t (Found n k z) = Rotated t x y z
 Told x y t Nothing = (z : ℕ) → Rotated t x y z → ⊥
 

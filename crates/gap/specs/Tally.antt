@@ -6,7 +6,7 @@ use mathlib.Core.List.{List, [], _∷_}
 use Rattle.rules.specs.declared.Operation.{Operation}
 use Rattle.rules.specs.declared.Operation.the-variants.{New, Forward, Backward, Border, Split, Close, Union, Start}
 use Rattle.rules.specs.Count.{hit}
-use Rattle.rules.specs.Ring.{Node, Ring, vertex, startOr}
+use Rattle.rules.specs.Ring.{Node, Ring, vertex, isOpen, startOr}
 use Rattle.rules.specs.Table.{Side, glued, fresh}
 
 abbrev pub tally : ℕ → ℕ → List Node → ℕ → ℕ
@@ -76,3 +76,12 @@ when false n = 0
 abbrev pub unless : Bool → ℕ → ℕ
 unless true n = 0
 unless false n = n
+
+-- how many edges are open
+abbrev pub openEdges : List Node → ℕ
+openEdges [] = 0
+openEdges (p ∷ ps) = when (isOpen p) 1 + openEdges ps
+
+abbrev pub allOpenEdges : List Ring → ℕ
+allOpenEdges [] = 0
+allOpenEdges (l ∷ ls) = openEdges l + allOpenEdges ls

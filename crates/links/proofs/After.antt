@@ -14,7 +14,7 @@ use Rattle.rules.specs.Triangle.{Edge, edge}
 use Rattle.rules.specs.Count.{same}
 use Rattle.rules.specs.Ring.{Node, opened, marked, Ring, vertex, startOr, lastOpen, lastVertex, front, onward, loopAt}
 use Rattle.rules.specs.Table.{Effect, not-allowed, builds, marks, allowed, marking, atEdge}
-use Rattle.rules.specs.Machine.{isFresh}
+use Rattle.rules.specs.Machine.{freshSides}
 use Rattle.book.specs.Sums.{pathSum, ringSum, loopsSum}
 use Rattle.book.proofs.Counting.{and-left, and-right}
 use Rattle.book.proofs.Sums.{sum-append, sum-turn, front-last, sum-without, turned}
@@ -115,7 +115,7 @@ fits Start vs u a ps ws = tt
 -- an operation that takes a place has two new edges
 abbrev pub Grows : Effect → Type 0
 Grows not-allowed = Unit {0}
-Grows (builds ls t pq qr rp n s k) = (isFresh pq ≡ 0) × (isFresh qr ≡ 1) × (isFresh rp ≡ 1)
+Grows (builds ls t pq qr rp n s k) = (freshSides pq ≡ 0) × (freshSides qr ≡ 1) × (freshSides rp ≡ 1)
 Grows (marks ls d rim) = ⊥
 
 allowed-grows : (t : Bool) (e : Effect) → Grows e → Grows (allowed t e)

@@ -422,8 +422,8 @@ unpackRows =
     -- counts of 4,096, 8,192, 1,024 and 100, and no operations: refusal 15
     record { bytes = ((1 ∷ 0 ∷ 8 ∷ 16 ∷ 0 ∷ 32 ∷ 0 ∷ 4 ∷ 0 ∷ 0 ∷ 100 ∷ 2 ∷ 0 ∷ 0 ∷ [])); lent = unpackLent (replicate 24576 6) (replicate 1024 (place 3 1 2 true)); answer = refusal 15; left = unpackLent (replicate 24576 0) (replicate 1024 (place 0 0 0 false)) }
     ∷
-    -- eight fill bits: refusal 19
-    record { bytes = ((1 ∷ 0 ∷ 8 ∷ 0 ∷ 3 ∷ 0 ∷ 2 ∷ 0 ∷ 3 ∷ 0 ∷ 1 ∷ 2 ∷ 0 ∷ 2 ∷ 244 ∷ 0 ∷ [])); lent = unpackLent (replicate 32 6) (replicate 1024 (place 3 1 2 true)); answer = refusal 19; left = unpackLent ((0 ∷ 0 ∷ 0 ∷ 0 ∷ 0 ∷ 0 ∷ []) ++ replicate 26 6) (replicate 1024 (place 0 0 0 false)) }
+    -- eight bits left over: refusal 19
+    record { bytes = ((1 ∷ 0 ∷ 8 ∷ 0 ∷ 6 ∷ 0 ∷ 2 ∷ 0 ∷ 3 ∷ 0 ∷ 1 ∷ 2 ∷ 0 ∷ 4 ∷ 237 ∷ 190 ∷ 219 ∷ 0 ∷ [])); lent = unpackLent (replicate 32 6) (replicate 1024 (place 3 1 2 true)); answer = refusal 19; left = unpackLent ((0 ∷ 0 ∷ 0 ∷ 0 ∷ 0 ∷ 0 ∷ []) ++ replicate 26 6) (replicate 1024 (place 0 0 0 false)) }
     ∷
     -- five fill bits, the first is one: refusal 19
     record { bytes = ((1 ∷ 0 ∷ 8 ∷ 0 ∷ 3 ∷ 0 ∷ 2 ∷ 0 ∷ 3 ∷ 0 ∷ 1 ∷ 2 ∷ 0 ∷ 1 ∷ 245 ∷ [])); lent = unpackLent (replicate 32 6) (replicate 1024 (place 3 1 2 true)); answer = refusal 19; left = unpackLent ((0 ∷ 0 ∷ 0 ∷ 0 ∷ 0 ∷ 0 ∷ []) ++ replicate 26 6) (replicate 1024 (place 0 0 0 false)) }
@@ -560,6 +560,15 @@ callRows =
     ∷
     -- the second loop of a split goes on, the first waits as the latest of two
     record { rooms = rooms 180 1024; calls = begin (counts 60 60 60 9) ∷ operate Start ∷ operate New ∷ operate Border ∷ operate New ∷ operate (Split 2) ∷ operate New ∷ operate New ∷ operate Border ∷ operate New ∷ operate (Split 3) ∷ []; told = accepted ∷ triangle (tri 0 1 2) ∷ triangle (tri 1 0 3) ∷ no-triangle ∷ triangle (tri 2 1 4) ∷ triangle (tri 2 4 3) ∷ triangle (tri 2 3 5) ∷ triangle (tri 2 5 6) ∷ no-triangle ∷ triangle (tri 0 2 7) ∷ triangle (tri 0 7 6) ∷ []; machine = ((8 ∷ 17 ∷ 10 ∷ 3 ∷ 1 ∷ 0 ∷ 0 ∷ 0 ∷ 1 ∷ 2 ∷ 1 ∷ 0 ∷ 3 ∷ 2 ∷ 1 ∷ 4 ∷ 2 ∷ 4 ∷ 3 ∷ 2 ∷ 3 ∷ 5 ∷ 2 ∷ 5 ∷ 6 ∷ 0 ∷ 2 ∷ 7 ∷ 0 ∷ 7 ∷ 6 ∷ 3 ∷ 7 ∷ 1 ∷ 6 ∷ 0 ∷ 2 ∷ 1 ∷ 4 ∷ 6 ∷ 1 ∷ 0 ∷ 1 ∷ 3 ∷ 1 ∷ 5 ∷ 1 ∷ 3 ∷ 4 ∷ 1 ∷ 3 ∷ 0 ∷ 1 ∷ 1 ∷ [])); borders = ((6 ∷ 2 ∷ 3 ∷ 1 ∷ [])) }
+    ∷
+    -- 17: a vertex too many
+    record { rooms = rooms 27 1024; calls = begin (counts 3 9 9 9) ∷ operate Start ∷ operate New ∷ []; told = accepted ∷ triangle (tri 0 1 2) ∷ refusal 17 ∷ []; machine = ((3 ∷ 3 ∷ 3 ∷ 1 ∷ 1 ∷ 0 ∷ 0 ∷ 0 ∷ 1 ∷ 2 ∷ 3 ∷ 0 ∷ 1 ∷ 1 ∷ 1 ∷ 2 ∷ 1 ∷ [])); borders = [] }
+    ∷
+    -- 17: a triangle too many
+    record { rooms = rooms 27 1024; calls = begin (counts 9 1 9 9) ∷ operate Start ∷ operate New ∷ []; told = accepted ∷ triangle (tri 0 1 2) ∷ refusal 17 ∷ []; machine = ((3 ∷ 3 ∷ 3 ∷ 1 ∷ 1 ∷ 0 ∷ 0 ∷ 0 ∷ 1 ∷ 2 ∷ 3 ∷ 0 ∷ 1 ∷ 1 ∷ 1 ∷ 2 ∷ 1 ∷ [])); borders = [] }
+    ∷
+    -- 17: a place too many
+    record { rooms = rooms 27 1024; calls = begin (counts 9 9 3 9) ∷ operate Start ∷ operate New ∷ []; told = accepted ∷ triangle (tri 0 1 2) ∷ refusal 17 ∷ []; machine = ((3 ∷ 3 ∷ 3 ∷ 1 ∷ 1 ∷ 0 ∷ 0 ∷ 0 ∷ 1 ∷ 2 ∷ 3 ∷ 0 ∷ 1 ∷ 1 ∷ 1 ∷ 2 ∷ 1 ∷ [])); borders = [] }
     ∷
     []
 

@@ -4,13 +4,12 @@
 use Prim.Native.Nat.{ℕ}
 use mathlib.Core.Bool.{Bool, true, false, _&&_}
 use mathlib.Core.List.{List, [], _∷_, _++_}
-use lib.ListN.{length, replicate}
+use lib.ListN.{length}
 use lib.Dec.{eqb}
 use lib.IntN.{ℤ, pos, negsuc}
 use Rattle.rules.specs.declared.Counts.{Counts}
 use Rattle.rules.specs.declared.Place.{Place}
 use Rattle.rules.specs.declared.Totals.{Totals}
-use Rattle.rules.specs.declared.Model.{Model}
 use Rattle.rules.specs.Triangle.{Edge}
 use Rattle.rules.specs.Count.{num}
 use Rattle.rules.specs.Ring.{Ring, vertex, isOpen}

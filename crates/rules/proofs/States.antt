@@ -1,7 +1,7 @@
 -- States for 21: one that passes, and for each clause of its sentence one that does not; and the view of the one that passes.
 -- The second program has no such states, so what is expected here is written by hand, from the rule's sentence.
 -- Assumes nothing.
-use Prim.Native.Nat.{ℕ, zero, suc}
+use Prim.Native.Nat.{ℕ}
 use mathlib.Core.Bool.{Bool, true, false, _&&_, not}
 use mathlib.Core.List.{List, [], _∷_, _++_}
 use lib.ListN.{replicate}
@@ -17,7 +17,7 @@ use Rattle.rules.specs.Ring.{allOpen, vertexAt, lastOpen, lastVertex, fr
 use Rattle.rules.specs.Table.{allowed, inOrder, atEdge, atRest, effect}
 use Rattle.rules.specs.Machine.{test, done, beginning}
 use Rattle.rules.specs.Unpack.{numbersOf}
-use Rattle.rules.specs.Book.{Call, begin, operate, emptyBook, afterAll}
+use Rattle.rules.specs.Book.{begin, operate, emptyBook, afterAll}
 use Rattle.rules.specs.Buffer.{freePlace}
 use Rattle.rules.specs.View.{follow, followed, nodes, loopsOf, trianglesBuilt, view}
 use Rattle.rules.specs.Test21.{placesOf, sizesOf, apart, placesFit, loopsFit, linksFit, sound}

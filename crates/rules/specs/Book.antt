@@ -1,6 +1,5 @@
 -- The book (a term of the rules): the machine and the edges declared border; and lists of calls.
 -- Assumes nothing.
-use Prim.Native.Nat.{ℕ}
 use mathlib.Core.Bool.{Bool, true, false}
 use mathlib.Core.List.{List, [], _∷_}
 use Rattle.rules.specs.declared.Counts.{Counts}

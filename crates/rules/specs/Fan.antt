@@ -24,7 +24,7 @@ about v (t ∷ ts) =
       ]
     ]
 
--- two triangles v x y and v z w share an edge at v
+-- two triangles v x y and v z w share an edge at v, one way round in the one and the other way in the other (5 comes before 7)
 abbrev pub Shares : Edge → Edge → Type 0
 Shares d e = (d .to ≡ e .from) ⊎ (e .to ≡ d .from)
 

@@ -1,12 +1,12 @@
 -- The abstract machine: what the book (a term of the rules) holds but the edges declared border, on which no answer depends;
 -- and the three kinds of call on it, with their refusals.
 -- Assumes nothing.
-use Prim.Native.Nat.{ℕ, zero, suc, _+_, _*_, max}
+use Prim.Native.Nat.{ℕ, _+_, _*_, max}
 use mathlib.Core.Bool.{Bool, true, false, _&&_}
 use mathlib.Core.List.{List, [], _∷_}
 use lib.ListN.{length}
 use lib.Dec.{eqb, leb}
-use lib.IntN.{ℤ, pos, _+ℤ_, _-ℤ_}
+use lib.IntN.{pos, _+ℤ_, _-ℤ_}
 use Rattle.rules.specs.declared.Triangle.{Triangle}
 use Rattle.rules.specs.declared.Counts.{Counts}
 use Rattle.rules.specs.declared.Operation.{Operation}
@@ -45,38 +45,33 @@ empty s = record {
   rims = 0;
 }
 
-abbrev pub isFresh : Side → ℕ
-isFresh glued = 0
-isFresh fresh = 1
+-- how many new edges a side is
+abbrev pub freshSides : Side → ℕ
+freshSides glued = 0
+freshSides fresh = 1
 
--- both peaks are taken after the operation
-abbrev pub afterBuild : Machine → List Ring → Triangle → Side → Side → Side → ℕ → ℕ → ℕ → Machine
-afterBuild m ls t pq qr rp n s k = record {
+-- the machine with these loops and counts; both peaks are taken after the operation
+abbrev pub machineAfter : Machine → List Ring → List Triangle → ℕ → ℕ → ℕ → ℕ → ℕ → Machine
+machineAfter m ls ts v e s k r = record {
   stated = m .stated;
-  triangles = t ∷ m .triangles;
+  triangles = ts;
   loops = ls;
-  used = m .used + n;
+  used = v;
   mostPlaces = max (m .mostPlaces) (places ls);
   mostLoops = max (m .mostLoops) (length ls);
-  edges = m .edges + (isFresh pq + isFresh qr + isFresh rp);
-  starts = m .starts + s;
-  unions = m .unions + k;
-  rims = m .rims;
+  edges = e;
+  starts = s;
+  unions = k;
+  rims = r;
 }
+
+abbrev pub afterBuild : Machine → List Ring → Triangle → Side → Side → Side → ℕ → ℕ → ℕ → Machine
+afterBuild m ls t pq qr rp n s k =
+    machineAfter m ls (t ∷ m .triangles) (m .used + n) (m .edges + (freshSides pq + freshSides qr + freshSides rp)) (m .starts + s)
+    (m .unions + k) (m .rims)
 
 abbrev pub afterMark : Machine → List Ring → ℕ → Machine
-afterMark m ls rim = record {
-  stated = m .stated;
-  triangles = m .triangles;
-  loops = ls;
-  used = m .used;
-  mostPlaces = max (m .mostPlaces) (places ls);
-  mostLoops = max (m .mostLoops) (length ls);
-  edges = m .edges;
-  starts = m .starts;
-  unions = m .unions;
-  rims = m .rims + rim;
-}
+afterMark m ls rim = machineAfter m ls (m .triangles) (m .used) (m .edges) (m .starts) (m .unions) (m .rims + rim)
 
 -- what a call comes to: a refusal; a beginning; an operation's triangle, or the edge that it declares border; a finish's numbers
 pub data Step : Type 0 where

@@ -17,7 +17,7 @@ use Rattle.rules.specs.Answer.{Answer, refusal, packed}
 use Rattle.rules.specs.Bits.{bytesOf}
 use Rattle.rules.specs.Code.{operationsBits}
 use Rattle.rules.specs.Fields.{packBytes}
-use Rattle.rules.specs.Choice.{Packing, Next, ended, refuses, takes, choose}
+use Rattle.rules.specs.Choice.{Packing, ended, refuses, takes, choose}
 use Rattle.rules.specs.Buffer.{over, zeroed, cleared}
 
 -- a whole list's operations with the packing after the last of them, or 9 or 10

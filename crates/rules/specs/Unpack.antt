@@ -1,6 +1,6 @@
 -- The list of a pack: 12 to 20, and what each buffer holds afterwards.
 -- Assumes nothing.
-use Prim.Native.Nat.{ℕ, zero, suc, _+_, _*_}
+use Prim.Native.Nat.{ℕ, zero, suc, _*_}
 use mathlib.Core.Bool.{Bool, true, false, _&&_}
 use mathlib.Core.List.{List, [], _∷_, _++_}
 use lib.ListN.{length}
@@ -9,12 +9,10 @@ use Rattle.rules.specs.declared.Triangle.{Triangle}
 use Rattle.rules.specs.declared.Counts.{Counts}
 use Rattle.rules.specs.declared.Place.{Place}
 use Rattle.rules.specs.declared.Totals.{Totals}
-use Rattle.rules.specs.declared.Model.{Model}
-use Rattle.rules.specs.Limits.{inRange}
 use Rattle.rules.specs.Machine.{Machine, empty, Step, refused, begun, built, declared, finished, operation, complete, Rooms, beginning, ending}
 use Rattle.rules.specs.Answer.{Answer, refusal, unpacked}
 use Rattle.rules.specs.Bits.{bitsOfBytes, allZero}
-use Rattle.rules.specs.Code.{Read, breaks-off, read, readOperation}
+use Rattle.rules.specs.Code.{breaks-off, read, readOperation}
 use Rattle.rules.specs.Fields.{Fields, no-pack, fields, fieldsOf}
 use Rattle.rules.specs.Buffer.{over, zeroed, cleared}
 

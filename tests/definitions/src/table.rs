@@ -135,7 +135,7 @@ fn unpackings() -> Vec<(String, String)> {
         ("18 before 19: M10 with a vertex too many", "0100080006000400060002020003e04008", 12, 1_024),
         ("a field after tag 02", "0100080003000100030001020002edb0030000", 32, 1_024),
         ("counts of 4,096, 8,192, 1,024 and 100, and no operations", "0100081000200004000064020000", 24_576, 1_024),
-        ("eight fill bits", "0100080003000200030001020002f400", 32, 1_024),
+        ("eight bits left over", "0100080006000200030001020004edbedb00", 32, 1_024),
         ("five fill bits, the first is one", "0100080003000200030001020001f5", 32, 1_024),
     ] {
         rows.push(unpack_row(name, hex, triangles, places));

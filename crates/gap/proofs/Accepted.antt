@@ -1,0 +1,71 @@
+-- A list that is accepted by the tests 1 to 7 has no directed edge twice and one fan at each vertex, so the packer packs it.
+-- Assumes nothing.
+use Prim.Native.Nat.{ℕ, _<_}
+use mathlib.Core.Bool.{Bool, true, false}
+use mathlib.Core.List.{List, [], _∷_}
+use mathlib.Core.Path.{_≡_, refl, sym, subst}
+use lib.Dec.{ltb}
+use borrow.Author.Tests.{ltb-true}
+use Rattle.rules.specs.declared.Triangle.{Triangle}
+use Rattle.rules.specs.declared.Checked.{Checked}
+use Rattle.rules.specs.declared.Checked.the-variants.{Accepted, Refused}
+use Rattle.rules.specs.Limits.{vertexRange}
+use Rattle.rules.specs.Triangle.{trianglesOf, corners, edgesOf}
+use Rattle.rules.specs.Fan.{oneFanEach}
+use Rattle.rules.specs.Check.{sizeFits, allBelow, allDistinct, noneTwice, allUsed, passes, checkTriangles, check}
+use Rattle.rules.specs.Pack.{Most, nothingBuilt, chosenFor}
+use Rattle.gap.specs.Turn.{at-p, at-q, at-r, In, here, there, Once, FanAt}
+use Rattle.gap.proofs.Bools.{and-true}
+use Rattle.gap.proofs.Uses.{once-of}
+use Rattle.gap.proofs.Fans.{fans-of}
+use Rattle.gap.proofs.Whole.{Ends, packs-whole}
+
+abbrev isAccepted : Checked → Type 0
+isAccepted Accepted = Unit {0}
+isAccepted (Refused n) = ⊥
+
+passed : (t : Bool) (n : ℕ) (c : Checked) → passes t n c ≡ Accepted → (t ≡ true) × (c ≡ Accepted)
+unfolding passes
+passed true n c h = (refl, h)
+passed false n c h = absurd (subst isAccepted (sym h) tt)
+
+-- 3: all vertices are below v
+below-of : (v : ℕ) (xs : List ℕ) → allBelow v xs ≡ true → (x y z : ℕ) → In x y z (trianglesOf xs) → x < v
+unfolding allBelow trianglesOf
+below-of v (a ∷ (b ∷ (c ∷ xs))) h x y z i =
+    let ha = and-true (ltb a v) (allBelow v (b ∷ (c ∷ xs))) h in
+    let hb = and-true (ltb b v) (allBelow v (c ∷ xs)) (ha .1) in
+    let hc = and-true (ltb c v) (allBelow v xs) (hb .1) in
+    go (below-of v xs (hc .1) x y z) (ltb-true a v (ha .0)) (ltb-true b v (hb .0)) (ltb-true c v (hc .0)) i
+  where
+    go : (In x y z (trianglesOf xs) → x < v) → a < v → b < v → c < v → In x y z (record { p = a; q = b; r = c } ∷ trianglesOf xs) → x < v
+    go ih la lb lc (here (at-p e f g)) = subst (λ (w : ℕ). w < v) e la
+    go ih la lb lc (here (at-q e f g)) = subst (λ (w : ℕ). w < v) e lb
+    go ih la lb lc (here (at-r e f g)) = subst (λ (w : ℕ). w < v) e lc
+    go ih la lb lc (there j) = ih j
+
+pub record Sound (v : ℕ) (ts : List Triangle) : Type 0 where
+  pub once : Once ts
+  pub fans : (c : ℕ) → FanAt ts c
+  pub below : (x y z : ℕ) → In x y z ts → x < v
+
+-- 1 to 7
+pub accepted-sound : (v : ℕ) (xs : List ℕ) → check v xs ≡ Accepted → Sound v (trianglesOf xs)
+unfolding check checkTriangles
+accepted-sound v xs h =
+    let ts = trianglesOf xs in
+    let h1 = passed (sizeFits xs) 1 _ h in
+    let h2 = passed (vertexRange v) 2 _ (h1 .1) in
+    let h3 = passed (allBelow v xs) 3 _ (h2 .1) in
+    let h4 = passed (allDistinct ts) 4 _ (h3 .1) in
+    let h5 = passed (noneTwice (edgesOf ts)) 5 _ (h4 .1) in
+    let h6 = passed (allUsed v (corners ts)) 6 _ (h5 .1) in
+    let h7 = passed (oneFanEach v ts) 7 _ (h6 .1) in
+    let o = once-of ts (h4 .0) (h5 .0) in
+    let b = below-of v xs (h3 .0) in
+    record { once = o; fans = fans-of v ts o (h7 .0) b; below = b }
+
+-- the packing of an accepted list is stopped by 9 or 10, or it is complete
+pub accepted-packs : (h : Most) (v : ℕ) (xs : List ℕ) → check v xs ≡ Accepted
+    → Ends (nothingBuilt h (trianglesOf xs)) [] [] (chosenFor h (trianglesOf xs))
+accepted-packs h v xs a = let s = accepted-sound v xs a in packs-whole h (trianglesOf xs) (s .once) (s .fans)

@@ -1,0 +1,265 @@
+-- One step of the packer: nothing is left to do, or it takes an operation that the table and the edge rule allow, after which
+-- what packing keeps holds again and there is less left to do.
+-- Assumes nothing.
+use Prim.Native.Nat.{ℕ, zero, suc, _+_, _-_, _*_, _<_}
+use native.Mathlib.Omega.{arith}
+use mathlib.Core.Bool.{Bool, true, false}
+use mathlib.Core.List.{List, [], _∷_, _++_}
+use mathlib.Core.Path.{_≡_, refl, sym, ap, _∙_, subst}
+use mathlib.Core.Logic.{_⊎_, inl, inr}
+use lib.ListN.{length}
+use lib.Dec.{eqb}
+use Rattle.rules.specs.declared.Triangle.{Triangle}
+use Rattle.rules.specs.declared.Across.the-variants.{Found, Nothing}
+use Rattle.rules.specs.declared.Operation.{Operation}
+use Rattle.rules.specs.declared.Operation.the-variants.{New, Forward, Backward, Border, Split, Close, Start}
+use Rattle.rules.specs.Triangle.{Edge, edge}
+use Rattle.rules.specs.Across.{across}
+use Rattle.rules.specs.Ring.{Node, opened, Ring, vertex, isOpen}
+use Rattle.rules.specs.Table.{marks, atEdge}
+use Rattle.rules.specs.Choice.{Packing, has, dropTriangle, turnIn, turnOut, Spot, nowhere, spot, spotOf, operationFor, sizeOf, following, choosePlace, packingAfter, limited, taking, chooseAt, chooseIn, choose}
+use Rattle.gap.specs.Turn.{Rotated, at-p, at-q, at-r, In, here, Unused, Once, FanAt}
+use Rattle.gap.specs.Trace.{triangleAt, afterBorder, withRing}
+use Rattle.gap.specs.Tally.{newNumbers, allOpenEdges}
+use Rattle.gap.proofs.Links.{in-next}
+use Rattle.gap.proofs.Turning.{others, others-length, Finds, across-some, across-none}
+use Rattle.gap.proofs.Effects.{built, allows, border-marks}
+use Rattle.gap.proofs.Standing.{legal-used}
+use Rattle.gap.proofs.Steps.{Keeps, Packed}
+use Rattle.gap.proofs.Bordering.{withRim, rimOf, border-free}
+use Rattle.gap.proofs.Starting.{all-built}
+use Rattle.gap.proofs.Taking.{corners}
+use Rattle.gap.proofs.Progress.{AllGood, Goes, by-start, by-build, by-border, progress}
+use Rattle.gap.proofs.Runs.{Run, r-start, r-build, r-border}
+use Rattle.gap.proofs.Falling.{build-opens, border-opens}
+use Rattle.gap.proofs.Numbering.{Met, Numbered, not-met, numbered-old, numbered-new, numbered-start}
+use Rattle.gap.proofs.Dropping.{drop-others}
+
+-- a packing under way, with the triangles built so far and the rims that have ended
+pub record Fits (s : Packing) (B : List Triangle) (rims : List Ring) : Type 0 where
+  pub keeps : Keeps (s .mesh) (s .left) B (s .loops) rims
+  pub good : AllGood (s .loops)
+  pub numbers : Numbered (s .numbered) B
+
+-- what is left to do
+abbrev pub labour : Packing → ℕ
+labour s = 4 * length (s .left) + allOpenEdges (s .loops)
+
+-- what the packer's three branches come to
+choose-border : (s : Packing) (e f : Node) (ps : List Node) (ws ls : List Ring) (d : Edge) (n : ℕ) → s .loops ≡ (e ∷ (f ∷ ps)) ∷ ws
+    → across (vertex f) (vertex e) (s .mesh) ≡ Nothing → atEdge Border 0 (vertex e) (f ∷ ps) ws ≡ marks ls d n
+    → choose s ≡ limited Border (packingAfter s (s .left) (s .numbered) ls)
+unfolding chooseIn chooseAt taking
+choose-border s e f ps ws ls d n l h k = rw (l, chooseIn, chooseAt, h, k) refl
+
+choose-new : (s : Packing) (e f : Node) (ps : List Node) (ws ls : List Ring) (ts : List Triangle) (c n k : ℕ) → s .loops ≡ (e ∷ (f ∷ ps)) ∷ ws
+    → across (vertex f) (vertex e) (s .mesh) ≡ Found n k c → dropTriangle (vertex f) (vertex e) (s .left) ≡ ts → has c (s .numbered) ≡ false
+    → atEdge New c (vertex e) (f ∷ ps) ws ≡ built New e f ls c
+    → choose s ≡ limited New (packingAfter s ts (s .numbered ++ (c ∷ [])) ls)
+unfolding chooseIn chooseAt taking
+choose-new s e f ps ws ls ts c n k l h d u b = rw (l, chooseIn, chooseAt, h, u, d, b) refl
+
+choose-old : (s : Packing) (e f : Node) (ps : List Node) (ws ls : List Ring) (ts : List Triangle) (o : Operation) (c n k : ℕ) → s .loops ≡ (e ∷ (f ∷ ps)) ∷ ws
+    → across (vertex f) (vertex e) (s .mesh) ≡ Found n k c → dropTriangle (vertex f) (vertex e) (s .left) ≡ ts → has c (s .numbered) ≡ true
+    → choosePlace (vertex e) (vertex f) c ts ((e ∷ (f ∷ ps)) ∷ ws) ≡ o → atEdge o c (vertex e) (f ∷ ps) ws ≡ built o e f ls c
+    → choose s ≡ limited o (packingAfter s ts (s .numbered) ls)
+unfolding chooseIn chooseAt taking
+choose-old s e f ps ws ls ts o c n k l h d u q b = rw (l, chooseIn, chooseAt, h, u, d, q, b) refl
+
+choose-start : (s : Packing) (t : Triangle) (ts : List Triangle) → s .loops ≡ [] → s .left ≡ t ∷ ts
+    → choose s
+    ≡ limited Start (packingAfter s ts (s .numbered ++ (t .p ∷ (t .q ∷ (t .r ∷ [])))) ((opened (t .p) ∷ (opened (t .q) ∷ (opened (t .r) ∷ []))) ∷ []))
+unfolding chooseIn
+choose-start s t ts l h = rw (l, h, chooseIn) refl
+
+-- the place that is chosen never gives the operation new
+no-new-for : (k l i : ℕ) → newNumbers (operationFor k l i) ≡ 0
+no-new-for k zero i = go (eqb k 3) (eqb i 2) (eqb (i + 1) k)
+  where
+    go : (u v w : Bool) → newNumbers (elim u [ true ↦ Close | false ↦ elim v [ true ↦ Forward | false ↦ elim w [ true ↦ Backward | false ↦ Split (i - 1) ] ] ]) ≡ 0
+    go true v w = refl
+    go false true w = refl
+    go false false true = refl
+    go false false false = refl
+no-new-for k (suc l) i = refl
+
+no-new : (a b c : ℕ) (ts : List Triangle) (ls : List Ring) → newNumbers (choosePlace a b c ts ls) ≡ 0
+unfolding choosePlace
+no-new a b c ts ls = go (spotOf 0 (turnIn (length ts) c b ts) c ls) (spotOf 0 c (turnOut (length ts) c a ts) ls)
+  where
+    go : (m n : Spot) → newNumbers (elim m [
+      | spot l i ↦ operationFor (sizeOf ls 0) l (following (sizeOf ls l) i)
+      | nowhere ↦ elim n [ spot l i ↦ operationFor (sizeOf ls 0) l i | nowhere ↦ Border ]
+    ]) ≡ 0
+    go (spot l i) n = no-new-for (sizeOf ls 0) l (following (sizeOf ls l) i)
+    go nowhere (spot l i) = no-new-for (sizeOf ls 0) l i
+    go nowhere nowhere = refl
+
+-- the packer goes on: with the operation o, which is one of a run of the machine
+pub record GoesOn (s : Packing) (B : List Triangle) (rims : List Ring) : Type 0 where
+  pub o : Operation
+  pub after : Packing
+  pub built-after : List Triangle
+  pub rims-after : List Ring
+  pub chooses : choose s ≡ limited o after
+  pub mesh : after .mesh ≡ s .mesh
+  pub fits : Fits after built-after rims-after
+  pub falls : labour after < labour s
+  pub runs : {M : List Triangle} {os : List Operation} {R : List Triangle} → Run M built-after rims-after (after .loops) os R
+      → (R′ : List Triangle) × Run M B rims (s .loops) (o ∷ os) R′
+
+run-at : {M B : List Triangle} {rims ls ls′ : List Ring} {os : List Operation} {R : List Triangle} → ls ≡ ls′ → Run M B rims ls′ os R → Run M B rims ls os R
+run-at {M} {B} {rims} {os = os} {R = R} e run = subst (λ (l : List Ring). Run M B rims l os R) (sym e) run
+
+module _ (s : Packing) (B : List Triangle) (rims : List Ring) (fit : Fits s B rims) (fan : (c : ℕ) → FanAt (s .mesh) c) where
+  goes-start : (t : Triangle) (R : List Triangle) → s .left ≡ t ∷ R → s .loops ≡ []
+      → Keeps (s .mesh) R (t ∷ B) ((opened (t .p) ∷ (opened (t .q) ∷ (opened (t .r) ∷ []))) ∷ []) rims
+      → AllGood ((opened (t .p) ∷ (opened (t .q) ∷ (opened (t .r) ∷ []))) ∷ []) → GoesOn s B rims
+  goes-start t R h l k g = record {
+    o = Start;
+    after = packingAfter s R (s .numbered ++ (t .p ∷ (t .q ∷ (t .r ∷ [])))) ((opened (t .p) ∷ (opened (t .q) ∷ (opened (t .r) ∷ []))) ∷ []);
+    built-after = t ∷ B;
+    rims-after = rims;
+    chooses = choose-start s t R l h;
+    mesh = refl;
+    fits = record { keeps = k; good = g; numbers = numbered-start (s .numbered) B t (fit .numbers) };
+    falls = let n : length (s .left) ≡ suc (length R) = ap length h in omega arith;
+    runs = λ run. goes run;
+  }
+    where
+      before : Keeps (s .mesh) (t ∷ R) B [] rims
+      before = subst (λ (ls : List Ring). Keeps (s .mesh) (t ∷ R) B ls rims) l (subst (λ (ts : List Triangle). Keeps (s .mesh) ts B (s .loops) rims) h (fit .keeps))
+
+      here-once : Once (t ∷ R)
+      here-once = before .once
+
+      none : (x y z : ℕ) → Rotated t x y z → (m n : ℕ) → In x m n B → ⊥
+      none x y z r m n j = all-built (s .mesh) (t ∷ R) B rims before fan x y z m n (here r) j
+
+      goes : {M : List Triangle} {os : List Operation} {R′ : List Triangle} → Run M (t ∷ B) rims ((opened (t .p) ∷ (opened (t .q) ∷ (opened (t .r) ∷ []))) ∷ []) os R′
+          → (R″ : List Triangle) × Run M B rims (s .loops) (Start ∷ os) R″
+      goes {M} {os} {R′} run = (
+        t ∷ R′,
+        run-at l
+            (r-start (none (t .p) (t .q) (t .r) (at-p refl refl refl)) (none (t .q) (t .r) (t .p) (at-q refl refl refl)) (none (t .r) (t .p) (t .q) (at-r refl refl refl))
+            (here-once .1) run),
+      )
+
+  goes-border : (e f : Node) (ps : List Node) (ws : List Ring) → s .loops ≡ (e ∷ (f ∷ ps)) ∷ ws → Unused (vertex f) (vertex e) (s .left)
+      → Keeps (s .mesh) (s .left) B (withRing (afterBorder e f ps) ws) (withRim (afterBorder e f ps) (rimOf e f ps) rims)
+      → AllGood (withRing (afterBorder e f ps) ws) → GoesOn s B rims
+  goes-border e f ps ws l u k g = record {
+    o = Border;
+    after = packingAfter s (s .left) (s .numbered) (withRing (afterBorder e f ps) ws);
+    built-after = B;
+    rims-after = withRim (afterBorder e f ps) (rimOf e f ps) rims;
+    chooses =
+        choose-border s e f ps ws (withRing (afterBorder e f ps) ws) (edge (vertex e) (vertex f)) (mark .0) l (across-none (vertex f) (vertex e) (s .mesh) free) (mark .1);
+    mesh = refl;
+    fits = record { keeps = k; good = g; numbers = fit .numbers };
+    falls = let h = border-opens e f ps ws live in let n : allOpenEdges (s .loops) ≡ allOpenEdges ((e ∷ (f ∷ ps)) ∷ ws) = ap allOpenEdges l in omega arith;
+    runs = λ {M} {os} {R} run. (R, run-at l (r-border live run));
+  }
+    where
+      before : Keeps (s .mesh) (s .left) B ((e ∷ (f ∷ ps)) ∷ ws) rims
+      before = subst (λ (ls : List Ring). Keeps (s .mesh) (s .left) B ls rims) l (fit .keeps)
+
+      live : isOpen e ≡ true
+      live = subst AllGood l (fit .good) .0 .0
+
+      free : Unused (vertex f) (vertex e) (s .mesh)
+      free = border-free (s .mesh) (s .left) B e f ps ws rims before u
+
+      mark : (n : ℕ) × (atEdge Border 0 (vertex e) (f ∷ ps) ws ≡ marks (withRing (afterBorder e f ps) ws) (edge (vertex e) (vertex f)) n)
+      mark = border-marks 0 e f ps ws
+
+  goes-build : (e f : Node) (ps : List Node) (ws : List Ring) (c : ℕ) (i : In (vertex f) (vertex e) c (s .left)) → s .loops ≡ (e ∷ (f ∷ ps)) ∷ ws
+      → (p : Packed (s .mesh) (others i) B e f ps ws rims c)
+      → (((m n : ℕ) → In c m n B → ⊥) × (p .o ≡ New))
+      ⊎ (((m : ℕ) × (n : ℕ) × In c m n B) × (choosePlace (vertex e) (vertex f) c (others i) ((e ∷ (f ∷ ps)) ∷ ws) ≡ p .o))
+      → AllGood (p .ls) → GoesOn s B rims
+  goes-build e f ps ws c i l p w g = by w
+    where
+      before : Keeps (s .mesh) (s .left) B ((e ∷ (f ∷ ps)) ∷ ws) rims
+      before = subst (λ (ls : List Ring). Keeps (s .mesh) (s .left) B ls rims) l (fit .keeps)
+
+      live : isOpen e ≡ true
+      live = subst AllGood l (fit .good) .0 .0
+
+      found : Finds (vertex f) (vertex e) c (s .mesh)
+      found = across-some (vertex f) (vertex e) c (s .mesh) (fit .keeps .onceM) (fit .keeps .subR _ _ _ i)
+
+      dropped : dropTriangle (vertex f) (vertex e) (s .left) ≡ others i
+      dropped = drop-others (vertex f) (vertex e) c (s .left) i (fit .keeps .once)
+
+      does : atEdge (p .o) c (vertex e) (f ∷ ps) ws ≡ built (p .o) e f (p .ls) c
+      does = allows (p .o) e f ps ws (p .ls) c (p .does)
+
+      edge-used : (z : ℕ) × In (vertex e) (vertex f) z B
+      edge-used = legal-used B ((e ∷ (f ∷ ps)) ∷ ws) rims (before .legal) .0 .0 .1
+
+      met-e : Met (vertex e) B
+      met-e = (vertex f, edge-used .0, edge-used .1)
+
+      met-f : Met (vertex f) B
+      met-f = (edge-used .0, vertex e, in-next (edge-used .1))
+
+      less : 4 * length (others i) + allOpenEdges (p .ls) < labour s
+      less =
+          let h = build-opens e f ps ws (p .ls) c (p .o) (p .does) in
+          let n = others-length i in
+          let m : allOpenEdges (s .loops) ≡ allOpenEdges ((e ∷ (f ∷ ps)) ∷ ws) = ap allOpenEdges l in
+          omega arith
+
+      apart : ((vertex e ≡ vertex f) → ⊥) × ((vertex f ≡ c) → ⊥) × ((c ≡ vertex e) → ⊥)
+      apart = let d = corners (s .left) i (fit .keeps .once) in (λ h. d .0 (sym h), λ h. d .2 (sym h), λ h. d .1 (sym h))
+
+      goes : {M : List Triangle} {os : List Operation} {R : List Triangle} → (p .o ≡ New → (m n : ℕ) → In c m n B → ⊥)
+          → Run M (triangleAt e f c ∷ B) rims (p .ls) os R → (R′ : List Triangle) × Run M B rims (s .loops) (p .o ∷ os) R′
+      goes {M} {os} {R} n run = (triangleAt e f c ∷ R, run-at l (r-build live (p .does) (p .ruleA) (p .ruleB) apart n run))
+
+      by : (((m n : ℕ) → In c m n B → ⊥) × (p .o ≡ New))
+          ⊎ (((m : ℕ) × (n : ℕ) × In c m n B) × (choosePlace (vertex e) (vertex f) c (others i) ((e ∷ (f ∷ ps)) ∷ ws) ≡ p .o))
+          → GoesOn s B rims
+      by (inl h) = record {
+        o = p .o;
+        after = packingAfter s (others i) (s .numbered ++ (c ∷ [])) (p .ls);
+        built-after = triangleAt e f c ∷ B;
+        rims-after = rims;
+        chooses =
+            choose-new s e f ps ws (p .ls) (others i) c (found .number) (found .corner) l (found .found) dropped (not-met (s .numbered) B (fit .numbers) c (h .0))
+            (subst (λ (k : Operation). atEdge k c (vertex e) (f ∷ ps) ws ≡ built k e f (p .ls) c) (h .1) does)
+            ∙ ap (λ (k : Operation). limited k (packingAfter s (others i) (s .numbered ++ (c ∷ [])) (p .ls))) (sym (h .1));
+        mesh = refl;
+        fits = record { keeps = p .keeps; good = g; numbers = numbered-new (s .numbered) B (triangleAt e f c) (fit .numbers) met-f met-e };
+        falls = less;
+        runs = λ run. goes (λ q. h .0) run;
+      }
+      by (inr h) = record {
+        o = p .o;
+        after = packingAfter s (others i) (s .numbered) (p .ls);
+        built-after = triangleAt e f c ∷ B;
+        rims-after = rims;
+        chooses =
+            choose-old s e f ps ws (p .ls) (others i) (p .o) c (found .number) (found .corner) l (found .found) dropped (fit .numbers .numbered c (h .0)) (h .1) does;
+        mesh = refl;
+        fits = record { keeps = p .keeps; good = g; numbers = numbered-old (s .numbered) B (triangleAt e f c) (fit .numbers) met-f met-e (h .0) };
+        falls = less;
+        runs = λ run. goes old run;
+      }
+        where
+          old : p .o ≡ New → (m n : ℕ) → In c m n B → ⊥
+          old q =
+              let z = no-new (vertex e) (vertex f) c (others i) ((e ∷ (f ∷ ps)) ∷ ws) in
+              let y : newNumbers (choosePlace (vertex e) (vertex f) c (others i) ((e ∷ (f ∷ ps)) ∷ ws)) ≡ 1 = ap newNumbers (h .1 ∙ q) in
+              absurd (omega arith)
+
+  -- the packer is done, or it goes on
+  pub choose-step : ((s .loops ≡ []) × (s .left ≡ [])) ⊎ GoesOn s B rims
+  choose-step = go (progress (s .mesh) (s .left) B (s .loops) rims (fit .keeps) (fit .good) fan)
+    where
+      go : ((s .loops ≡ []) × (s .left ≡ [])) ⊎ Goes (s .mesh) (s .left) B (s .loops) rims → ((s .loops ≡ []) × (s .left ≡ [])) ⊎ GoesOn s B rims
+      go (inl h) = inl h
+      go (inr (by-start t R h l k g)) = inr (goes-start t R h l k g)
+      go (inr (by-build e f ps ws c i l p w g)) = inr (goes-build e f ps ws c i l p w g)
+      go (inr (by-border e f ps ws l u k g)) = inr (goes-border e f ps ws l u k g)
