@@ -5,7 +5,7 @@ use mathlib.Core.List.{List, [], _∷_}
 use mathlib.Core.Path.{_≡_, refl, sym}
 use Rattle.rules.specs.declared.Counts.{Counts}
 use Rattle.rules.specs.Limits.{inRange}
-use Rattle.rules.specs.Machine.{Machine, empty, Step, refused, begun, built, declared, finished, Rooms, beginning, ending, finish}
+use Rattle.rules.specs.Machine.{Machine, empty, Step, refused, begun, built, declared, finished, Rooms, beginning, finish}
 use Rattle.rules.specs.Book.{Call, begin, operate, end, Book, recounted, emptyBook, entered, after, afterAll, isAccepted}
 use Rattle.book.specs.Consistent.{Consistent, Possible}
 use Rattle.book.specs.Promises.{reached}
@@ -25,7 +25,7 @@ begins-empty r s =
 
 -- a finish changes nothing
 pub finish-same : (b : Book) (m : Machine) → entered b (finish m) ≡ b
-unfolding finish ending
+unfolding finish
 finish-same b m =
     test-law (λ (x : Step). entered b x ≡ b) _ _ _ refl
     (λ i. test-law (λ (x : Step). entered b x ≡ b) _ _ _ refl (λ j. test-law (λ (x : Step). entered b x ≡ b) _ _ _ refl (λ k. refl)))

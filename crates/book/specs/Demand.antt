@@ -39,7 +39,9 @@ pub record Demand (r : Rooms) (S : Service) (Lent Held : S .World → Type 0) (w
   pub consistent : Consistent b
   pub ranges : Ranges (b .machine)
 
--- on every world that is lent, for every accepted beginning and every list of calls after it
+-- On every world that is lent, for every accepted beginning and every list of calls after it. It is the rules' claim where a world
+-- is any state with any two buffers, Lent says their lengths and nothing else, view is the one of rules, Held says that each loop
+-- returns to its first place (so that a ring's last edge is the last place's), and the functions are the service's own.
 abbrev pub WholeDemand : (r : Rooms) (S : Service) (Lent Held : S .World → Type 0) (view : S .World → Machine) → Type 0
 WholeDemand r S Lent Held view = (w : S .World) → Lent w → (s : Counts) → isAccepted (beginning r s) ≡ true → (cs : List Call)
     → Demand r S Lent Held w s cs (view (worldAfter S w (begin s ∷ cs))) (afterAll r (emptyBook s) cs)

@@ -7,9 +7,9 @@ use mathlib.Core.List.{List, [], _∷_}
 use mathlib.Core.Logic.{_↔_}
 use mathlib.Core.Path.{_≡_, refl, sym, _∙_}
 use Rattle.rules.specs.declared.Triangle.{Triangle}
-use Rattle.rules.specs.Triangle.{edgesOf}
+use Rattle.rules.specs.Triangle.{distinct, edgesOf}
 use Rattle.rules.specs.Count.{same, count, uses}
-use Rattle.rules.specs.Check.{distinct, allDistinct, noneTwice}
+use Rattle.rules.specs.Check.{allDistinct, noneTwice}
 use Rattle.fans.specs.Corner.{Rot, at-p, at-q, at-r, Free, Different, Once, sides, sidesOf}
 use Rattle.fans.proofs.Counting.{and-both, same-once, same-no, same-is, hit-from}
 use Rattle.fans.proofs.Corners.{uses-rot, uses-cons, sides-yes, sides-rot, free-unused}

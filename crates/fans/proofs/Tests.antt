@@ -9,9 +9,9 @@ use mathlib.Core.Path.{_≡_, refl, ap}
 use lib.Dec.{eqb, ltb}
 use borrow.Author.Tests.{eqb-true, eqb-false, eq-eqb, ne-eqb, not-true, ltb-true, lt-ltb}
 use Rattle.rules.specs.declared.Triangle.{Triangle}
-use Rattle.rules.specs.Triangle.{Edge}
+use Rattle.rules.specs.Triangle.{distinct, Edge}
 use Rattle.rules.specs.Count.{same, hit, occurs, count}
-use Rattle.rules.specs.Check.{allBelow, distinct, allDistinct, noneTwice, allUsed}
+use Rattle.rules.specs.Check.{allBelow, allDistinct, noneTwice, allUsed}
 use Rattle.fans.specs.Corner.{at-p, In, here, there, Different}
 use Rattle.fans.proofs.Counting.{and-left, and-right, and-both, below-suc, same-yes, same-is, hit-yes, hit-once, hit-is}
 use Rattle.fans.proofs.Corners.{rot-different}

@@ -44,15 +44,15 @@ below-of v (a ∷ (b ∷ (c ∷ xs))) h x y z i =
     go ih la lb lc (here (at-r e f g)) = subst (λ (w : ℕ). w < v) e lc
     go ih la lb lc (there j) = ih j
 
-pub record Sound (v : ℕ) (ts : List Triangle) : Type 0 where
+pub record Packable (v : ℕ) (ts : List Triangle) : Type 0 where
   pub once : Once ts
   pub fans : (c : ℕ) → FanAt ts c
   pub below : (x y z : ℕ) → In x y z ts → x < v
 
 -- 1 to 7
-pub accepted-sound : (v : ℕ) (xs : List ℕ) → check v xs ≡ Accepted → Sound v (trianglesOf xs)
+pub accepted-packable : (v : ℕ) (xs : List ℕ) → check v xs ≡ Accepted → Packable v (trianglesOf xs)
 unfolding check checkTriangles
-accepted-sound v xs h =
+accepted-packable v xs h =
     let ts = trianglesOf xs in
     let h1 = passed (sizeFits xs) 1 _ h in
     let h2 = passed (vertexRange v) 2 _ (h1 .1) in
@@ -68,4 +68,4 @@ accepted-sound v xs h =
 -- the packing of an accepted list is stopped by 9 or 10, or it is complete
 pub accepted-packs : (h : Most) (v : ℕ) (xs : List ℕ) → check v xs ≡ Accepted
     → Ends (nothingBuilt h (trianglesOf xs)) [] [] (chosenFor h (trianglesOf xs))
-accepted-packs h v xs a = let s = accepted-sound v xs a in packs-whole h (trianglesOf xs) (s .once) (s .fans)
+accepted-packs h v xs a = let s = accepted-packable v xs a in packs-whole h (trianglesOf xs) (s .once) (s .fans)

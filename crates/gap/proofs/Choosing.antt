@@ -46,27 +46,27 @@ abbrev pub labour : Packing → ℕ
 labour s = 4 * length (s .left) + allOpenEdges (s .loops)
 
 -- what the packer's three branches come to
-choose-border : (s : Packing) (e f : Node) (ps : List Node) (ws ls : List Ring) (d : Edge) (n : ℕ) → s .loops ≡ (e ∷ (f ∷ ps)) ∷ ws
+pub choose-border : (s : Packing) (e f : Node) (ps : List Node) (ws ls : List Ring) (d : Edge) (n : ℕ) → s .loops ≡ (e ∷ (f ∷ ps)) ∷ ws
     → across (vertex f) (vertex e) (s .mesh) ≡ Nothing → atEdge Border 0 (vertex e) (f ∷ ps) ws ≡ marks ls d n
     → choose s ≡ limited Border (packingAfter s (s .left) (s .numbered) ls)
 unfolding chooseIn chooseAt taking
 choose-border s e f ps ws ls d n l h k = rw (l, chooseIn, chooseAt, h, k) refl
 
-choose-new : (s : Packing) (e f : Node) (ps : List Node) (ws ls : List Ring) (ts : List Triangle) (c n k : ℕ) → s .loops ≡ (e ∷ (f ∷ ps)) ∷ ws
+pub choose-new : (s : Packing) (e f : Node) (ps : List Node) (ws ls : List Ring) (ts : List Triangle) (c n k : ℕ) → s .loops ≡ (e ∷ (f ∷ ps)) ∷ ws
     → across (vertex f) (vertex e) (s .mesh) ≡ Found n k c → dropTriangle (vertex f) (vertex e) (s .left) ≡ ts → has c (s .numbered) ≡ false
     → atEdge New c (vertex e) (f ∷ ps) ws ≡ built New e f ls c
     → choose s ≡ limited New (packingAfter s ts (s .numbered ++ (c ∷ [])) ls)
 unfolding chooseIn chooseAt taking
 choose-new s e f ps ws ls ts c n k l h d u b = rw (l, chooseIn, chooseAt, h, u, d, b) refl
 
-choose-old : (s : Packing) (e f : Node) (ps : List Node) (ws ls : List Ring) (ts : List Triangle) (o : Operation) (c n k : ℕ) → s .loops ≡ (e ∷ (f ∷ ps)) ∷ ws
+pub choose-old : (s : Packing) (e f : Node) (ps : List Node) (ws ls : List Ring) (ts : List Triangle) (o : Operation) (c n k : ℕ) → s .loops ≡ (e ∷ (f ∷ ps)) ∷ ws
     → across (vertex f) (vertex e) (s .mesh) ≡ Found n k c → dropTriangle (vertex f) (vertex e) (s .left) ≡ ts → has c (s .numbered) ≡ true
     → choosePlace (vertex e) (vertex f) c ts ((e ∷ (f ∷ ps)) ∷ ws) ≡ o → atEdge o c (vertex e) (f ∷ ps) ws ≡ built o e f ls c
     → choose s ≡ limited o (packingAfter s ts (s .numbered) ls)
 unfolding chooseIn chooseAt taking
 choose-old s e f ps ws ls ts o c n k l h d u q b = rw (l, chooseIn, chooseAt, h, u, d, q, b) refl
 
-choose-start : (s : Packing) (t : Triangle) (ts : List Triangle) → s .loops ≡ [] → s .left ≡ t ∷ ts
+pub choose-start : (s : Packing) (t : Triangle) (ts : List Triangle) → s .loops ≡ [] → s .left ≡ t ∷ ts
     → choose s
     ≡ limited Start (packingAfter s ts (s .numbered ++ (t .p ∷ (t .q ∷ (t .r ∷ [])))) ((opened (t .p) ∷ (opened (t .q) ∷ (opened (t .r) ∷ []))) ∷ []))
 unfolding chooseIn
@@ -83,7 +83,7 @@ no-new-for k zero i = go (eqb k 3) (eqb i 2) (eqb (i + 1) k)
     go false false false = refl
 no-new-for k (suc l) i = refl
 
-no-new : (a b c : ℕ) (ts : List Triangle) (ls : List Ring) → newNumbers (choosePlace a b c ts ls) ≡ 0
+pub no-new : (a b c : ℕ) (ts : List Triangle) (ls : List Ring) → newNumbers (choosePlace a b c ts ls) ≡ 0
 unfolding choosePlace
 no-new a b c ts ls = go (spotOf 0 (turnIn (length ts) c b ts) c ls) (spotOf 0 c (turnOut (length ts) c a ts) ls)
   where

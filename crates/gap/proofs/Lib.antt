@@ -44,3 +44,11 @@ pub mod Uses
 pub mod Walks
 pub mod Fans
 pub mod Accepted
+pub mod Operating
+pub mod Tracking
+pub mod Following
+pub mod Below
+pub mod Working
+pub mod Allowances
+pub mod Rules
+pub mod Repacking

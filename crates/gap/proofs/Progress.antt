@@ -69,7 +69,7 @@ opens-first ps q qs t =
     let b = length-append (t .us) (opened (t .v) ∷ t .vs) in
     (ap firstOpen (t .turned), ap length (t .turned) ∙ (a ∙ (omega (arith, b) ∙ ap length (sym (t .whole)))))
 
-good-border : (e f : Node) (ps : List Node) (ws : List Ring) → AllGood ((e ∷ (f ∷ ps)) ∷ ws) → (r : List Node) → afterBorder e f ps ≡ r → AllGood (withRing r ws)
+pub good-border : (e f : Node) (ps : List Node) (ws : List Ring) → AllGood ((e ∷ (f ∷ ps)) ∷ ws) → (r : List Node) → afterBorder e f ps ≡ r → AllGood (withRing r ws)
 good-border e f ps ws g [] h = g .1
 good-border e f ps ws g (q ∷ qs) h =
     let r = opens-first (rimOf e f ps) q qs (turned-ring (rimOf e f ps) q qs h) in

@@ -49,7 +49,7 @@ pub data Run (M : List Triangle) : List Triangle → List Ring → List Ring →
 abbrev pub Sound : List Triangle → List Ring → List Ring → Type 0
 Sound B rims ls = (x y : ℕ) → Lawful B (total x y ls + total x y rims) x y
 
-sound-border : (B : List Triangle) (rims ws : List Ring) (e f : Node) (ps : List Node) → Sound B rims ((e ∷ (f ∷ ps)) ∷ ws)
+pub sound-border : (B : List Triangle) (rims ws : List Ring) (e f : Node) (ps : List Node) → Sound B rims ((e ∷ (f ∷ ps)) ∷ ws)
     → Sound B (withRim (afterBorder e f ps) (rimOf e f ps) rims) (withRing (afterBorder e f ps) ws)
 sound-border B rims ws e f ps l x y = subst (λ (n : ℕ). Lawful B n x y) (sym (total-border x y e f ps ws rims (afterBorder e f ps) refl)) (l x y)
 
@@ -132,15 +132,15 @@ trace {M} {B} (r-border {rims = rims} {ws = ws} {e = e} {f = f} {ps = ps} v run)
 
 -- Every step of the run is the packer's choice, if it packs the list `mesh`: the look-up across the current edge finds the triangle
 -- built next; its third vertex c has no triangle yet and the operation is new, or it has one and the place of c is the one chosen.
-abbrev pub Chosen : (mesh : List Triangle) {M B : List Triangle} {rims ls : List Ring} {os : List Operation} {R : List Triangle} → Run M B rims ls os R → Type 0
-Chosen mesh r-done = Unit {0}
-Chosen mesh (r-start np nq nr d run) = Chosen mesh run
-Chosen mesh (r-build {B = B} {ws = ws} {e = e} {f = f} {ps = ps} {c = c} {o = o} {R = R} v s ra rb d new run) =
+abbrev pub Choices : (mesh : List Triangle) {M B : List Triangle} {rims ls : List Ring} {os : List Operation} {R : List Triangle} → Run M B rims ls os R → Type 0
+Choices mesh r-done = Unit {0}
+Choices mesh (r-start np nq nr d run) = Choices mesh run
+Choices mesh (r-build {B = B} {ws = ws} {e = e} {f = f} {ps = ps} {c = c} {o = o} {R = R} v s ra rb d new run) =
     Finds (vertex f) (vertex e) c mesh
     × (((o ≡ New) × ((m n : ℕ) → In c m n B → ⊥))
     ⊎ ((choosePlace (vertex e) (vertex f) c R ((e ∷ (f ∷ ps)) ∷ ws) ≡ o) × ((m : ℕ) × (n : ℕ) × In c m n B)))
-    × Chosen mesh run
-Chosen mesh (r-border {e = e} {f = f} {R = R} v run) = (across (vertex f) (vertex e) mesh ≡ Nothing) × Chosen mesh run
+    × Choices mesh run
+Choices mesh (r-border {e = e} {f = f} {R = R} v run) = (across (vertex f) (vertex e) mesh ≡ Nothing) × Choices mesh run
 
 state-of : (M R B : List Triangle) (ls rims : List Ring) → Facts M R B → Sound B rims ls → State M R B ls
 state-of M R B ls rims k l = record {
@@ -157,7 +157,7 @@ state-of M R B ls rims k l = record {
 module _ (M mesh : List Triangle) (once : Once mesh) (all : (x y z : ℕ) → In x y z M → In x y z mesh) (only : (x y z : ℕ) → In x y z mesh → In x y z M)
     (fan : (c : ℕ) → FanAt M c) where
   pub canonical-run : {B : List Triangle} {rims ls : List Ring} {os : List Operation} {R : List Triangle} (run : Run M B rims ls os R)
-      → Sound B rims ls → Once B → AllMarks M ls → Chosen mesh run
+      → Sound B rims ls → Once B → AllMarks M ls → Choices mesh run
   canonical-run r-done l o m = tt
   canonical-run {B} (r-start {rims = rims} {p = p} {q = q} {r = r} np nq nr d run) l o m =
       canonical-run run (legal-first B rims p q r d np nq nr l) (once-first B p q r np nq nr d o) ((unmarked, (unmarked, (unmarked, tt))), tt)
@@ -184,5 +184,5 @@ module _ (M mesh : List Triangle) (once : Once mesh) (all : (x y z : ℕ) → In
       (border-across M mesh (vertex e) (vertex f) only n, canonical-run run l′ o (marks-after M e f ps ws n m))
 
   -- from the empty book
-  pub canonical-all : {os : List Operation} {R : List Triangle} (run : Run M [] [] [] os R) → Chosen mesh run
+  pub canonical-all : {os : List Operation} {R : List Triangle} (run : Run M [] [] [] os R) → Choices mesh run
   canonical-all run = canonical-run run (λ x y. inl refl) tt tt

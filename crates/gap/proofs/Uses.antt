@@ -9,9 +9,9 @@ use mathlib.Core.Logic.{inl, inr}
 use lib.Dec.{eqb}
 use borrow.Author.Tests.{eqb-true, eqb-false, not-true}
 use Rattle.rules.specs.declared.Triangle.{Triangle}
-use Rattle.rules.specs.Triangle.{Edge, edge, edgesOf}
+use Rattle.rules.specs.Triangle.{distinct, Edge, edge, edgesOf}
 use Rattle.rules.specs.Count.{hit, count, uses, unjoined}
-use Rattle.rules.specs.Check.{distinct, allDistinct, noneTwice}
+use Rattle.rules.specs.Check.{allDistinct, noneTwice}
 use Rattle.gap.specs.Turn.{at-p, at-q, at-r, In, here, there, Unused, Once}
 use Rattle.gap.proofs.Bools.{and-true}
 use Rattle.gap.proofs.Legal.{Counted, counted, hit-here}

@@ -66,7 +66,7 @@ limited-cases : (o : Operation) (s : Packing) → (limited o s ≡ takes o s) �
 unfolding limited
 limited-cases o s = limited-by o s (leb (places (s .loops)) (s .limitPlaces)) (leb (length (s .loops)) (s .limitLoops))
 
-all-ended : (n : ℕ) (s : Packing) → choose s ≡ ended → chooseAll (suc n) s ≡ chosen [] s
+pub all-ended : (n : ℕ) (s : Packing) → choose s ≡ ended → chooseAll (suc n) s ≡ chosen [] s
 unfolding chooseAll
 all-ended n s h = rw (chooseAll, h) refl
 
@@ -74,11 +74,11 @@ all-refused : (n k : ℕ) (s : Packing) → choose s ≡ refuses k → chooseAll
 unfolding chooseAll
 all-refused n k s h = rw (chooseAll, h) refl
 
-all-taken : (n : ℕ) (s s′ : Packing) (o : Operation) → choose s ≡ takes o s′ → chooseAll (suc n) s ≡ cons o (chooseAll n s′)
+pub all-taken : (n : ℕ) (s s′ : Packing) (o : Operation) → choose s ≡ takes o s′ → chooseAll (suc n) s ≡ cons o (chooseAll n s′)
 unfolding chooseAll
 all-taken n s s′ o h = rw (chooseAll, h) refl
 
-choose-ended : (s : Packing) → s .loops ≡ [] → s .left ≡ [] → choose s ≡ ended
+pub choose-ended : (s : Packing) → s .loops ≡ [] → s .left ≡ [] → choose s ≡ ended
 unfolding chooseIn
 choose-ended s l h = rw (l, h, chooseIn) refl
 

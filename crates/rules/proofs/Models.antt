@@ -20,7 +20,7 @@ use Rattle.rules.specs.Across.{inTriangle, across}
 use Rattle.rules.specs.Check.{allBelow, allDistinct, noneTwice, allUsed, passes, checkTriangles, check}
 use Rattle.rules.specs.Ring.{allOpen, vertexAt, lastOpen, lastVertex, front, onward, places, loopAt, without}
 use Rattle.rules.specs.Table.{allowed, inOrder, atEdge, atRest, effect}
-use Rattle.rules.specs.Machine.{test, done, beginning, ending, finish}
+use Rattle.rules.specs.Machine.{test, done, beginning, finish}
 use Rattle.rules.specs.Book.{answers, afterAll, logAll}
 use Rattle.rules.specs.Bits.{bits, valueOf, bitsOfBytes, bytesWithin, readNumber, allZero}
 use Rattle.rules.specs.Code.{operationBits, operationsBits, kindIn, readOperation}
@@ -28,9 +28,9 @@ use Rattle.rules.specs.Fields.{packBytes, takeField, fieldsOf}
 use Rattle.rules.specs.Choice.{has, dropTriangle, turnIn, turnOut, edgeIn, spotOf, choosePlace, limited, taking, chooseAt, chooseIn}
 use Rattle.rules.specs.Buffer.{cleared}
 use Rattle.rules.specs.Pack.{chooseAll, indexOf, newNumbers, packChosen, packChecked}
-use Rattle.rules.specs.Unpack.{runAll, numbersOf, unpackEnded, unpackRun, unpackBegun, unpackFields}
-use Rattle.rules.specs.View.{follow, followed, nodes, loopsOf, trianglesBuilt, view}
-use Rattle.rules.specs.Test21.{placesOf, sizesOf, apart, placesFit, loopsFit, linksFit, sound}
+use Rattle.rules.specs.Unpack.{runAll, numbersOf, unpackRun, unpackFields}
+use Rattle.rules.specs.View.{follow, followed, nodes, placesOf, openAmong, loopsOf, trianglesBuilt, view}
+use Rattle.rules.specs.Test21.{sizesOf, apart, placesFit, loopsFit, linksFit, sound}
 
 unfoldable pub packRows : List PackRow
 packRows =
@@ -196,11 +196,14 @@ packRows =
     -- 10: refusal 10
     record { limits = record { places = 1024; loops = 1 }; vertices = 6; list = ((1 ∷ 3 ∷ 2 ∷ 2 ∷ 4 ∷ 5 ∷ 2 ∷ 3 ∷ 4 ∷ 1 ∷ 0 ∷ 3 ∷ 2 ∷ 5 ∷ 0 ∷ 0 ∷ 1 ∷ 2 ∷ [])); lent = packLent (replicate 8 7) (replicate 1026 (place 3 1 2 true)) (replicate 60 5); answer = refusal 10; left = packLent ((0 ∷ 0 ∷ 0 ∷ 0 ∷ 0 ∷ 0 ∷ 7 ∷ 7 ∷ [])) (replicate 1024 (place 0 0 0 false) ++ ((place 3 1 2 true) ∷ (place 3 1 2 true) ∷ [])) (replicate 60 0) }
     ∷
-    -- 9 before 10 at one operation: refusal 10
-    record { limits = record { places = 7; loops = 1 }; vertices = 6; list = ((1 ∷ 3 ∷ 2 ∷ 2 ∷ 4 ∷ 5 ∷ 2 ∷ 3 ∷ 4 ∷ 1 ∷ 0 ∷ 3 ∷ 2 ∷ 5 ∷ 0 ∷ 0 ∷ 1 ∷ 2 ∷ [])); lent = packLent (replicate 8 7) (replicate 1026 (place 3 1 2 true)) (replicate 60 5); answer = refusal 10; left = packLent ((0 ∷ 0 ∷ 0 ∷ 0 ∷ 0 ∷ 0 ∷ 7 ∷ 7 ∷ [])) (replicate 1024 (place 0 0 0 false) ++ ((place 3 1 2 true) ∷ (place 3 1 2 true) ∷ [])) (replicate 60 0) }
+    -- 9 before 10 at one operation: refusal 9
+    record { limits = record { places = 6; loops = 1 }; vertices = 6; list = ((1 ∷ 3 ∷ 2 ∷ 2 ∷ 4 ∷ 5 ∷ 2 ∷ 3 ∷ 4 ∷ 1 ∷ 0 ∷ 3 ∷ 2 ∷ 5 ∷ 0 ∷ 0 ∷ 1 ∷ 2 ∷ [])); lent = packLent (replicate 8 7) (replicate 1026 (place 3 1 2 true)) (replicate 60 5); answer = refusal 9; left = packLent ((0 ∷ 0 ∷ 0 ∷ 0 ∷ 0 ∷ 0 ∷ 7 ∷ 7 ∷ [])) (replicate 1024 (place 0 0 0 false) ++ ((place 3 1 2 true) ∷ (place 3 1 2 true) ∷ [])) (replicate 60 0) }
     ∷
-    -- 10 at an operation before that of 9: refusal 9
-    record { limits = record { places = 7; loops = 2 }; vertices = 12; list = ((0 ∷ 1 ∷ 2 ∷ 1 ∷ 3 ∷ 2 ∷ 4 ∷ 5 ∷ 6 ∷ 7 ∷ 2 ∷ 8 ∷ 7 ∷ 0 ∷ 2 ∷ 3 ∷ 0 ∷ 7 ∷ 3 ∷ 9 ∷ 0 ∷ 1 ∷ 0 ∷ 9 ∷ 10 ∷ 1 ∷ 9 ∷ 3 ∷ 1 ∷ 10 ∷ 3 ∷ 10 ∷ 11 ∷ 11 ∷ 9 ∷ 3 ∷ 8 ∷ 9 ∷ 11 ∷ 8 ∷ 11 ∷ 7 ∷ [])); lent = packLent (replicate 14 7) (replicate 1026 (place 3 1 2 true)) (replicate 60 5); answer = refusal 9; left = packLent (replicate 12 0 ++ (7 ∷ 7 ∷ [])) (replicate 1024 (place 0 0 0 false) ++ ((place 3 1 2 true) ∷ (place 3 1 2 true) ∷ [])) (replicate 60 0) }
+    -- 10 at an operation before that of 9: refusal 10
+    record { limits = record { places = 6; loops = 1 }; vertices = 6; list = ((4 ∷ 3 ∷ 5 ∷ 4 ∷ 0 ∷ 3 ∷ 4 ∷ 5 ∷ 2 ∷ 1 ∷ 4 ∷ 2 ∷ 0 ∷ 2 ∷ 3 ∷ 0 ∷ 1 ∷ 2 ∷ [])); lent = packLent (replicate 8 7) (replicate 1026 (place 3 1 2 true)) (replicate 60 5); answer = refusal 10; left = packLent ((0 ∷ 0 ∷ 0 ∷ 0 ∷ 0 ∷ 0 ∷ 7 ∷ 7 ∷ [])) (replicate 1024 (place 0 0 0 false) ++ ((place 3 1 2 true) ∷ (place 3 1 2 true) ∷ [])) (replicate 60 0) }
+    ∷
+    -- 9 alone, later: refusal 9
+    record { limits = record { places = 6; loops = 100 }; vertices = 6; list = ((4 ∷ 3 ∷ 5 ∷ 4 ∷ 0 ∷ 3 ∷ 4 ∷ 5 ∷ 2 ∷ 1 ∷ 4 ∷ 2 ∷ 0 ∷ 2 ∷ 3 ∷ 0 ∷ 1 ∷ 2 ∷ [])); lent = packLent (replicate 8 7) (replicate 1026 (place 3 1 2 true)) (replicate 60 5); answer = refusal 9; left = packLent ((0 ∷ 0 ∷ 0 ∷ 0 ∷ 0 ∷ 0 ∷ 7 ∷ 7 ∷ [])) (replicate 1024 (place 0 0 0 false) ++ ((place 3 1 2 true) ∷ (place 3 1 2 true) ∷ [])) (replicate 60 0) }
     ∷
     -- 9 before 11: refusal 9
     record { limits = record { places = 3; loops = 1 }; vertices = 4; list = ((0 ∷ 1 ∷ 2 ∷ 1 ∷ 0 ∷ 3 ∷ [])); lent = packLent ((7 ∷ 7 ∷ 7 ∷ 7 ∷ 7 ∷ 7 ∷ [])) (replicate 1026 (place 3 1 2 true)) []; answer = refusal 9; left = packLent ((0 ∷ 0 ∷ 0 ∷ 0 ∷ 7 ∷ 7 ∷ [])) (replicate 1024 (place 0 0 0 false) ++ ((place 3 1 2 true) ∷ (place 3 1 2 true) ∷ [])) [] }
@@ -573,5 +576,5 @@ callRows =
     []
 
 pub table : T (allRight packRight packRows && allRight unpackRight unpackRows && allRight callsRight callRows)
-unfolding equal equalPlaces equalAnswers packRight unpackRight writtenRing writtenRings writtenEdges callsRight allRight trianglesOf corners edgesOf same hit occurs count different pairs about leaving entering turnOn turnBack oneRun oneFanEach inTriangle across allBelow allDistinct noneTwice allUsed passes checkTriangles check allOpen vertexAt lastOpen lastVertex front onward places loopAt without allowed inOrder atEdge atRest effect test done beginning ending finish answers afterAll logAll bits valueOf bitsOfBytes bytesWithin readNumber allZero operationBits operationsBits kindIn readOperation packBytes takeField fieldsOf has dropTriangle turnIn turnOut edgeIn spotOf choosePlace limited taking chooseAt chooseIn cleared chooseAll indexOf newNumbers packChosen packChecked runAll numbersOf unpackEnded unpackRun unpackBegun unpackFields follow followed nodes loopsOf trianglesBuilt view placesOf sizesOf apart placesFit loopsFit linksFit sound packRows unpackRows callRows
+unfolding equal equalPlaces equalAnswers packRight unpackRight writtenRing writtenRings writtenEdges callsRight allRight trianglesOf corners edgesOf same hit occurs count different pairs about leaving entering turnOn turnBack oneRun oneFanEach inTriangle across allBelow allDistinct noneTwice allUsed passes checkTriangles check allOpen vertexAt lastOpen lastVertex front onward places loopAt without allowed inOrder atEdge atRest effect test done beginning finish answers afterAll logAll bits valueOf bitsOfBytes bytesWithin readNumber allZero operationBits operationsBits kindIn readOperation packBytes takeField fieldsOf has dropTriangle turnIn turnOut edgeIn spotOf choosePlace limited taking chooseAt chooseIn cleared chooseAll indexOf newNumbers packChosen packChecked runAll numbersOf unpackRun unpackFields follow followed nodes placesOf openAmong loopsOf trianglesBuilt view sizesOf apart placesFit loopsFit linksFit sound packRows unpackRows callRows
 table = tt

@@ -17,7 +17,8 @@ use Rattle.rules.specs.Machine.{Rooms, Machine}
 use Rattle.rules.specs.Answer.{Answer, refusal, accepted, triangle, no-triangle, numbers, packed, unpacked}
 use Rattle.rules.specs.Book.{Book, Call, emptyBook, answers, afterAll}
 use Rattle.rules.specs.Pack.{Most, PackBuffers, PackResult, packWithin}
-use Rattle.rules.specs.Unpack.{UnpackBuffers, UnpackResult, numbersOf, unpack}
+use Rattle.rules.specs.Buffer.{Buffers}
+use Rattle.rules.specs.Unpack.{UnpackResult, numbersOf, unpack}
 
 unfoldable pub equal : List ℕ → List ℕ → Bool
 equal [] [] = true
@@ -85,11 +86,11 @@ packRight x = samePacking (packWithin (x .limits) (x .vertices) (x .list) (x .le
 -- an unpacking
 pub record UnpackRow : Type 0 where
   pub bytes : List ℕ
-  pub lent : UnpackBuffers
+  pub lent : Buffers
   pub answer : Answer
-  pub left : UnpackBuffers
+  pub left : Buffers
 
-abbrev pub sameUnpacking : UnpackResult → Answer → UnpackBuffers → Bool
+abbrev pub sameUnpacking : UnpackResult → Answer → Buffers → Bool
 sameUnpacking r a b =
     sameAnswer (r .answer) a && equal (r .buffers .triangles) (b .triangles) && equalPlaces (r .buffers .places) (b .places)
 
@@ -144,7 +145,7 @@ modelOf v t x = unpacked (record { vertices = v; triangles = t; totals = x })
 abbrev pub packLent : List ℕ → List Place → List ℕ → PackBuffers
 packLent ns ps bs = record { numbering = ns; places = ps; pack = bs }
 
-abbrev pub unpackLent : List ℕ → List Place → UnpackBuffers
+abbrev pub unpackLent : List ℕ → List Place → Buffers
 unpackLent ts ps = record { triangles = ts; places = ps }
 
 abbrev pub rooms : ℕ → ℕ → Rooms

@@ -18,9 +18,9 @@ use Rattle.rules.specs.Table.{allowed, inOrder, atEdge, atRest, effect}
 use Rattle.rules.specs.Machine.{test, done, beginning}
 use Rattle.rules.specs.Unpack.{numbersOf}
 use Rattle.rules.specs.Book.{begin, operate, emptyBook, afterAll}
-use Rattle.rules.specs.Buffer.{freePlace}
-use Rattle.rules.specs.View.{follow, followed, nodes, loopsOf, trianglesBuilt, view}
-use Rattle.rules.specs.Test21.{placesOf, sizesOf, apart, placesFit, loopsFit, linksFit, sound}
+use Rattle.rules.specs.Buffer.{freePlace, Buffers}
+use Rattle.rules.specs.View.{follow, followed, placesOf, nodes, loopsOf, trianglesBuilt, view}
+use Rattle.rules.specs.Test21.{sizesOf, apart, placesFit, loopsFit, linksFit, sound}
 use Rattle.rules.proofs.Rows.{equal, place, counts, rooms, allRight, writtenRing, writtenRings, writtenMachine}
 
 -- a state and its buffers, and whether 21 lets it pass
@@ -168,8 +168,11 @@ stateRows =
     ∷ row false good (0 ∷ 1 ∷ 2 ∷ 1 ∷ 0 ∷ 3 ∷ 2 ∷ 1 ∷ 4 ∷ 2 ∷ 4 ∷ 5 ∷ []) memory
     ∷ []
 
+abbrev pub lentTo : StateRow → Buffers
+lentTo x = record { triangles = x .triangles; places = x .places }
+
 abbrev pub stateRight : StateRow → Bool
-stateRight x = elim (x .passes) [ true ↦ sound (x .state) (x .triangles) (x .places) | false ↦ not (sound (x .state) (x .triangles) (x .places)) ]
+stateRight x = let t = sound (x .state) (lentTo x) in elim (x .passes) [ true ↦ t | false ↦ not t ]
 
 unfoldable pub viewRight : Bool
 viewRight =

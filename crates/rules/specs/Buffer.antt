@@ -6,6 +6,7 @@ use mathlib.Core.List.{List, _++_}
 use lib.ListN.{length, drop, replicate}
 use Rattle.rules.specs.declared.Place.{Place}
 use Rattle.rules.specs.Limits.{maxPlaces}
+use Rattle.rules.specs.Machine.{Rooms}
 
 -- results at the front, and nothing beyond them
 abbrev pub over : List ℕ → List ℕ → List ℕ
@@ -22,3 +23,11 @@ freePlace = record { vertex = 0; before = 0; after = 0; «open» = false }
 -- the first 1,024 place records zero
 unfoldable pub cleared : List Place → List Place
 cleared ps = replicate maxPlaces freePlace ++ drop maxPlaces ps
+
+-- the triangle buffer and the place list that unpacking and the building calls are lent, and their lengths
+pub record Buffers : Type 0 where
+  pub triangles : List ℕ
+  pub places : List Place
+
+abbrev pub lengths : Buffers → Rooms
+lengths r = record { triangles = length (r .triangles); places = length {A = Place} (r .places) }

@@ -9,7 +9,7 @@ use Rattle.rules.specs.declared.Triangle.{Triangle}
 use Rattle.rules.specs.declared.Checked.{Checked}
 use Rattle.rules.specs.declared.Checked.the-variants.{Accepted, Refused}
 use Rattle.rules.specs.Limits.{maxNumbers, between, vertexRange}
-use Rattle.rules.specs.Triangle.{Edge, trianglesOf, corners, edgesOf}
+use Rattle.rules.specs.Triangle.{distinct, Edge, trianglesOf, corners, edgesOf}
 use Rattle.rules.specs.Count.{occurs, count}
 use Rattle.rules.specs.Fan.{oneFanEach}
 
@@ -23,9 +23,6 @@ allBelow v [] = true
 allBelow v (x ∷ xs) = ltb x v && allBelow v xs
 
 -- 4: no triangle has a vertex twice
-abbrev pub distinct : Triangle → Bool
-distinct t = not (eqb (t .p) (t .q)) && not (eqb (t .q) (t .r)) && not (eqb (t .r) (t .p))
-
 unfoldable pub allDistinct : List Triangle → Bool
 allDistinct [] = true
 allDistinct (t ∷ ts) = distinct t && allDistinct ts

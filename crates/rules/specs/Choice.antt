@@ -68,7 +68,7 @@ unfoldable pub spotOf : ℕ → ℕ → ℕ → List Ring → Spot
 spotOf l x y [] = nowhere
 spotOf l x y (w ∷ ws) = elim (edgeIn (startOr 0 w) 0 x y w) [ absent ↦ spotOf (suc l) x y ws | at i ↦ spot l i ]
 
--- the operation for place i of loop l, where the current loop has k places
+-- the operation for place i of loop l, where the current loop has k places; i counts from e, a split's index from f
 abbrev pub operationFor : ℕ → ℕ → ℕ → Operation
 operationFor k zero i =
     elim (eqb k 3) [
@@ -85,8 +85,8 @@ abbrev pub following : ℕ → ℕ → ℕ
 following k i = elim (eqb (i + 1) k) [ true ↦ 0 | false ↦ i + 1 ]
 
 -- The place of c from whose open edges the triangle b a c is reached by turning about c, through the triangles ts: turning back
--- from the triangle ends at that edge. An edge that comes into c ends at its place, one that leaves c starts there. That one of
--- the two is found, and the same place by both, is not shown yet; the last branch should never be met.
+-- from the triangle ends at that edge. An edge that comes into c ends at its place, one that leaves c starts there. In an
+-- accepted list one of the two is found, so that the last branch is never met (`accepted-packs`, crate gap).
 unfoldable pub choosePlace : ℕ → ℕ → ℕ → List Triangle → List Ring → Operation
 choosePlace a b c ts ls =
     let k = sizeOf ls 0 in
@@ -122,7 +122,7 @@ limited o s =
       | false ↦ refuses 9
     ]
 
--- the table allows every operation that is chosen; that too is not shown yet
+-- the table allows every operation that is chosen, so that the first line is never met (`accepted-packs`, crate gap)
 unfoldable pub taking : Operation → Packing → List Triangle → List ℕ → Effect → Next
 taking o s ts vs not-allowed = ended
 taking o s ts vs (builds ls t pq qr rp n k u) = limited o (packingAfter s ts vs ls)

@@ -67,6 +67,7 @@ readUnion (number p xs) = readPlace p (readNumber placeBits 0 xs)
 abbrev pub kinds : List Operation
 kinds = New ∷ (Forward ∷ (Backward ∷ (Border ∷ (Split 0 ∷ (Close ∷ (Union 0 0 ∷ (Start ∷ [])))))))
 
+-- (the first line is never met: a code has three bits)
 unfoldable pub kindIn : ℕ → List Operation → Operation
 kindIn c [] = Start
 kindIn c (o ∷ os) = elim (eqb (code o) c) [ true ↦ o | false ↦ kindIn c os ]

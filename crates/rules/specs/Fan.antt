@@ -1,5 +1,5 @@
--- Fans: the triangles about a vertex, in the words of the rules and as a test that computes.
--- proofs/ of the crate `fans` joins the two: `one-fan`.
+-- Fans: the triangles about a vertex, in the words of the rules and as a test that computes. In a list that passes 4 and 5 they
+-- are the same (`one-fan`, crate fans).
 -- Assumes nothing.
 use Prim.Native.Nat.{ℕ, zero, suc}
 use mathlib.Core.Bool.{Bool, true, false}

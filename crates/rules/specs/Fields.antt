@@ -1,4 +1,4 @@
--- The tagged fields of a pack: 12 and 13.
+-- The tagged fields of a pack: 12. A length is below 65,536: no pack of a model comes near it.
 -- Assumes nothing.
 use Prim.Native.Nat.{ℕ, _+_, _*_, _/_, _%_}
 use mathlib.Core.Bool.{true, false}

@@ -18,3 +18,4 @@ pub mod Pack
 pub mod Unpack
 pub mod View
 pub mod Test21
+pub mod Build

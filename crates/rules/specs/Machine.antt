@@ -1,5 +1,5 @@
--- The abstract machine: what the book (a term of the rules) holds but the edges declared border, on which no answer depends;
--- and the three kinds of call on it, with their refusals.
+-- The abstract machine: what the book (a term of the rules) holds but the edges declared border, on which no answer depends, and
+-- the builder's running count of edges, which the book's finish does not read. And the three kinds of call on it, with their refusals.
 -- Assumes nothing.
 use Prim.Native.Nat.{ℕ, _+_, _*_, max}
 use mathlib.Core.Bool.{Bool, true, false, _&&_}
@@ -132,10 +132,6 @@ totals m = record {
   euler = pos (m .used) -ℤ pos (m .edges) +ℤ pos (length (m .triangles));
 }
 
--- 19, 20; an unpacking asks besides that the rest of its bytes is right
-unfoldable pub ending : Bool → Machine → Step
-ending rest m = test (rest && asStated m) 19 (test (oneFanEach (m .used) (m .triangles)) 20 (finished (totals m)))
-
 -- a finish: 15, 19, 20
 unfoldable pub finish : Machine → Step
-finish m = test (complete m) 15 (ending true m)
+finish m = test (complete m) 15 (test (asStated m) 19 (test (oneFanEach (m .used) (m .triangles)) 20 (finished (totals m))))

@@ -29,7 +29,7 @@ abbrev pub cons : Operation → Chosen → Chosen
 cons o (stopped n) = stopped n
 cons o (chosen os s) = chosen (o ∷ os) s
 
--- at most n operations
+-- at most n operations; they are enough (`accepted-packs`, crate gap)
 unfoldable pub chooseAll : ℕ → Packing → Chosen
 chooseAll zero s = chosen [] s
 chooseAll (suc n) s = elim (choose s) [ ended ↦ chosen [] s | refuses k ↦ stopped k | takes o s′ ↦ cons o (chooseAll n s′) ]
@@ -62,7 +62,7 @@ abbrev pub packOf : ℕ → List Triangle → List Operation → Packing → Lis
 packOf v ts os s =
     packBytes (record { vertices = v; triangles = length ts; places = s .mostPlaces; loops = s .mostLoops }) (bytesOf (operationsBits os))
 
--- where a vertex stands in a list
+-- where a vertex stands in a list that has it
 unfoldable pub indexOf : ℕ → List ℕ → ℕ
 indexOf v [] = 0
 indexOf v (x ∷ xs) = elim (eqb v x) [ true ↦ 0 | false ↦ suc (indexOf v xs) ]
@@ -94,15 +94,15 @@ packRefused n v r = record {
       record { numbering = zeroed v (r .numbering); places = cleared (r .places); pack = zeroed (length (r .pack)) (r .pack) };
 }
 
-abbrev pub packDone : ℕ → List ℕ → List ℕ → PackBuffers → PackResult
-packDone v ns bytes r = record {
+abbrev pub packDone : List ℕ → List ℕ → PackBuffers → PackResult
+packDone ns bytes r = record {
   answer = packed (length bytes);
   buffers = record { numbering = over ns (r .numbering); places = cleared (r .places); pack = over bytes (r .pack) };
 }
 
 -- 11
 abbrev pub packStored : ℕ → List ℕ → List ℕ → PackBuffers → PackResult
-packStored v ns bytes r = elim (leb (length bytes) (length (r .pack))) [ true ↦ packDone v ns bytes r | false ↦ packRefused 11 v r ]
+packStored v ns bytes r = elim (leb (length bytes) (length (r .pack))) [ true ↦ packDone ns bytes r | false ↦ packRefused 11 v r ]
 
 unfoldable pub packChosen : ℕ → List Triangle → PackBuffers → Chosen → PackResult
 packChosen v ts r (stopped n) = packRefused n v r

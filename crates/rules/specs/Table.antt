@@ -8,7 +8,7 @@ use lib.Dec.{eqb, ltb, leb}
 use Rattle.rules.specs.declared.Triangle.{Triangle}
 use Rattle.rules.specs.declared.Operation.{Operation}
 use Rattle.rules.specs.declared.Operation.the-variants.{New, Forward, Backward, Border, Split, Close, Union, Start}
-use Rattle.rules.specs.Triangle.{tri, Edge, edge, edgesOf}
+use Rattle.rules.specs.Triangle.{tri, distinct, Edge, edge, edgesOf}
 use Rattle.rules.specs.Count.{unjoined}
 use Rattle.rules.specs.Ring.{Node, opened, marked, Ring, vertex, firstOpen, allOpen, startOr, vertexAt, lastOpen, lastVertex, front, onward, loopAt, without}
 
@@ -82,6 +82,7 @@ atRest Start u =
 
 unfoldable pub effect : Operation → ℕ → List Ring → Effect
 effect o u [] = atRest o u
+-- 21 refuses a live loop with no place
 effect o u ([] ∷ ws) = not-allowed
 effect o u ((e ∷ ps) ∷ ws) = atEdge o u (vertex e) ps ws
 
@@ -92,5 +93,4 @@ sideRule fresh x y ts = unjoined x y (edgesOf ts)
 
 abbrev pub edgeRule : Triangle → Side → Side → Side → List Triangle → Bool
 edgeRule t pq qr rp ts =
-    not (eqb (t .p) (t .q)) && not (eqb (t .q) (t .r)) && not (eqb (t .r) (t .p))
-    && sideRule pq (t .p) (t .q) ts && sideRule qr (t .q) (t .r) ts && sideRule rp (t .r) (t .p) ts
+    distinct t && sideRule pq (t .p) (t .q) ts && sideRule qr (t .q) (t .r) ts && sideRule rp (t .r) (t .p) ts

@@ -2,22 +2,19 @@
 -- Assumes nothing.
 use Prim.Native.Nat.{ℕ, zero, suc, _+_, _*_}
 use mathlib.Core.Bool.{Bool, true, _&&_}
-use mathlib.Core.List.{List, [], _∷_, _++_}
-use lib.ListN.{length, getD, take}
+use mathlib.Core.List.{List, [], _∷_}
+use lib.ListN.{getD, take}
 use lib.Dec.{eqb, ltb, leb}
 use Rattle.rules.specs.declared.Place.{Place}
 use Rattle.rules.specs.declared.Builder.{Builder}
 use Rattle.rules.specs.Limits.{maxPlaces, inRange}
 use Rattle.rules.specs.Count.{occurs}
 use Rattle.rules.specs.Check.{allBelow}
-use Rattle.rules.specs.Machine.{Rooms, roomy}
-use Rattle.rules.specs.View.{placeAt, followed, loopPlaces}
+use Rattle.rules.specs.Machine.{roomy}
+use Rattle.rules.specs.Buffer.{Buffers, lengths}
+use Rattle.rules.specs.View.{placeAt, followed, placesOf}
 
--- all places of the first n loops, and how many they are by the state
-unfoldable pub placesOf : Builder → List Place → ℕ → List ℕ
-placesOf b ps zero = []
-placesOf b ps (suc n) = loopPlaces b ps n ++ placesOf b ps n
-
+-- how many places the first n loops have by the state
 unfoldable pub sizesOf : Builder → ℕ → ℕ
 sizesOf b zero = 0
 sizesOf b (suc n) = getD (b .sizes) n 0 + sizesOf b n
@@ -68,9 +65,6 @@ linksFit b ps =
 abbrev pub trianglesFit : Builder → List ℕ → Bool
 trianglesFit b xs = allBelow (b .used) (take (3 * b .built) xs)
 
-abbrev pub lent : List ℕ → List Place → Rooms
-lent xs ps = record { triangles = length xs; places = length {A = Place} ps }
-
 -- a state that passes
-unfoldable pub sound : Builder → List ℕ → List Place → Bool
-sound b xs ps = roomy (lent xs ps) (b .stated) && countsFit b && sumsFit b && linksFit b ps && trianglesFit b xs
+unfoldable pub sound : Builder → Buffers → Bool
+sound b r = roomy (lengths r) (b .stated) && countsFit b && sumsFit b && linksFit b (r .places) && trianglesFit b (r .triangles)

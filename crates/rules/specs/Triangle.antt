@@ -1,11 +1,17 @@
 -- Triangles and their directed edges. Where triangles are being built, a list of them has the latest first.
 -- Assumes nothing.
 use Prim.Native.Nat.{ℕ}
+use mathlib.Core.Bool.{Bool, _&&_, not}
 use mathlib.Core.List.{List, [], _∷_}
+use lib.Dec.{eqb}
 use Rattle.rules.specs.declared.Triangle.{Triangle}
 
 abbrev pub tri : ℕ → ℕ → ℕ → Triangle
 tri x y z = record { p = x; q = y; r = z }
+
+-- its three vertices differ
+abbrev pub distinct : Triangle → Bool
+distinct t = not (eqb (t .p) (t .q)) && not (eqb (t .q) (t .r)) && not (eqb (t .r) (t .p))
 
 -- a directed edge
 pub record Edge : Type 0 where

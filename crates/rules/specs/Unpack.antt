@@ -9,21 +9,23 @@ use Rattle.rules.specs.declared.Triangle.{Triangle}
 use Rattle.rules.specs.declared.Counts.{Counts}
 use Rattle.rules.specs.declared.Place.{Place}
 use Rattle.rules.specs.declared.Totals.{Totals}
-use Rattle.rules.specs.Machine.{Machine, empty, Step, refused, begun, built, declared, finished, operation, complete, Rooms, beginning, ending}
+use Rattle.rules.specs.Limits.{inRange}
+use Rattle.rules.specs.Fan.{oneFanEach}
+use Rattle.rules.specs.Machine.{Machine, empty, refused, begun, built, declared, finished, operation, complete, roomy, asStated, totals}
 use Rattle.rules.specs.Answer.{Answer, refusal, unpacked}
 use Rattle.rules.specs.Bits.{bitsOfBytes, allZero}
 use Rattle.rules.specs.Code.{breaks-off, read, readOperation}
 use Rattle.rules.specs.Fields.{Fields, no-pack, fields, fieldsOf}
-use Rattle.rules.specs.Buffer.{over, zeroed, cleared}
+use Rattle.rules.specs.Buffer.{over, zeroed, cleared, Buffers, lengths}
 
 -- the operations run until the model is complete: the machine and the bits that are left, or the refusal of 15 to 18
-pub data Run : Type 0 where
-  stopped : ℕ → Run
-  completed : Machine → List ℕ → Run
+pub data Ran : Type 0 where
+  stopped : ℕ → Ran
+  completed : Machine → List ℕ → Ran
 
 -- by at most n operations; n is above the number of bits, and each operation takes three or more. An operation is never a
--- beginning or a finish.
-unfoldable pub runAll : ℕ → Machine → List ℕ → Run
+-- beginning or a finish, so that these two lines are never met.
+unfoldable pub runAll : ℕ → Machine → List ℕ → Ran
 runAll zero m xs = stopped 15
 runAll (suc n) m xs =
     elim (complete m) [
@@ -40,7 +42,7 @@ runAll (suc n) m xs =
       ]
     ]
 
-abbrev pub runOf : Counts → List ℕ → Run
+abbrev pub runOf : Counts → List ℕ → Ran
 runOf s ops = let xs = bitsOfBytes ops in runAll (suc (length xs)) (empty s) xs
 
 -- 19: no whole byte is left over, and the fill bits are zero
@@ -52,59 +54,52 @@ unfoldable pub numbersOf : List Triangle → List ℕ
 numbersOf [] = []
 numbersOf (t ∷ ts) = numbersOf ts ++ (t .p ∷ (t .q ∷ (t .r ∷ [])))
 
--- the buffers that an unpacking is lent, and what it answers and leaves in them
-pub record UnpackBuffers : Type 0 where
-  pub triangles : List ℕ
-  pub places : List Place
-
+-- what an unpacking answers and leaves in its buffers
 pub record UnpackResult : Type 0 where
   pub answer : Answer
-  pub buffers : UnpackBuffers
+  pub buffers : Buffers
 
 -- after 12 to 14 no buffer has changed
-abbrev pub turnedDown : ℕ → UnpackBuffers → UnpackResult
+abbrev pub turnedDown : ℕ → Buffers → UnpackResult
 turnedDown n r = record { answer = refusal n; buffers = r }
 
 -- after 15 to 20 the first 3T triangle entries are zero
-abbrev pub unpackRefused : ℕ → Counts → UnpackBuffers → UnpackResult
+abbrev pub unpackRefused : ℕ → Counts → Buffers → UnpackResult
 unpackRefused n s r = record {
   answer = refusal n;
   buffers = record { triangles = zeroed (3 * s .triangles) (r .triangles); places = cleared (r .places) };
 }
 
-abbrev pub unpackDone : Counts → Totals → List Triangle → UnpackBuffers → UnpackResult
+abbrev pub unpackDone : Counts → Totals → List Triangle → Buffers → UnpackResult
 unpackDone s x ts r = record {
   answer = unpacked (record { vertices = s .vertices; triangles = s .triangles; totals = x });
   buffers = record { triangles = over (numbersOf ts) (r .triangles); places = cleared (r .places) };
 }
 
--- an ending is a refusal or a finish's numbers
-unfoldable pub unpackEnded : Counts → List Triangle → UnpackBuffers → Step → UnpackResult
-unpackEnded s ts r (refused n) = unpackRefused n s r
-unpackEnded s ts r (begun m) = unpackRefused 15 s r
-unpackEnded s ts r (built t m) = unpackRefused 15 s r
-unpackEnded s ts r (declared d m) = unpackRefused 15 s r
-unpackEnded s ts r (finished x) = unpackDone s x ts r
+-- 19, 20
+abbrev pub unpackEnded : Counts → Buffers → Machine → Bool → UnpackResult
+unpackEnded s r m rest =
+    elim (rest && asStated m) [
+      | true ↦ elim (oneFanEach (m .used) (m .triangles)) [
+        | true ↦ unpackDone s (totals m) (m .triangles) r
+        | false ↦ unpackRefused 20 s r
+      ]
+      | false ↦ unpackRefused 19 s r
+    ]
 
-unfoldable pub unpackRun : Counts → UnpackBuffers → Run → UnpackResult
+unfoldable pub unpackRun : Counts → Buffers → Ran → UnpackResult
 unpackRun s r (stopped n) = unpackRefused n s r
-unpackRun s r (completed m xs) = unpackEnded s (m .triangles) r (ending (restFits xs) m)
+unpackRun s r (completed m xs) = unpackEnded s r m (restFits xs)
 
--- 13, 14: as a beginning
-unfoldable pub unpackBegun : Counts → List ℕ → UnpackBuffers → Step → UnpackResult
-unpackBegun s ops r (refused n) = turnedDown n r
-unpackBegun s ops r (begun m) = unpackRun s r (runOf s ops)
-unpackBegun s ops r (built t m) = turnedDown 13 r
-unpackBegun s ops r (declared d m) = turnedDown 13 r
-unpackBegun s ops r (finished x) = turnedDown 13 r
-
-abbrev pub lengths : UnpackBuffers → Rooms
-lengths r = record { triangles = length (r .triangles); places = length {A = Place} (r .places) }
-
-unfoldable pub unpackFields : UnpackBuffers → Fields → UnpackResult
+-- 13, 14
+unfoldable pub unpackFields : Buffers → Fields → UnpackResult
 unpackFields r no-pack = turnedDown 12 r
-unpackFields r (fields s ops) = unpackBegun s ops r (beginning (lengths r) s)
+unpackFields r (fields s ops) =
+    elim (inRange s) [
+      | true ↦ elim (roomy (lengths r) s) [ true ↦ unpackRun s r (runOf s ops) | false ↦ turnedDown 14 r ]
+      | false ↦ turnedDown 13 r
+    ]
 
 -- unpacking any bytes
-abbrev pub unpack : List ℕ → UnpackBuffers → UnpackResult
+abbrev pub unpack : List ℕ → Buffers → UnpackResult
 unpack bytes r = unpackFields r (fieldsOf bytes)

@@ -2,12 +2,13 @@
 -- Assumes nothing.
 use Prim.Native.Nat.{ℕ, zero, suc, _+_, _*_}
 use mathlib.Core.Bool.{true, false}
-use mathlib.Core.List.{List, [], _∷_}
+use mathlib.Core.List.{List, [], _∷_, _++_}
 use lib.ListN.{getD}
 use Rattle.rules.specs.declared.Triangle.{Triangle}
 use Rattle.rules.specs.declared.Place.{Place}
 use Rattle.rules.specs.declared.Builder.{Builder}
 use Rattle.rules.specs.Triangle.{tri}
+use Rattle.rules.specs.Count.{hit}
 use Rattle.rules.specs.Ring.{Node, opened, marked, Ring}
 use Rattle.rules.specs.Machine.{Machine}
 use Rattle.rules.specs.Buffer.{freePlace}
@@ -36,7 +37,23 @@ nodes ps (i ∷ is) = nodeOf (placeAt ps i) ∷ nodes ps is
 abbrev pub loopPlaces : Builder → List Place → ℕ → List ℕ
 loopPlaces b ps n = follow ps (getD (b .sizes) n 0) (getD (b .current) n 0)
 
--- the last n loops, the current one first
+-- the places of the first n loops
+unfoldable pub placesOf : Builder → List Place → ℕ → List ℕ
+placesOf b ps zero = []
+placesOf b ps (suc n) = loopPlaces b ps n ++ placesOf b ps n
+
+-- at how many of these places x→y is recorded as open, from the place's vertex to the next one's
+unfoldable pub openAmong : List Place → ℕ → ℕ → List ℕ → ℕ
+openAmong ps x y [] = 0
+openAmong ps x y (i ∷ is) =
+    let p = placeAt ps i in
+    elim (p .«open») [ true ↦ hit x y (p .vertex) (placeAt ps (p .after) .vertex) | false ↦ 0 ] + openAmong ps x y is
+
+-- the builder's open edges: at how many of its live loops' places x→y is one
+abbrev pub openAt : Builder → List Place → ℕ → ℕ → ℕ
+openAt b ps x y = openAmong ps x y (placesOf b ps (b .live))
+
+-- the first n loops, the last of them, which is the current one, in front
 unfoldable pub loopsOf : Builder → List Place → ℕ → List Ring
 loopsOf b ps zero = []
 loopsOf b ps (suc n) = nodes ps (loopPlaces b ps n) ∷ loopsOf b ps n

@@ -27,8 +27,8 @@ pub enum Operation {
     Start,
 }
 
-// A record of the lent place list: its vertex, the places before and after it in its loop, and whether its edge to the
-// next place is open (else it is marked as border, or the place is free).
+// A record of the lent place list. Of a place in a live loop: its vertex, the places before and after it in the loop, and
+// whether its edge to the next place is open (else it is marked as border). A free record may hold anything.
 pub struct Place {
     pub vertex: u16,
     pub before: u16,

@@ -49,6 +49,10 @@ fn pack_row(name: &str, limits: (u32, u32), line: &str, change: impl Fn(&mut Pac
     (format!("{name}: {told}"), antt::packing(&x))
 }
 
+/// A split makes two loops at six places; seven places come one operation later.
+const LOOPS_FIRST: &str = "6 4 3 5 4 0 3 4 5 2 1 4 2 0 2 3 0 1 2";
+
+/// A split makes two loops and a seventh place.
 const SPLIT: &str = "6 1 3 2 2 4 5 2 3 4 1 0 3 2 5 0 0 1 2";
 
 fn packings() -> Vec<(String, String)> {
@@ -93,8 +97,9 @@ fn packings() -> Vec<(String, String)> {
     }));
     rows.push(pack_row("9", (3, 1), "4 0 1 2 1 0 3", same));
     rows.push(pack_row("10", (1_024, 1), SPLIT, same));
-    rows.push(pack_row("9 before 10 at one operation", (7, 1), SPLIT, same));
-    rows.push(pack_row("10 at an operation before that of 9", (7, 2), "12 0 1 2 1 3 2 4 5 6 7 2 8 7 0 2 3 0 7 3 9 0 1 0 9 10 1 9 3 1 10 3 10 11 11 9 3 8 9 11 8 11 7", same));
+    rows.push(pack_row("9 before 10 at one operation", (6, 1), SPLIT, same));
+    rows.push(pack_row("10 at an operation before that of 9", (6, 1), LOOPS_FIRST, same));
+    rows.push(pack_row("9 alone, later", (6, 100), LOOPS_FIRST, same));
     rows.push(pack_row("9 before 11", (3, 1), "4 0 1 2 1 0 3", |r| r.pack.clear()));
     rows.push(pack_row("10 before 11", (1_024, 1), SPLIT, |r| r.pack.clear()));
     rows.push(pack_row("11", LIMITS, "3 0 1 2", |r| r.pack.truncate(15)));

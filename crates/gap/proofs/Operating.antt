@@ -1,0 +1,92 @@
+-- An operation that the machine accepts: the table's effect, within the counts stated, and the edge rule.
+-- Assumes nothing.
+use Prim.Native.Nat.{ℕ, _≤_}
+use mathlib.Core.Bool.{Bool, true, false, _&&_}
+use mathlib.Core.List.{List}
+use mathlib.Core.Path.{_≡_, refl, subst}
+use lib.ListN.{length}
+use lib.Dec.{leb}
+use borrow.Author.Tests.{leb-true}
+use Rattle.rules.specs.declared.Triangle.{Triangle}
+use Rattle.rules.specs.Triangle.{Edge}
+use Rattle.rules.specs.Ring.{Ring, places}
+use Rattle.rules.specs.Table.{Side, Effect, not-allowed, builds, marks, edgeRule}
+use Rattle.rules.specs.Machine.{Machine, afterBuild, afterMark, Step, refused, begun, built, declared, finished, test, within, done}
+use Rattle.gap.proofs.Bools.{and-true}
+
+-- the loops after an operation are within the counts stated
+pub record Room (m : Machine) (ls : List Ring) : Type 0 where
+  pub places : places ls ≤ m .stated .places
+  pub loops : length ls ≤ m .stated .loops
+
+-- it built t
+pub record Built (m : Machine) (ef : Effect) (t : Triangle) (m′ : Machine) : Type 0 where
+  pub ls : List Ring
+  pub pq : Side
+  pub qr : Side
+  pub rp : Side
+  pub news : ℕ
+  pub starts : ℕ
+  pub unions : ℕ
+  pub effect : ef ≡ builds ls t pq qr rp news starts unions
+  pub rule : edgeRule t pq qr rp (m .triangles) ≡ true
+  pub room : Room m ls
+  pub after : m′ ≡ afterBuild m ls t pq qr rp news starts unions
+
+-- it declared d border
+pub record Declared (m : Machine) (ef : Effect) (d : Edge) (m′ : Machine) : Type 0 where
+  pub ls : List Ring
+  pub rim : ℕ
+  pub effect : ef ≡ marks ls d rim
+  pub room : Room m ls
+  pub after : m′ ≡ afterMark m ls rim
+
+abbrev Came : Machine → Effect → Step → Type 0
+Came m ef (refused n) = Unit {0}
+Came m ef (begun m′) = ⊥
+Came m ef (built t m′) = Built m ef t m′
+Came m ef (declared d m′) = Declared m ef d m′
+Came m ef (finished x) = ⊥
+
+came-test : (m : Machine) (ef : Effect) (b : Bool) (n : ℕ) (s : Step) → (b ≡ true → Came m ef s) → Came m ef (test b n s)
+unfolding test
+came-test m ef true n s h = h refl
+came-test m ef false n s h = tt
+
+room-of : (m m′ : Machine) → m′ .stated ≡ m .stated → within m′ ≡ true → Room m (m′ .loops)
+room-of m m′ e h =
+    let a = and-true (leb (m′ .used) (m′ .stated .vertices) && leb (length (m′ .triangles)) (m′ .stated .triangles) && leb (places (m′ .loops)) (m′ .stated .places)) (leb (length (m′ .loops)) (m′ .stated .loops)) h in
+    let b = and-true (leb (m′ .used) (m′ .stated .vertices) && leb (length (m′ .triangles)) (m′ .stated .triangles)) (leb (places (m′ .loops)) (m′ .stated .places)) (a .0) in
+    record {
+      places = subst (λ k. places (m′ .loops) ≤ k .places) e (leb-true (places (m′ .loops)) (m′ .stated .places) (b .1));
+      loops = subst (λ k. length (m′ .loops) ≤ k .loops) e (leb-true (length (m′ .loops)) (m′ .stated .loops) (a .1));
+    }
+
+came : (m : Machine) (ef : Effect) → Came m ef (done m ef)
+unfolding done
+came m not-allowed = tt
+came m (builds ls t pq qr rp n s k) =
+    came-test m (builds ls t pq qr rp n s k) _ 17 _
+    (λ w. came-test m (builds ls t pq qr rp n s k) _ 18 (built t (afterBuild m ls t pq qr rp n s k))
+    (λ r. record {
+      ls = ls;
+      pq = pq;
+      qr = qr;
+      rp = rp;
+      news = n;
+      starts = s;
+      unions = k;
+      effect = refl;
+      rule = r;
+      room = room-of m (afterBuild m ls t pq qr rp n s k) refl w;
+      after = refl;
+    }))
+came m (marks ls d rim) =
+    came-test m (marks ls d rim) _ 17 (declared d (afterMark m ls rim))
+    (λ w. record { ls = ls; rim = rim; effect = refl; room = room-of m (afterMark m ls rim) refl w; after = refl })
+
+pub built-of : (m : Machine) (ef : Effect) (t : Triangle) (m′ : Machine) → done m ef ≡ built t m′ → Built m ef t m′
+built-of m ef t m′ h = subst (Came m ef) h (came m ef)
+
+pub declared-of : (m : Machine) (ef : Effect) (d : Edge) (m′ : Machine) → done m ef ≡ declared d m′ → Declared m ef d m′
+declared-of m ef d m′ h = subst (Came m ef) h (came m ef)

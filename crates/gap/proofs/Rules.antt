@@ -1,0 +1,46 @@
+-- The edge rule, as what it says of the triangles built so far.
+-- Assumes nothing.
+use Prim.Native.Nat.{ℕ}
+use mathlib.Core.Bool.{Bool, true, false, _&&_, not, false≢true}
+use mathlib.Core.List.{List}
+use mathlib.Core.Path.{_≡_, sym}
+use lib.Dec.{eqb}
+use borrow.Author.Tests.{eqb-false, not-true}
+use Rattle.rules.specs.declared.Triangle.{Triangle}
+use Rattle.rules.specs.Table.{glued, sideRule, edgeRule}
+use Rattle.gap.specs.Turn.{Unused}
+use Rattle.gap.specs.Tally.{sideOf}
+use Rattle.gap.proofs.Bools.{and-true}
+use Rattle.gap.proofs.Uses.{unjoined-unused}
+
+-- the edge rule, for the triangle b a c of an operation
+pub record Rules (t : Triangle) (gA gB : Bool) (B : List Triangle) : Type 0 where
+  pub apart : ((t .p ≡ t .q) → ⊥) × ((t .q ≡ t .r) → ⊥) × ((t .r ≡ t .p) → ⊥)
+  pub ruleA : gA ≡ false → Unused (t .q) (t .r) B × Unused (t .r) (t .q) B
+  pub ruleB : gB ≡ false → Unused (t .r) (t .p) B × Unused (t .p) (t .r) B
+
+side-free : (g : Bool) (x y : ℕ) (B : List Triangle) → sideRule (sideOf g) x y B ≡ true → g ≡ false → Unused x y B × Unused y x B
+side-free true x y B h e = absurd (false≢true (sym e))
+side-free false x y B h e = unjoined-unused x y B h
+
+pub rules-of : (t : Triangle) (gA gB : Bool) (B : List Triangle) → edgeRule t glued (sideOf gA) (sideOf gB) B ≡ true → Rules t gA gB B
+rules-of t gA gB B h =
+    let n1 = not (eqb (t .p) (t .q)) in
+    let n2 = not (eqb (t .q) (t .r)) in
+    let n3 = not (eqb (t .r) (t .p)) in
+    let qr = sideRule (sideOf gA) (t .q) (t .r) B in
+    let rp = sideRule (sideOf gB) (t .r) (t .p) B in
+    let h1 = and-true (n1 && n2 && n3 && true && qr) rp h in
+    let h2 = and-true (n1 && n2 && n3 && true) qr (h1 .0) in
+    let h3 = and-true (n1 && n2 && n3) true (h2 .0) in
+    let h4 = and-true (n1 && n2) n3 (h3 .0) in
+    let h5 = and-true n1 n2 (h4 .0) in
+    record {
+      apart = (
+        eqb-false (t .p) (t .q) (not-true (eqb (t .p) (t .q)) (h5 .0)),
+        eqb-false (t .q) (t .r) (not-true (eqb (t .q) (t .r)) (h5 .1)),
+        eqb-false (t .r) (t .p) (not-true (eqb (t .r) (t .p)) (h4 .1)),
+      );
+      ruleA = side-free gA (t .q) (t .r) B (h2 .1);
+      ruleB = side-free gB (t .r) (t .p) B (h1 .1);
+    }
