@@ -1,15 +1,14 @@
 -- Bits in bytes, and bytes as bits.
 -- Assumes nothing.
-use Prim.Native.Nat.{ℕ, zero, suc, _+_, _*_, _-_, _/_, _%_, _^_, _≤_, _<_}
-use native.Mathlib.Nat.{zero-add, add-zero}
+use Prim.Native.Nat.{ℕ, zero, suc, _+_, _*_, _-_, _/_, _%_, _≤_, _<_}
 use native.Mathlib.Decide.{decLe}
 use native.Mathlib.Omega.{arith}
 use mathlib.Core.List.{List, [], _∷_, _++_, append-assoc, append-nil}
 use mathlib.Core.Path.{_≡_, refl, sym, ap, ap₂, _∙_}
-use lib.ListN.{length, take, drop, replicate, length-append, length-replicate, take-append-drop, length-take, length-drop, drop-of-length-le, replicate-append-replicate}
-use lib.Seq.{length-take-le, take-append-le, take-at, drop-at, drop-drop, take-append-add, drop-append-add, drop-append-le, drop-nil}
+use lib.ListN.{length, take, drop, replicate, length-append, length-replicate, take-append-drop, length-drop, drop-of-length-le}
+use lib.Seq.{length-take-le, take-append-le, take-at, drop-at, drop-drop, take-append-add, drop-append-add, drop-nil}
 use Rattle.rules.specs.Bits.{bits, valueOf, bitsOfBytes, bytesWithin, bytesOf}
-use Rattle.codes.specs.Shape.{Below, Bits, Bytes}
+use Rattle.codes.specs.Shape.{Bits, Bytes}
 use Rattle.codes.proofs.Lists.{below-append, below-take, below-drop, below-replicate}
 use Rattle.codes.proofs.Numbers.{length-bits, bits-are, value-below, value-of-bits, bits-of-value}
 
@@ -110,6 +109,13 @@ bytes-of-bits (b ∷ bs) h =
 -- how many zero bits fill the last byte
 abbrev pub fill : ℕ → ℕ
 fill n = (8 - n % 8) % 8
+
+-- fewer than eight, and then the bytes are whole
+pub fill-below : (n : ℕ) → fill n < 8
+fill-below n = omega arith
+
+pub fill-whole : (n : ℕ) → n + fill n ≡ 8 * ((n + 7) / 8)
+fill-whole n = omega arith
 
 -- the first byte's bits
 first-long : (n : ℕ) (xs : List ℕ) → Bits xs → 8 ≤ length xs

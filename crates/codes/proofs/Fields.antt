@@ -1,17 +1,17 @@
 -- The fields of a pack: what is written is found, and what is found was written.
 -- Assumes nothing.
-use Prim.Native.Nat.{ℕ, zero, suc, _+_, _*_, _-_, _/_, _%_, _≤_, _<_}
+use Prim.Native.Nat.{ℕ, _+_, _*_, _/_, _%_, _≤_, _<_}
 use native.Mathlib.Omega.{arith}
 use mathlib.Core.Bool.{Bool, true, false}
-use mathlib.Core.List.{List, [], _∷_, _++_, append-assoc, append-nil}
+use mathlib.Core.List.{List, [], _∷_, _++_, append-nil}
 use mathlib.Core.Path.{_≡_, refl, sym, ap, ap₂, _∙_, subst}
 use lib.Dec.{eqb, leb}
 use lib.ListN.{length, take, drop, getD, length-append, take-append-drop}
-use lib.Seq.{take-append-seam, drop-append-seam, take-length, length-take-le, drop-at}
+use lib.Seq.{take-append-seam, drop-append-seam, length-take-le, drop-at}
 use borrow.Author.Tests.{eq-eqb, le-leb, eqb-true, leb-true}
 use Rattle.rules.specs.declared.Counts.{Counts}
-use Rattle.rules.specs.Fields.{countsTag, operationsTag, word, wordAt, fieldOf, countsOf, packBytes, Field, no-field, field, takeField, Fields, no-pack, fields, countsFrom, lastField, firstField, fieldsOf}
-use Rattle.codes.specs.Shape.{Below, Bytes}
+use Rattle.rules.specs.Fields.{countsTag, operationsTag, word, fieldOf, countsOf, packBytes, Field, no-field, field, takeField, Fields, no-pack, fields, countsFrom, lastField, firstField, fieldsOf}
+use Rattle.codes.specs.Shape.{Bytes}
 use Rattle.codes.specs.Header.{headerOf, CountsFit}
 use Rattle.codes.proofs.Lists.{below-append, below-front, below-rest, below-getD}
 

@@ -6,3 +6,4 @@ pub mod Whole
 pub mod Fields
 pub mod Window
 pub mod Room
+pub mod Rest

@@ -3,7 +3,7 @@
 use Prim.Native.Nat.{ℕ, zero, suc, _+_, _≤_, _<_}
 use native.Mathlib.Omega.{arith}
 use mathlib.Core.List.{List, [], _∷_, _++_}
-use mathlib.Core.Path.{_≡_, refl, sym, ap, _∙_, subst}
+use mathlib.Core.Path.{_≡_, ap, _∙_}
 use lib.ListN.{length, take, drop, getD, replicate, length-drop}
 use lib.Seq.{take-append-le, drop-append-le}
 use Rattle.codes.specs.Shape.{Below}
@@ -49,22 +49,3 @@ pub part-front : (n r : ℕ) (xs ys : List ℕ) → r + n ≤ length xs → take
 part-front n r xs ys h =
     let d : drop r (xs ++ ys) ≡ drop r xs ++ ys = drop-append-le r xs ys (omega arith) in
     ap (take n) d ∙ take-append-le n (drop r xs) ys (rw (length-drop r xs) (omega arith))
-
--- lists that agree in the length of their fronts agree in both parts
-pub same-front : (xs ys us vs : List ℕ) → length xs ≡ length ys → xs ++ us ≡ ys ++ vs → xs ≡ ys
-same-front [] [] us vs h e = refl
-same-front [] (y ∷ ys) us vs h e = absurd (omega arith)
-same-front (x ∷ xs) [] us vs h e = absurd (omega arith)
-same-front (x ∷ xs) (y ∷ ys) us vs h e =
-    let p : x ≡ y = cc in
-    let q : xs ++ us ≡ ys ++ vs = cc in
-    let r : xs ≡ ys = same-front xs ys us vs (omega arith) q in
-    cc
-
-pub same-rest : (xs ys us vs : List ℕ) → length xs ≡ length ys → xs ++ us ≡ ys ++ vs → us ≡ vs
-same-rest [] [] us vs h e = e
-same-rest [] (y ∷ ys) us vs h e = absurd (omega arith)
-same-rest (x ∷ xs) [] us vs h e = absurd (omega arith)
-same-rest (x ∷ xs) (y ∷ ys) us vs h e =
-    let q : xs ++ us ≡ ys ++ vs = cc in
-    same-rest xs ys us vs (omega arith) q

@@ -1,18 +1,18 @@
 -- Numbers as bits: written, read, and the two together.
 -- Assumes nothing.
-use Prim.Native.Nat.{ℕ, zero, suc, _+_, _*_, _-_, _/_, _%_, _^_, _≤_, _<_}
-use native.Mathlib.Nat.{pow-suc, mod-eq-of-lt, mod-lt, add-comm, mul-comm, mul-assoc, add-assoc, mul-one, mul-add, add-mul, zero-mul, zero-add}
+use Prim.Native.Nat.{ℕ, zero, suc, _+_, _*_, _/_, _%_, _^_, _≤_, _<_}
+use native.Mathlib.Nat.{pow-suc, mod-eq-of-lt, mul-comm, mul-assoc, add-mul, zero-mul, zero-add}
 use native.Mathlib.Numerals.{one-add}
 use native.Mathlib.Omega.{arith}
-use mathlib.Core.List.{List, [], _∷_, _++_, append-assoc}
+use mathlib.Core.List.{List, [], _∷_, _++_}
 use mathlib.Core.Path.{_≡_, refl, sym, ap, ap₂, _∙_}
-use lib.ListN.{length, take, drop, replicate, length-append, take-append-drop, length-drop}
-use lib.Pow.{pow-pos, pow-add, mod-pow-add, high, low, shr-mod}
+use lib.ListN.{length, take, drop, take-append-drop, length-drop}
+use lib.Pow.{mod-pow-add, high, low}
 use lib.Seq.{length-take-le}
 use lib.Arith.{digits-lt}
 use native.Mathlib.Decide.{decLe}
-use Rattle.rules.specs.Bits.{bits, valueOf, Number, broken-off, number, readNumber}
-use Rattle.codes.specs.Shape.{Below, Bits}
+use Rattle.rules.specs.Bits.{bits, valueOf, broken-off, number, readNumber}
+use Rattle.codes.specs.Shape.{Bits}
 use Rattle.codes.proofs.Lists.{below-take, below-drop}
 
 pub length-bits : (n v : ℕ) → length (bits n v) ≡ n

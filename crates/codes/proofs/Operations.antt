@@ -1,19 +1,18 @@
 -- Operations as bits: what is written is read back, and what is read was written.
 -- Assumes nothing.
-use Prim.Native.Nat.{ℕ, zero, suc, _+_, _*_, _^_, _≤_, _<_}
+use Prim.Native.Nat.{ℕ, zero, suc, _+_, _^_, _≤_, _<_}
 use native.Mathlib.Omega.{arith}
 use mathlib.Core.List.{List, [], _∷_, _++_, append-assoc, append-nil}
 use mathlib.Core.Path.{_≡_, refl, sym, ap, ap₂, _∙_, subst}
-use mathlib.Core.Logic.{_⊎_, inl, inr}
 use lib.ListN.{length, length-append}
 use Rattle.rules.specs.declared.Operation.{Operation}
 use Rattle.rules.specs.declared.Operation.the-variants.{New, Forward, Backward, Border, Split, Close, Union, Start}
 use Rattle.rules.specs.Bits.{bits, Number, broken-off, number, readNumber}
-use Rattle.rules.specs.Code.{placeBits, loopBits, code, indexBits, operationBits, operationsBits, Read, breaks-off, read, readSplit, readPlace, readUnion, kinds, kindIn, readIndices, readCode, readOperation}
-use Rattle.codes.specs.Shape.{Below, Bits, Fits, AllFit}
-use Rattle.codes.specs.Whole.{ReadAll, all-break-off, all-read, readOnto, readAll, widthOf}
+use Rattle.rules.specs.Code.{placeBits, loopBits, code, indexBits, operationBits, operationsBits, breaks-off, read, readSplit, readPlace, readUnion, kinds, kindIn, readIndices, readCode, readOperation}
+use Rattle.codes.specs.Shape.{Bits, Fits}
+use Rattle.codes.specs.Whole.{widthOf}
 use Rattle.codes.proofs.Lists.{below-append, below-rest}
-use Rattle.codes.proofs.Numbers.{length-bits, bits-are, read-bits, read-inverse, NumberRead}
+use Rattle.codes.proofs.Numbers.{bits-are, read-bits, read-inverse, NumberRead}
 
 pub length-operation : (o : Operation) → length (operationBits o) ≡ widthOf o
 unfolding operationBits bits

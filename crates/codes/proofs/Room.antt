@@ -1,18 +1,22 @@
 -- Bits written into a lent buffer: one after the other, and by the bytes in which they lie.
 -- Assumes nothing.
 use Prim.Native.Nat.{ℕ, zero, suc, _+_, _*_, _-_, _/_, _%_, _^_, _≤_, _<_}
-use native.Mathlib.Nat.{zero-add, add-zero, mul-comm, mul-assoc, mul-one, zero-mul, mod-eq-of-lt, pow-zero}
+use native.Mathlib.Nat.{add-zero}
 use native.Mathlib.Omega.{arith}
-use mathlib.Core.List.{List, [], _∷_, _++_, append-assoc, append-nil}
+use mathlib.Core.List.{List, [], _∷_, _++_, append-assoc}
 use mathlib.Core.Path.{_≡_, refl, sym, ap, ap₂, _∙_, subst}
-use lib.ListN.{length, take, drop, getD, replicate, length-append, length-replicate, length-take, length-drop, take-append-drop, drop-of-length-le, replicate-append-replicate}
-use lib.Pow.{shr-mod, pow-add}
+use lib.ListN.{length, take, drop, getD, replicate, length-append, length-replicate, length-drop, take-append-drop, drop-of-length-le, replicate-append-replicate}
+use lib.Pow.{shr-mod}
 use lib.Seq.{paste, length-take-le, length-paste-head, take-append-le, take-at, drop-at, drop-drop, take-add, take-append-seam, drop-append-add, getD-drop, take-nil}
+use Rattle.rules.specs.declared.Counts.{Counts}
+use Rattle.rules.specs.Fields.{packBytes}
 use Rattle.rules.specs.Bits.{bits, valueOf, bitsOfBytes, bytesOf}
 use Rattle.rules.specs.Buffer.{over}
-use Rattle.codes.specs.Shape.{Below, Bits, Bytes}
+use Rattle.codes.specs.Shape.{Bits, Bytes}
+use Rattle.codes.specs.Header.{headerOf}
+use Rattle.codes.proofs.Fields.{pack-header, length-header, length-pack}
 use Rattle.codes.specs.Room.{writtenAt, bytesFor, fourBytes, wordOf}
-use Rattle.codes.proofs.Lists.{below-append, below-take, below-drop, below-replicate, below-getD}
+use Rattle.codes.proofs.Lists.{below-append, below-take, below-replicate, below-getD}
 use Rattle.codes.proofs.Numbers.{length-bits, bits-are, value-append, value-from, value-of-bits, value-part, twice}
 use Rattle.codes.proofs.Bytes.{length-bits-of-bytes, bits-of-bytes-append, drop-bytes, bytes-step, bytes-nil, bytes-append, bytes-of-bits, bits-of-bytes, bytes-of-front, length-bytes, fill}
 
@@ -54,6 +58,17 @@ length-written room at xs h =
     let l : length (take at (bitsOfBytes room)) ≡ at = length-take-le at (bitsOfBytes room) (omega (arith, length-bits-of-bytes room)) in
     let ys = take at (bitsOfBytes room) ++ xs in
     length-over (bytesOf ys) room (omega (arith, length-bytes ys, length-append (take at (bitsOfBytes room)) xs))
+
+-- a header over the front, with the operations after its 14 bytes, is the pack
+pub pack-over : (s : Counts) (ops room : List ℕ) → 14 ≤ length room → over (headerOf s (length ops)) (take 14 room ++ over ops (drop 14 room)) ≡ over (packBytes s ops) room
+pack-over s ops room h =
+    let hs = headerOf s (length ops) in
+    let t : length (take 14 room) ≡ 14 = length-take-le 14 room h in
+    let a : drop (length hs) (take 14 room ++ over ops (drop 14 room)) ≡ over ops (drop 14 room) =
+    ap (λ (k : ℕ). drop k (take 14 room ++ over ops (drop 14 room))) (length-header s (length ops)) ∙ drop-at (take 14 room) (over ops (drop 14 room)) 14 t in
+    let b : drop (length ops) (drop 14 room) ≡ drop (length (packBytes s ops)) room = drop-drop (length ops) 14 room ∙ ap (λ (k : ℕ). drop k room) (sym (length-pack s ops)) in
+    ap (λ (us : List ℕ). hs ++ us) (a ∙ ap (λ (us : List ℕ). ops ++ us) b) ∙ sym (append-assoc hs ops (drop (length (packBytes s ops)) room))
+    ∙ ap (λ (us : List ℕ). us ++ drop (length (packBytes s ops)) room) (sym (pack-header s ops))
 
 -- ---- by bytes
 

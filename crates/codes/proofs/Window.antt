@@ -1,17 +1,17 @@
 -- A number of a few bits, read from the three bytes in which it lies; bits written into the bytes in which they lie.
 -- Assumes nothing.
 use Prim.Native.Nat.{ℕ, zero, suc, _+_, _*_, _-_, _/_, _%_, _^_, _≤_, _<_}
-use native.Mathlib.Nat.{zero-add, add-zero, mod-eq-of-lt}
+use native.Mathlib.Nat.{add-zero}
 use native.Mathlib.Omega.{arith}
-use mathlib.Core.List.{List, [], _∷_, _++_, append-assoc, append-nil}
-use mathlib.Core.Path.{_≡_, refl, sym, ap, ap₂, _∙_}
-use lib.ListN.{length, take, drop, getD, replicate, length-append, length-replicate, length-drop, take-append-drop}
-use lib.Seq.{take-append-le, length-take-le, drop-drop, getD-drop, take-at, drop-at, take-append-add, drop-append-add}
-use Rattle.rules.specs.Bits.{bits, valueOf, bitsOfBytes, bytesOf}
-use Rattle.codes.specs.Shape.{Below, Bits, Bytes}
-use Rattle.codes.proofs.Lists.{below-append, below-take, below-drop, below-getD, part-front}
-use Rattle.codes.proofs.Numbers.{length-bits, bits-are, value-append, value-bits, value-of-bits, value-part}
-use Rattle.codes.proofs.Bytes.{length-bits-of-bytes, bits-of-bytes-are, drop-bits}
+use mathlib.Core.List.{List, [], _∷_, _++_}
+use mathlib.Core.Path.{_≡_, refl, sym, ap, _∙_}
+use lib.ListN.{length, take, drop, getD, length-drop}
+use lib.Seq.{getD-drop}
+use Rattle.rules.specs.Bits.{bits, valueOf, bitsOfBytes}
+use Rattle.codes.specs.Shape.{Bits, Bytes}
+use Rattle.codes.proofs.Lists.{below-append, below-drop, below-getD, part-front}
+use Rattle.codes.proofs.Numbers.{bits-are, value-append, value-bits, value-of-bits, value-part}
+use Rattle.codes.proofs.Bytes.{drop-bits}
 
 -- the bits of three bytes, and their number
 three : ℕ → ℕ → ℕ → List ℕ

@@ -4,7 +4,7 @@ use Prim.Native.Nat.{ℕ, zero, suc}
 use mathlib.Core.List.{List, [], _∷_}
 use Rattle.rules.specs.declared.Operation.{Operation}
 use Rattle.rules.specs.declared.Operation.the-variants.{New, Forward, Backward, Border, Split, Close, Union, Start}
-use Rattle.rules.specs.Code.{Read, breaks-off, read, readOperation}
+use Rattle.rules.specs.Code.{breaks-off, read, readOperation}
 
 -- the operations at the front of some bits, and the bits after them; or they break off
 pub data ReadAll : Type 0 where

@@ -18,6 +18,7 @@ use Rattle.rules.specs.Across.{across}
 use Rattle.rules.specs.Ring.{Node, opened, Ring, vertex, isOpen}
 use Rattle.rules.specs.Table.{marks, atEdge}
 use Rattle.rules.specs.Choice.{Packing, has, dropTriangle, turnIn, turnOut, Spot, nowhere, spot, spotOf, operationFor, sizeOf, following, choosePlace, packingAfter, limited, taking, chooseAt, chooseIn, choose}
+use Rattle.rules.specs.Pack.{indexOf}
 use Rattle.gap.specs.Turn.{Rotated, at-p, at-q, at-r, In, here, Unused, Once, FanAt}
 use Rattle.gap.specs.Trace.{triangleAt, afterBorder, withRing}
 use Rattle.gap.specs.Tally.{newNumbers, allOpenEdges}
@@ -30,9 +31,11 @@ use Rattle.gap.proofs.Bordering.{withRim, rimOf, border-free}
 use Rattle.gap.proofs.Starting.{all-built}
 use Rattle.gap.proofs.Taking.{corners}
 use Rattle.gap.proofs.Progress.{AllGood, Goes, by-start, by-build, by-border, progress}
-use Rattle.gap.proofs.Runs.{Run, r-start, r-build, r-border}
+use Rattle.gap.proofs.Runs.{r-start, r-build, r-border}
+use Rattle.gap.proofs.Tracking.{firstRing, numberedAfter, same-numbers, numbering, Agrees, numbering-grows, RunsAt, Runs}
 use Rattle.gap.proofs.Falling.{build-opens, border-opens}
-use Rattle.gap.proofs.Numbering.{Met, Numbered, not-met, numbered-old, numbered-new, numbered-start}
+use Rattle.gap.proofs.Numbering.{Met, Numbered, not-met, numbered-old, numbered-new, numbered-start, index-new, index-start}
+use Rattle.gap.proofs.Distinct.{Distinct, distinct-new, distinct-start}
 use Rattle.gap.proofs.Dropping.{drop-others}
 
 -- a packing under way, with the triangles built so far and the rims that have ended
@@ -40,6 +43,7 @@ pub record Fits (s : Packing) (B : List Triangle) (rims : List Ring) : Type 0 wh
   pub keeps : Keeps (s .mesh) (s .left) B (s .loops) rims
   pub good : AllGood (s .loops)
   pub numbers : Numbered (s .numbered) B
+  pub distinct : Distinct (s .numbered)
 
 -- what is left to do
 abbrev pub labour : Packing → ℕ
@@ -105,11 +109,13 @@ pub record GoesOn (s : Packing) (B : List Triangle) (rims : List Ring) : Type 0 
   pub mesh : after .mesh ≡ s .mesh
   pub fits : Fits after built-after rims-after
   pub falls : labour after < labour s
-  pub runs : {M : List Triangle} {os : List Operation} {R : List Triangle} → Run M built-after rims-after (after .loops) os R
-      → (R′ : List Triangle) × Run M B rims (s .loops) (o ∷ os) R′
+  pub runs : (last : Packing) (M : List Triangle) (os : List Operation) → Runs after last M built-after rims-after os → Runs s last M B rims (o ∷ os)
 
-run-at : {M B : List Triangle} {rims ls ls′ : List Ring} {os : List Operation} {R : List Triangle} → ls ≡ ls′ → Run M B rims ls′ os R → Run M B rims ls os R
-run-at {M} {B} {rims} {os = os} {R = R} e run = subst (λ (l : List Ring). Run M B rims l os R) (sym e) run
+runs-at : (s last : Packing) (M B : List Triangle) (rims : List Ring) (os : List Operation) (ls : List Ring) (n : ℕ) → s .loops ≡ ls → length (s .left) ≡ n
+    → RunsAt last M B rims os ls n (s .mostPlaces) (s .mostLoops) (s .numbered) → Runs s last M B rims os
+runs-at s last M B rims os ls n e c r =
+    subst (λ (l : List Ring). RunsAt last M B rims os l (length (s .left)) (s .mostPlaces) (s .mostLoops) (s .numbered)) (sym e)
+    (subst (λ (k : ℕ). RunsAt last M B rims os ls k (s .mostPlaces) (s .mostLoops) (s .numbered)) (sym c) r)
 
 module _ (s : Packing) (B : List Triangle) (rims : List Ring) (fit : Fits s B rims) (fan : (c : ℕ) → FanAt (s .mesh) c) where
   goes-start : (t : Triangle) (R : List Triangle) → s .left ≡ t ∷ R → s .loops ≡ []
@@ -122,9 +128,9 @@ module _ (s : Packing) (B : List Triangle) (rims : List Ring) (fit : Fits s B ri
     rims-after = rims;
     chooses = choose-start s t R l h;
     mesh = refl;
-    fits = record { keeps = k; good = g; numbers = numbered-start (s .numbered) B t (fit .numbers) };
+    fits = record { keeps = k; good = g; numbers = numbered-start (s .numbered) B t (fit .numbers); distinct = distinct-start (s .numbered) (t .p) (t .q) (t .r) (fit .distinct) (not-yet (t .p) (none (t .p) (t .q) (t .r) (at-p refl refl refl))) (not-yet (t .q) (none (t .q) (t .r) (t .p) (at-q refl refl refl))) (not-yet (t .r) (none (t .r) (t .p) (t .q) (at-r refl refl refl))) (here-once .1) };
     falls = let n : length (s .left) ≡ suc (length R) = ap length h in omega arith;
-    runs = λ run. goes run;
+    runs = goes;
   }
     where
       before : Keeps (s .mesh) (t ∷ R) B [] rims
@@ -136,14 +142,29 @@ module _ (s : Packing) (B : List Triangle) (rims : List Ring) (fit : Fits s B ri
       none : (x y z : ℕ) → Rotated t x y z → (m n : ℕ) → In x m n B → ⊥
       none x y z r m n j = all-built (s .mesh) (t ∷ R) B rims before fan x y z m n (here r) j
 
-      goes : {M : List Triangle} {os : List Operation} {R′ : List Triangle} → Run M (t ∷ B) rims ((opened (t .p) ∷ (opened (t .q) ∷ (opened (t .r) ∷ []))) ∷ []) os R′
-          → (R″ : List Triangle) × Run M B rims (s .loops) (Start ∷ os) R″
-      goes {M} {os} {R′} run = (
-        t ∷ R′,
-        run-at l
-            (r-start (none (t .p) (t .q) (t .r) (at-p refl refl refl)) (none (t .q) (t .r) (t .p) (at-q refl refl refl)) (none (t .r) (t .p) (t .q) (at-r refl refl refl))
-            (here-once .1) run),
-      )
+      not-yet : (x : ℕ) → ((m n : ℕ) → In x m n B → ⊥) → has x (s .numbered) ≡ false
+      not-yet x h = not-met (s .numbered) B (fit .numbers) x h
+
+      goes : (last : Packing) (M : List Triangle) (os : List Operation)
+          → Runs (packingAfter s R (s .numbered ++ (t .p ∷ (t .q ∷ (t .r ∷ [])))) (firstRing (t .p) (t .q) (t .r))) last M (t ∷ B) rims os
+          → Runs s last M B rims (Start ∷ os)
+      goes last M os r =
+          runs-at s last M B rims (Start ∷ os) [] (suc (length R)) l (ap length h)
+          (record {
+            order = t ∷ r .order;
+            count = ap suc (r .count);
+            run =
+                r-start (none (t .p) (t .q) (t .r) (at-p refl refl refl)) (none (t .q) (t .r) (t .p) (at-q refl refl refl)) (none (t .r) (t .p) (t .q) (at-r refl refl refl))
+                (here-once .1) (r .run);
+            most-places = r .most-places;
+            most-loops = r .most-loops;
+            numbers = r .numbers;
+            agrees = (index-start (t .p) (t .q) (t .r) (s .numbered) (last .numbered) (grown r .0) (r .numbers ∙ grown r .1) (not-yet (t .p) (none (t .p) (t .q) (t .r) (at-p refl refl refl))) (not-yet (t .q) (none (t .q) (t .r) (t .p) (at-q refl refl refl))) (not-yet (t .r) (none (t .r) (t .p) (t .q) (at-r refl refl refl))) (here-once .1), r .agrees);
+          })
+        where
+          grown : (w : Runs (packingAfter s R (s .numbered ++ (t .p ∷ (t .q ∷ (t .r ∷ [])))) (firstRing (t .p) (t .q) (t .r))) last M (t ∷ B) rims os)
+              → (ws : List ℕ) × (numbering (s .numbered ++ (t .p ∷ (t .q ∷ (t .r ∷ [])))) (w .run) ≡ (s .numbered ++ (t .p ∷ (t .q ∷ (t .r ∷ [])))) ++ ws)
+          grown w = numbering-grows (w .run) (s .numbered ++ (t .p ∷ (t .q ∷ (t .r ∷ []))))
 
   goes-border : (e f : Node) (ps : List Node) (ws : List Ring) → s .loops ≡ (e ∷ (f ∷ ps)) ∷ ws → Unused (vertex f) (vertex e) (s .left)
       → Keeps (s .mesh) (s .left) B (withRing (afterBorder e f ps) ws) (withRim (afterBorder e f ps) (rimOf e f ps) rims)
@@ -156,9 +177,9 @@ module _ (s : Packing) (B : List Triangle) (rims : List Ring) (fit : Fits s B ri
     chooses =
         choose-border s e f ps ws (withRing (afterBorder e f ps) ws) (edge (vertex e) (vertex f)) (mark .0) l (across-none (vertex f) (vertex e) (s .mesh) free) (mark .1);
     mesh = refl;
-    fits = record { keeps = k; good = g; numbers = fit .numbers };
+    fits = record { keeps = k; good = g; numbers = fit .numbers; distinct = fit .distinct };
     falls = let h = border-opens e f ps ws live in let n : allOpenEdges (s .loops) ≡ allOpenEdges ((e ∷ (f ∷ ps)) ∷ ws) = ap allOpenEdges l in omega arith;
-    runs = λ {M} {os} {R} run. (R, run-at l (r-border live run));
+    runs = goes;
   }
     where
       before : Keeps (s .mesh) (s .left) B ((e ∷ (f ∷ ps)) ∷ ws) rims
@@ -172,6 +193,13 @@ module _ (s : Packing) (B : List Triangle) (rims : List Ring) (fit : Fits s B ri
 
       mark : (n : ℕ) × (atEdge Border 0 (vertex e) (f ∷ ps) ws ≡ marks (withRing (afterBorder e f ps) ws) (edge (vertex e) (vertex f)) n)
       mark = border-marks 0 e f ps ws
+
+      goes : (last : Packing) (M : List Triangle) (os : List Operation)
+          → Runs (packingAfter s (s .left) (s .numbered) (withRing (afterBorder e f ps) ws)) last M B (withRim (afterBorder e f ps) (rimOf e f ps) rims) os
+          → Runs s last M B rims (Border ∷ os)
+      goes last M os r =
+          runs-at s last M B rims (Border ∷ os) ((e ∷ (f ∷ ps)) ∷ ws) (length (s .left)) l refl
+          (record { order = r .order; count = r .count; run = r-border live (r .run); most-places = r .most-places; most-loops = r .most-loops; numbers = r .numbers; agrees = r .agrees })
 
   goes-build : (e f : Node) (ps : List Node) (ws : List Ring) (c : ℕ) (i : In (vertex f) (vertex e) c (s .left)) → s .loops ≡ (e ∷ (f ∷ ps)) ∷ ws
       → (p : Packed (s .mesh) (others i) B e f ps ws rims c)
@@ -214,9 +242,25 @@ module _ (s : Packing) (B : List Triangle) (rims : List Ring) (fit : Fits s B ri
       apart : ((vertex e ≡ vertex f) → ⊥) × ((vertex f ≡ c) → ⊥) × ((c ≡ vertex e) → ⊥)
       apart = let d = corners (s .left) i (fit .keeps .once) in (λ h. d .0 (sym h), λ h. d .2 (sym h), λ h. d .1 (sym h))
 
-      goes : {M : List Triangle} {os : List Operation} {R : List Triangle} → (p .o ≡ New → (m n : ℕ) → In c m n B → ⊥)
-          → Run M (triangleAt e f c ∷ B) rims (p .ls) os R → (R′ : List Triangle) × Run M B rims (s .loops) (p .o ∷ os) R′
-      goes {M} {os} {R} n run = (triangleAt e f c ∷ R, run-at l (r-build live (p .does) (p .ruleA) (p .ruleB) apart n run))
+      goes : (p .o ≡ New → (m n : ℕ) → In c m n B → ⊥) → (vs : List ℕ) → vs ≡ numberedAfter (p .o) c (s .numbered) → (last : Packing) (M : List Triangle) (os : List Operation)
+          → Runs (packingAfter s (others i) vs (p .ls)) last M (triangleAt e f c ∷ B) rims os → Runs s last M B rims (p .o ∷ os)
+      goes n vs q last M os r =
+          runs-at s last M B rims (p .o ∷ os) ((e ∷ (f ∷ ps)) ∷ ws) (suc (length (others i))) l (others-length i)
+          (record {
+            order = triangleAt e f c ∷ r .order;
+            count = ap suc (r .count);
+            run = r-build live (p .does) (p .ruleA) (p .ruleB) apart n (r .run);
+            most-places = r .most-places;
+            most-loops = r .most-loops;
+            numbers = r .numbers ∙ ap (λ (ns : List ℕ). numbering ns (r .run)) q;
+            agrees = (next, subst (λ (ns : List ℕ). Agrees (λ (v : ℕ). indexOf v (last .numbered)) ns (r .run)) q (r .agrees));
+          })
+        where
+          next : p .o ≡ New → indexOf c (last .numbered) ≡ length (s .numbered)
+          next h =
+              let v : vs ≡ s .numbered ++ (c ∷ []) = q ∙ ap (λ (k : Operation). numberedAfter k c (s .numbered)) h in
+              let g = numbering-grows (r .run) vs in
+              index-new c (s .numbered) (last .numbered) (g .0) (r .numbers ∙ (g .1 ∙ ap (λ (l : List ℕ). l ++ g .0) v)) (not-met (s .numbered) B (fit .numbers) c (n h))
 
       by : (((m n : ℕ) → In c m n B → ⊥) × (p .o ≡ New))
           ⊎ (((m : ℕ) × (n : ℕ) × In c m n B) × (choosePlace (vertex e) (vertex f) c (others i) ((e ∷ (f ∷ ps)) ∷ ws) ≡ p .o))
@@ -231,9 +275,9 @@ module _ (s : Packing) (B : List Triangle) (rims : List Ring) (fit : Fits s B ri
             (subst (λ (k : Operation). atEdge k c (vertex e) (f ∷ ps) ws ≡ built k e f (p .ls) c) (h .1) does)
             ∙ ap (λ (k : Operation). limited k (packingAfter s (others i) (s .numbered ++ (c ∷ [])) (p .ls))) (sym (h .1));
         mesh = refl;
-        fits = record { keeps = p .keeps; good = g; numbers = numbered-new (s .numbered) B (triangleAt e f c) (fit .numbers) met-f met-e };
+        fits = record { keeps = p .keeps; good = g; numbers = numbered-new (s .numbered) B (triangleAt e f c) (fit .numbers) met-f met-e; distinct = distinct-new (s .numbered) c (fit .distinct) (not-met (s .numbered) B (fit .numbers) c (h .0)) };
         falls = less;
-        runs = λ run. goes (λ q. h .0) run;
+        runs = goes (λ q. h .0) (s .numbered ++ (c ∷ [])) (sym (ap (λ (k : Operation). numberedAfter k c (s .numbered)) (h .1)));
       }
       by (inr h) = record {
         o = p .o;
@@ -243,16 +287,16 @@ module _ (s : Packing) (B : List Triangle) (rims : List Ring) (fit : Fits s B ri
         chooses =
             choose-old s e f ps ws (p .ls) (others i) (p .o) c (found .number) (found .corner) l (found .found) dropped (fit .numbers .numbered c (h .0)) (h .1) does;
         mesh = refl;
-        fits = record { keeps = p .keeps; good = g; numbers = numbered-old (s .numbered) B (triangleAt e f c) (fit .numbers) met-f met-e (h .0) };
+        fits = record { keeps = p .keeps; good = g; numbers = numbered-old (s .numbered) B (triangleAt e f c) (fit .numbers) met-f met-e (h .0); distinct = fit .distinct };
         falls = less;
-        runs = λ run. goes old run;
+        runs = goes old (s .numbered) (sym (same-numbers (p .o) c (s .numbered) never));
       }
         where
+          never : newNumbers (p .o) ≡ 0
+          never = ap newNumbers (sym (h .1)) ∙ no-new (vertex e) (vertex f) c (others i) ((e ∷ (f ∷ ps)) ∷ ws)
+
           old : p .o ≡ New → (m n : ℕ) → In c m n B → ⊥
-          old q =
-              let z = no-new (vertex e) (vertex f) c (others i) ((e ∷ (f ∷ ps)) ∷ ws) in
-              let y : newNumbers (choosePlace (vertex e) (vertex f) c (others i) ((e ∷ (f ∷ ps)) ∷ ws)) ≡ 1 = ap newNumbers (h .1 ∙ q) in
-              absurd (omega arith)
+          old q = let z = never in let y : newNumbers (p .o) ≡ 1 = ap newNumbers q in absurd (omega arith)
 
   -- the packer is done, or it goes on
   pub choose-step : ((s .loops ≡ []) × (s .left ≡ [])) ⊎ GoesOn s B rims

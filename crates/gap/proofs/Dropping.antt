@@ -1,22 +1,16 @@
--- The triangle across the current edge: the look-up in the whole list finds it among those left, and it is the one dropped.
+-- The triangle that the packer drops from those left is the one across the current edge.
 -- Assumes nothing.
-use Prim.Native.Nat.{ℕ, _+_}
-use native.Mathlib.Omega.{arith}
+use Prim.Native.Nat.{ℕ}
 use mathlib.Core.List.{List, _∷_}
 use mathlib.Core.Path.{_≡_, refl, ap}
-use mathlib.Core.Logic.{_⊎_, inl, inr}
 use Rattle.rules.specs.declared.Triangle.{Triangle}
 use Rattle.rules.specs.declared.Across.{Across}
 use Rattle.rules.specs.declared.Across.the-variants.{Found, Nothing}
 use Rattle.rules.specs.Across.{inTriangle}
-use Rattle.rules.specs.Ring.{Node, Ring, vertex}
 use Rattle.rules.specs.Choice.{dropTriangle}
 use Rattle.gap.specs.Turn.{Rotated, In, here, there, Once}
-use Rattle.gap.specs.Tally.{total}
 use Rattle.gap.proofs.Links.{free-rot}
 use Rattle.gap.proofs.Turning.{Told, told, others}
-use Rattle.gap.proofs.Legal.{Lawful, hit-one}
-use Rattle.gap.proofs.Steps.{Keeps}
 
 told-not : (x y z : ℕ) (t : Triangle) → Told x y t Nothing → Rotated t x y z → ⊥
 unfolding Told
@@ -40,14 +34,3 @@ drop-others x y z (t ∷ ts) (there i) o = go (inTriangle x y t) (told x y t) (d
         → _≡_ {A = List Triangle} (elim m [ Found n k w ↦ ts | Nothing ↦ t ∷ dropTriangle x y ts ]) (t ∷ others i)
     go (Found n k w) h g = absurd (free-rot ts (o .0) (told-is x y n k w t h) z i)
     go Nothing h g = ap (λ (l : List Triangle). t ∷ l) g
-
--- no built triangle has the opposite of the current edge
-pub across-left : (M R B : List Triangle) (e f : Node) (ps : List Node) (ws rims : List Ring) → Keeps M R B ((e ∷ (f ∷ ps)) ∷ ws) rims
-    → (c : ℕ) → In (vertex f) (vertex e) c M → In (vertex f) (vertex e) c R
-across-left M R B e f ps ws rims k c i = go (k .part _ _ c i) (k .legal (vertex e) (vertex f))
-  where
-    go : In (vertex f) (vertex e) c R ⊎ In (vertex f) (vertex e) c B
-        → Lawful B (total (vertex e) (vertex f) ((e ∷ (f ∷ ps)) ∷ ws) + total (vertex e) (vertex f) rims) (vertex e) (vertex f) → In (vertex f) (vertex e) c R
-    go (inl j) q = j
-    go (inr j) (inl q) = let o = hit-one (vertex e) (vertex f) in absurd (omega arith)
-    go (inr j) (inr q) = absurd (q .2 c j)

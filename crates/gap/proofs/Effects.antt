@@ -140,24 +140,29 @@ built o e f ls c = builds ls (triangleAt e f c) glued (sideOf (gluesA o)) (sideO
 moved : (o : Operation) (e f : Node) {ls ls′ : List Ring} {c c′ : ℕ} → ls ≡ ls′ → c ≡ c′ → built o e f ls′ c′ ≡ built o e f ls c
 moved o e f h k = ap₂ (built o e f) (sym h) (sym k)
 
--- where the third corner is the next unused number, or any number if the operation is not new
+-- u is the next unused number: new takes it
+pub allows-any : (o : Operation) (u : ℕ) (e f : Node) (ps : List Node) (ws ls : List Ring) (c : ℕ) → Surgery e f ps ws ls c o → (o ≡ New → c ≡ u)
+    → atEdge o u (vertex e) (f ∷ ps) ws ≡ built o e f ls c
+unfolding atEdge
+allows-any New u e f ps ws ls c (on-new q) n = ap (λ (v : ℕ). atEdge New v (vertex e) (f ∷ ps) ws) (sym (n refl)) ∙ moved New e f q refl
+allows-any Forward u e f ps ws ls c (on-forward p q qs sh k op l) n =
+    ap (λ (r : List Node). atEdge Forward u (vertex e) (f ∷ r) ws) sh ∙ (on-f u e f ws p q qs op ∙ moved Forward e f l k)
+allows-any Backward u e f ps ws ls c (on-backward q qs p sh k op l) n =
+    ap (λ (r : List Node). atEdge Backward u (vertex e) (f ∷ r) ws) sh ∙ (on-b u e f ws q qs p op ∙ moved Backward e f l k)
+allows-any Close u e f ps ws ls c (on-close p sh k op op′ l) n =
+    ap (λ (r : List Node). atEdge Close u (vertex e) (f ∷ r) ws) sh ∙ (on-c u e f ws p op op′ ∙ moved Close e f l k)
+allows-any (Split i) u e f ps ws ls c (on-split us p vs sh m lu lv k l) n =
+    ap₂ (λ (j : ℕ) (r : List Node). atEdge (Split j) u (vertex e) (f ∷ r) ws) (sym m) sh
+    ∙ (on-s u e f ws us p vs lu lv ∙ moved (Split i) e f l k)
+allows-any (Union w j) u e f ps ws ls c (on-union before us p vs behind sh m i k l) n =
+    ap₂ (λ (h : ℕ) (r : List Ring). atEdge (Union h j) u (vertex e) (f ∷ ps) r) (sym m) sh
+    ∙ (ap (λ (h : ℕ). atEdge (Union (suc (length before)) h) u (vertex e) (f ∷ ps) (before ++ ((us ++ (p ∷ vs)) ∷ behind))) (sym i)
+    ∙ (on-u u e f ws before us p vs behind ps ∙ moved (Union w j) e f l k))
+
+-- with the third corner itself as that number
 pub allows : (o : Operation) (e f : Node) (ps : List Node) (ws ls : List Ring) (c : ℕ) → Surgery e f ps ws ls c o
     → atEdge o c (vertex e) (f ∷ ps) ws ≡ built o e f ls c
-unfolding atEdge
-allows New e f ps ws ls c (on-new q) = moved New e f q refl
-allows Forward e f ps ws ls c (on-forward p q qs sh k op l) =
-    ap (λ (r : List Node). atEdge Forward c (vertex e) (f ∷ r) ws) sh ∙ (on-f c e f ws p q qs op ∙ moved Forward e f l k)
-allows Backward e f ps ws ls c (on-backward q qs p sh k op l) =
-    ap (λ (r : List Node). atEdge Backward c (vertex e) (f ∷ r) ws) sh ∙ (on-b c e f ws q qs p op ∙ moved Backward e f l k)
-allows Close e f ps ws ls c (on-close p sh k op op′ l) =
-    ap (λ (r : List Node). atEdge Close c (vertex e) (f ∷ r) ws) sh ∙ (on-c c e f ws p op op′ ∙ moved Close e f l k)
-allows (Split i) e f ps ws ls c (on-split us p vs sh n lu lv k l) =
-    ap₂ (λ (j : ℕ) (r : List Node). atEdge (Split j) c (vertex e) (f ∷ r) ws) (sym n) sh
-    ∙ (on-s c e f ws us p vs lu lv ∙ moved (Split i) e f l k)
-allows (Union w j) e f ps ws ls c (on-union before us p vs behind sh n i k l) =
-    ap₂ (λ (h : ℕ) (r : List Ring). atEdge (Union h j) c (vertex e) (f ∷ ps) r) (sym n) sh
-    ∙ (ap (λ (h : ℕ). atEdge (Union (suc (length before)) h) c (vertex e) (f ∷ ps) (before ++ ((us ++ (p ∷ vs)) ∷ behind))) (sym i)
-    ∙ (on-u c e f ws before us p vs behind ps ∙ moved (Union w j) e f l k))
+allows o e f ps ws ls c s = allows-any o c e f ps ws ls c s (λ h. refl)
 
 -- what border does, whichever edge comes next
 marked-by : (r : Ring) (ws : List Ring) (x y : ℕ) → (n : ℕ) × (marking r ws (edge x y) ≡ marks (withRing r ws) (edge x y) n)

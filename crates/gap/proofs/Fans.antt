@@ -10,50 +10,14 @@ use lib.Dec.{eqb, ltb}
 use borrow.Author.Tests.{eqb-true, eqb-false, ltb-true, ltb-false}
 use Rattle.rules.specs.declared.Triangle.{Triangle}
 use Rattle.rules.specs.Triangle.{Edge, edge}
-use Rattle.rules.specs.Count.{num, same, hit}
+use Rattle.rules.specs.Count.{same, hit}
 use Rattle.rules.specs.Fan.{about, oneRun, oneFanEach}
 use Rattle.gap.specs.Turn.{Rotated, at-p, at-q, at-r, In, here, there, Unused, Once, Chain, Consecutive, endOf, ClosedOrOpen, FanAt}
 use Rattle.gap.proofs.Links.{in-next, in-last, rot-next, rot-func, free-rot}
 use Rattle.gap.proofs.Turning.{rot-mid}
 use Rattle.gap.proofs.Legal.{Counted, counted, hit-one}
-use Rattle.gap.proofs.Walks.{sum, Path, Walked, one-run}
-
--- equal numbers are counted
-same-by : (x y : ℕ) (t : Bool) → eqb x y ≡ t → ((num t ≡ 0) × (x ≡ y → ⊥)) ⊎ ((num t ≡ 1) × (x ≡ y))
-same-by x y true e = inr (refl, eqb-true x y e)
-same-by x y false e = inl (refl, eqb-false x y e)
-
-same-cases : (x y : ℕ) → ((same x y ≡ 0) × (x ≡ y → ⊥)) ⊎ ((same x y ≡ 1) × (x ≡ y))
-unfolding same
-same-cases x y = same-by x y (eqb x y) refl
-
-same-one : (x y : ℕ) → x ≡ y → same x y ≡ 1
-same-one x y e = go (same-cases x y)
-  where
-    go : ((same x y ≡ 0) × (x ≡ y → ⊥)) ⊎ ((same x y ≡ 1) × (x ≡ y)) → same x y ≡ 1
-    go (inl r) = absurd (r .1 e)
-    go (inr r) = r .0
-
-same-zero : (x y : ℕ) → (x ≡ y → ⊥) → same x y ≡ 0
-same-zero x y n = go (same-cases x y)
-  where
-    go : ((same x y ≡ 0) × (x ≡ y → ⊥)) ⊎ ((same x y ≡ 1) × (x ≡ y)) → same x y ≡ 0
-    go (inl r) = r .0
-    go (inr r) = absurd (n (r .1))
-
-same-eq : (x y : ℕ) → 1 ≤ same x y → x ≡ y
-same-eq x y h = go (same-cases x y)
-  where
-    go : ((same x y ≡ 0) × (x ≡ y → ⊥)) ⊎ ((same x y ≡ 1) × (x ≡ y)) → x ≡ y
-    go (inl r) = let z = r .0 in absurd (omega arith)
-    go (inr r) = r .1
-
--- how often x is the first, or the second, vertex of an edge
-abbrev outs : ℕ → ℕ → ℕ → ℕ
-outs x u v = same x u
-
-abbrev ins : ℕ → ℕ → ℕ → ℕ
-ins x u v = same x v
+use Rattle.gap.proofs.Counting.{same-cases, same-one, same-zero, same-eq, outs, ins, sum}
+use Rattle.gap.proofs.Walks.{Path, Walked, one-run}
 
 -- the first triangle's part in the triangles about c
 abbrev Head : ℕ → Triangle → List Triangle → List Edge → Type 0
@@ -84,7 +48,7 @@ unfolding about
 head c t ts = head-by c t ts _ _ _ refl refl refl
 
 -- a triangle at c is about c
-in-about : (w : ℕ → ℕ → ℕ) (c x z : ℕ) (ts : List Triangle) → Once ts → In c x z ts → w x z ≤ sum w (about c ts)
+pub in-about : (w : ℕ → ℕ → ℕ) (c x z : ℕ) (ts : List Triangle) → Once ts → In c x z ts → w x z ≤ sum w (about c ts)
 in-about w c x z (t ∷ ts) o (here r) = go (head c t ts)
   where
     go : Head c t ts (about c (t ∷ ts)) → w x z ≤ sum w (about c (t ∷ ts))
@@ -102,7 +66,7 @@ in-about w c x z (t ∷ ts) o (there i) = go (in-about w c x z ts (o .2) i) (hea
     go k (inr (n, e)) = let h : sum w (about c (t ∷ ts)) ≡ sum w (about c ts) = ap (sum w) e in omega arith
 
 -- what has a weight about c is a triangle at c
-about-in : (w : ℕ → ℕ → ℕ) (c : ℕ) (ts : List Triangle) → 1 ≤ sum w (about c ts) → (u : ℕ) × (v : ℕ) × In c u v ts × (1 ≤ w u v)
+pub about-in : (w : ℕ → ℕ → ℕ) (c : ℕ) (ts : List Triangle) → 1 ≤ sum w (about c ts) → (u : ℕ) × (v : ℕ) × In c u v ts × (1 ≤ w u v)
 unfolding about
 about-in w c [] h = absurd (omega arith)
 about-in w c (t ∷ ts) h = go (about-in w c ts) (head c t ts) h
@@ -122,7 +86,7 @@ about-in w c (t ∷ ts) h = go (about-in w c ts) (head c t ts) h
     go ih (inr (n, e)) g = let k : sum w (about c (t ∷ ts)) ≡ sum w (about c ts) = ap (sum w) e in more (ih (omega arith))
 
 -- each vertex is left once and entered once
-outs-once : (x c : ℕ) (ts : List Triangle) → Once ts → sum (outs x) (about c ts) ≤ 1
+pub outs-once : (x c : ℕ) (ts : List Triangle) → Once ts → sum (outs x) (about c ts) ≤ 1
 unfolding about
 outs-once x c [] o = omega arith
 outs-once x c (t ∷ ts) o = go (outs-once x c ts (o .2)) (head c t ts)
@@ -145,7 +109,7 @@ outs-once x c (t ∷ ts) o = go (outs-once x c ts (o .2)) (head c t ts)
         omega arith
     go ih (inr (n, e)) = let k : sum (outs x) (about c (t ∷ ts)) ≡ sum (outs x) (about c ts) = ap (sum (outs x)) e in omega arith
 
-ins-once : (x c : ℕ) (ts : List Triangle) → Once ts → sum (ins x) (about c ts) ≤ 1
+pub ins-once : (x c : ℕ) (ts : List Triangle) → Once ts → sum (ins x) (about c ts) ≤ 1
 unfolding about
 ins-once x c [] o = omega arith
 ins-once x c (t ∷ ts) o = go (ins-once x c ts (o .2)) (head c t ts)
@@ -178,7 +142,7 @@ end-of x [] y p = p
 end-of x (d ∷ ds) y p = end-of (d .to) ds y (p .1)
 
 -- a path leaves each vertex as often as it enters it, but for its ends
-balance : (v x : ℕ) (ds : List Edge) (y : ℕ) → Path x ds y → sum (outs v) ds + same v y ≡ sum (ins v) ds + same v x
+pub balance : (v x : ℕ) (ds : List Edge) (y : ℕ) → Path x ds y → sum (outs v) ds + same v y ≡ sum (ins v) ds + same v x
 balance v x [] y p = let h : same v y ≡ same v x = ap (same v) (sym p) in omega arith
 balance v x (d ∷ ds) y p =
     let h = balance v (d .to) ds y (p .1) in let k : same v (d .from) ≡ same v x = ap (same v) (p .0) in omega arith
@@ -200,7 +164,7 @@ consecutive-of u v x (d ∷ ds) y h p = go (λ k. consecutive-of u v (d .to) ds 
     go ih (inl r) = let z = r .0 in inr (ih (omega arith))
     go ih (inr r) = inl (sym (p .0) ∙ r .1, r .2)
 
-module _ (M : List Triangle) (c : ℕ) (o : Once M) (r : Walked (about c M)) where
+module _ (M : List Triangle) (c : ℕ) (o : Once M) (r : Walked (about c M) []) where
   -- a path that does not come round ends where nothing leaves, and starts where nothing enters
   free-end : (r .start ≡ r .end → ⊥) → Unused c (r .end) M
   free-end n z i =

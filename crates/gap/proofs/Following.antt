@@ -12,7 +12,7 @@ use Rattle.rules.specs.declared.Triangle.{Triangle}
 use Rattle.rules.specs.declared.Across.{Across}
 use Rattle.rules.specs.declared.Across.the-variants.{Found, Nothing}
 use Rattle.rules.specs.declared.Operation.{Operation}
-use Rattle.rules.specs.declared.Operation.the-variants.{New, Forward, Backward, Border, Split, Close, Union, Start}
+use Rattle.rules.specs.declared.Operation.the-variants.{New, Border, Start}
 use Rattle.rules.specs.Triangle.{edge}
 use Rattle.rules.specs.Across.{inTriangle}
 use Rattle.rules.specs.Ring.{Node, Ring, vertex, places}
@@ -30,7 +30,7 @@ use Rattle.gap.proofs.First.{legal-first}
 use Rattle.gap.proofs.Effects.{allows, border-marks}
 use Rattle.gap.proofs.Falling.{build-opens, border-opens}
 use Rattle.gap.proofs.Runs.{Run, r-done, r-start, r-build, r-border, Sound, sound-border, Choices}
-use Rattle.gap.proofs.Tracking.{firstRing, peak, Within, numberedAfter, numbering}
+use Rattle.gap.proofs.Tracking.{firstRing, peak, Within, numberedAfter, same-numbers, numbering}
 use Rattle.gap.proofs.Numbering.{Met, Numbered, not-met, numbered-old, numbered-new, numbered-start}
 use Rattle.gap.proofs.Choosing.{choose-border, choose-new, choose-old, choose-start, no-new}
 use Rattle.gap.proofs.Whole.{all-ended, all-taken, choose-ended}
@@ -47,16 +47,6 @@ drop-first x y z t ts r = go (inTriangle x y t) (told x y t)
 limited-takes : (o : Operation) (s : Packing) → places (s .loops) ≤ s .limitPlaces → length (s .loops) ≤ s .limitLoops → limited o s ≡ takes o s
 unfolding limited
 limited-takes o s h k = rw (limited, le-leb (places (s .loops)) (s .limitPlaces) h, le-leb (length (s .loops)) (s .limitLoops) k) refl
-
-same-numbers : (o : Operation) (c : ℕ) (vs : List ℕ) → newNumbers o ≡ 0 → numberedAfter o c vs ≡ vs
-same-numbers New c vs h = absurd (omega arith)
-same-numbers Forward c vs h = refl
-same-numbers Backward c vs h = refl
-same-numbers Border c vs h = refl
-same-numbers (Split i) c vs h = refl
-same-numbers Close c vs h = refl
-same-numbers (Union n j) c vs h = refl
-same-numbers Start c vs h = refl
 
 -- the packer has taken the operations os and ended
 pub record Followed (s : Packing) (n : ℕ) (os : List Operation) (a b : ℕ) (vs : List ℕ) : Type 0 where

@@ -64,18 +64,6 @@ after-one k i j n h = sym h ∙ rw (following, ne-eqb (i + 1) k (omega arith)) r
 module _ (M R B : List Triangle) (e f : Node) (ps : List Node) (ws : List Ring) (c : ℕ)
     (pk : Packs M (triangleAt e f c ∷ R) B ((e ∷ (f ∷ ps)) ∷ ws)) (live : isOpen e ≡ true) (three : 1 ≤ length ps)
     (n : PlaceOf M R ((e ∷ (f ∷ ps)) ∷ ws) (vertex e) (vertex f) c) where
-  a : ℕ
-  a = vertex e
-
-  b : ℕ
-  b = vertex f
-
-  ls : List Ring
-  ls = (e ∷ (f ∷ ps)) ∷ ws
-
-  t : Triangle
-  t = triangleAt e f c
-
   st : State M (triangleAt e f c ∷ R) B ((e ∷ (f ∷ ps)) ∷ ws)
   st = pk .state
 

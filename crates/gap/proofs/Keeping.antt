@@ -70,10 +70,6 @@ module _ (M R B : List Triangle) (e f : Node) (c : ℕ) (ls : List Ring) (pk : P
   unfolding st
   free-ac = free-rot R (st .once .0) (rot-next tri)
 
-  free-cb : Unused c (vertex f) R
-  unfolding st
-  free-cb = free-rot R (st .once .0) (rot-next (rot-next tri))
-
   free-ab : Unused (vertex e) (vertex f) R
   unfolding st
   free-ab z i = st .apart (vertex e) (vertex f) z (cur .0) (there i) (cur .1)

@@ -52,3 +52,13 @@ pub mod Working
 pub mod Allowances
 pub mod Rules
 pub mod Repacking
+pub mod Renaming
+pub mod Unpacking
+pub mod Distinct
+pub mod RoundTrip
+pub mod Counting
+pub mod FanTests
+pub mod Finishing
+pub mod Rechecking
+pub mod RoundBack
+pub mod Running

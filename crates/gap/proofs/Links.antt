@@ -1,7 +1,7 @@
 -- The theory of links: no directed edge twice makes turning about a vertex a partial injective function.
 -- Assumes nothing.
 use Prim.Native.Nat.{ℕ}
-use mathlib.Core.List.{List, [], _∷_, _++_}
+use mathlib.Core.List.{List, [], _∷_}
 use mathlib.Core.Path.{_≡_, refl, sym, _∙_, subst}
 use mathlib.Core.Logic.{_⊎_, inl, inr}
 use Rattle.rules.specs.declared.Triangle.{Triangle}
@@ -19,15 +19,6 @@ in-next (there i) = there (in-next i)
 
 pub in-last : {x y z : ℕ} {ts : List Triangle} → In x y z ts → In z x y ts
 in-last i = in-next (in-next i)
-
--- membership in a list of two parts
-pub in-left : {x y z : ℕ} {ts : List Triangle} (us : List Triangle) → In x y z ts → In x y z (ts ++ us)
-in-left us (here r) = here r
-in-left us (there i) = there (in-left us i)
-
-pub in-right : {x y z : ℕ} {us : List Triangle} (ts : List Triangle) → In x y z us → In x y z (ts ++ us)
-in-right [] i = i
-in-right (t ∷ ts) i = there (in-right ts i)
 
 -- an edge that a triangle has
 pub free-rot : {t : Triangle} {x y z : ℕ} (ts : List Triangle)
@@ -58,25 +49,6 @@ once-func (t ∷ ts) o (there i) (there j) = once-func ts (o .2) i j
 -- turning back is a function too
 pub once-inj : {c x y z : ℕ} (ts : List Triangle) → Once ts → In c x z ts → In c y z ts → x ≡ y
 once-inj ts o i j = once-func ts o (in-last i) (in-last j)
-
-pub once-tail : (ts us : List Triangle) → Once (ts ++ us) → Once us
-once-tail [] us o = o
-once-tail (t ∷ ts) us o = once-tail ts us (o .2)
-
-pub once-head : (ts us : List Triangle) → Once (ts ++ us) → Once ts
-once-head [] us o = tt
-once-head (t ∷ ts) us o =
-    ((λ z i. o .0 .0 z (in-left us i), λ z i. o .0 .1 z (in-left us i), λ z i. o .0 .2 z (in-left us i)), o .1, once-head ts us (o .2))
-
--- an edge of the first part is none of the second
-pub once-apart : {x y z w : ℕ} (ts us : List Triangle) → Once (ts ++ us) → In x y z ts → In x y w us → ⊥
-once-apart (t ∷ ts) us o (here a) j = free-rot (ts ++ us) (o .0) a _ (in-right ts j)
-once-apart (t ∷ ts) us o (there i) j = once-apart ts us (o .2) i j
-
--- paths
-pub links-join : {c x y z : ℕ} {ts : List Triangle} → Links c ts x y → Links c ts y z → Links c ts x z
-links-join stop m = m
-links-join (link i l) m = link i (links-join l m)
 
 pub turn-join : {M : List Triangle} {c x y z : ℕ} {ts : List Triangle} → Turn M c ts x y → Turn M c ts y z → Turn M c ts x z
 turn-join rest m = m
@@ -162,20 +134,6 @@ fan-end M c (m ∷ ns) x u y w r p f q g = run-end M c m ns x u r p f ∙ sym (r
 -- one fan has at most one border edge into its vertex
 pub one-end : (M : List Triangle) (c x u y w : ℕ) → FanAt M c → In c x u M → Unused c u M → In c y w M → Unused c w M → u ≡ w
 one-end M c x u y w o i f j g = fan-end M c (o .fan) x u y w (o .run) (o .whole x u i) f (o .whole y w j) g
-
-run-start : (M : List Triangle) (c : ℕ) (m : ℕ) (ns : List ℕ) (x u : ℕ) → Chain c M (m ∷ ns) → Consecutive x u (m ∷ ns) → Unused x c M → x ≡ m
-run-start M c m (n ∷ ns) x u r (inl e) f = sym (e .0)
-run-start M c m (n ∷ (k ∷ ns)) x u r (inr (inl e)) f =
-    absurd (f m (subst (λ (w : ℕ). In w c m M) (e .0) (in-last (r .0))))
-run-start M c m (n ∷ (k ∷ ns)) x u r (inr (inr p)) f =
-    absurd (f m (subst (λ (w : ℕ). In w c m M) (sym (run-start M c n (k ∷ ns) x u (r .1) (inr p) f)) (in-last (r .0))))
-
-fan-start : (M : List Triangle) (c : ℕ) (ns : List ℕ) (x u y w : ℕ) → Chain c M ns → Consecutive x u ns → Unused x c M → Consecutive y w ns → Unused y c M → x ≡ y
-fan-start M c (m ∷ ns) x u y w r p f q g = run-start M c m ns x u r p f ∙ sym (run-start M c m ns y w r q g)
-
--- and at most one border edge out of it
-pub one-start : (M : List Triangle) (c x u y w : ℕ) → FanAt M c → In c x u M → Unused x c M → In c y w M → Unused y c M → x ≡ y
-one-start M c x u y w o i f j g = fan-start M c (o .fan) x u y w (o .run) (o .whole x u i) f (o .whole y w j) g
 
 -- the first link of a path
 pub first-link : {c x y : ℕ} {ts : List Triangle} → Links c ts x y → (x ≡ y) ⊎ ((z : ℕ) × In c x z ts × Links c ts z y)

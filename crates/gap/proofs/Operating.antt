@@ -1,18 +1,19 @@
 -- An operation that the machine accepts: the table's effect, within the counts stated, and the edge rule.
 -- Assumes nothing.
-use Prim.Native.Nat.{ℕ, _≤_}
+use Prim.Native.Nat.{ℕ, suc, _≤_}
 use mathlib.Core.Bool.{Bool, true, false, _&&_}
 use mathlib.Core.List.{List}
-use mathlib.Core.Path.{_≡_, refl, subst}
+use mathlib.Core.Path.{_≡_, refl, ap, _∙_, subst}
 use lib.ListN.{length}
 use lib.Dec.{leb}
-use borrow.Author.Tests.{leb-true}
+use borrow.Author.Tests.{leb-true, le-leb}
 use Rattle.rules.specs.declared.Triangle.{Triangle}
+use Rattle.rules.specs.declared.Operation.{Operation}
 use Rattle.rules.specs.Triangle.{Edge}
 use Rattle.rules.specs.Ring.{Ring, places}
-use Rattle.rules.specs.Table.{Side, Effect, not-allowed, builds, marks, edgeRule}
-use Rattle.rules.specs.Machine.{Machine, afterBuild, afterMark, Step, refused, begun, built, declared, finished, test, within, done}
-use Rattle.gap.proofs.Bools.{and-true}
+use Rattle.rules.specs.Table.{Side, Effect, not-allowed, builds, marks, effect, edgeRule}
+use Rattle.rules.specs.Machine.{Machine, afterBuild, afterMark, Step, refused, begun, built, declared, finished, test, within, done, operation}
+use Rattle.gap.proofs.Bools.{and-true, and-both}
 
 -- the loops after an operation are within the counts stated
 pub record Room (m : Machine) (ls : List Ring) : Type 0 where
@@ -31,6 +32,7 @@ pub record Built (m : Machine) (ef : Effect) (t : Triangle) (m′ : Machine) : T
   pub effect : ef ≡ builds ls t pq qr rp news starts unions
   pub rule : edgeRule t pq qr rp (m .triangles) ≡ true
   pub room : Room m ls
+  pub not-full : suc (length (m .triangles)) ≤ m .stated .triangles
   pub after : m′ ≡ afterBuild m ls t pq qr rp news starts unions
 
 -- it declared d border
@@ -62,6 +64,12 @@ room-of m m′ e h =
       loops = subst (λ k. length (m′ .loops) ≤ k .loops) e (leb-true (length (m′ .loops)) (m′ .stated .loops) (a .1));
     }
 
+full-of : (m : Machine) → within m ≡ true → length (m .triangles) ≤ m .stated .triangles
+full-of m h =
+    let a = and-true (leb (m .used) (m .stated .vertices) && leb (length (m .triangles)) (m .stated .triangles) && leb (places (m .loops)) (m .stated .places)) (leb (length (m .loops)) (m .stated .loops)) h in
+    let b = and-true (leb (m .used) (m .stated .vertices) && leb (length (m .triangles)) (m .stated .triangles)) (leb (places (m .loops)) (m .stated .places)) (a .0) in
+    leb-true (length (m .triangles)) (m .stated .triangles) (and-true (leb (m .used) (m .stated .vertices)) (leb (length (m .triangles)) (m .stated .triangles)) (b .0) .1)
+
 came : (m : Machine) (ef : Effect) → Came m ef (done m ef)
 unfolding done
 came m not-allowed = tt
@@ -79,6 +87,7 @@ came m (builds ls t pq qr rp n s k) =
       effect = refl;
       rule = r;
       room = room-of m (afterBuild m ls t pq qr rp n s k) refl w;
+      not-full = full-of (afterBuild m ls t pq qr rp n s k) w;
       after = refl;
     }))
 came m (marks ls d rim) =
@@ -90,3 +99,27 @@ built-of m ef t m′ h = subst (Came m ef) h (came m ef)
 
 pub declared-of : (m : Machine) (ef : Effect) (d : Edge) (m′ : Machine) → done m ef ≡ declared d m′ → Declared m ef d m′
 declared-of m ef d m′ h = subst (Came m ef) h (came m ef)
+
+-- the counts stated are enough
+pub within-of : (m : Machine) → m .used ≤ m .stated .vertices → length (m .triangles) ≤ m .stated .triangles → places (m .loops) ≤ m .stated .places
+    → length (m .loops) ≤ m .stated .loops → within m ≡ true
+within-of m a b c d =
+    and-both _ _ (and-both _ _ (and-both _ _ (le-leb (m .used) (m .stated .vertices) a) (le-leb (length (m .triangles)) (m .stated .triangles) b)) (le-leb (places (m .loops)) (m .stated .places) c))
+    (le-leb (length (m .loops)) (m .stated .loops) d)
+
+test-true : (b : Bool) (n : ℕ) (s : Step) → b ≡ true → test b n s ≡ s
+unfolding test
+test-true b n s h = ap (λ (t : Bool). test t n s) h
+
+-- so an operation that the table and the edge rule allow is accepted
+pub operation-built : (m : Machine) (o : Operation) (ls : List Ring) (t : Triangle) (pq qr rp : Side) (n s k : ℕ)
+    → effect o (m .used) (m .loops) ≡ builds ls t pq qr rp n s k → within (afterBuild m ls t pq qr rp n s k) ≡ true
+    → edgeRule t pq qr rp (m .triangles) ≡ true → operation m o ≡ built t (afterBuild m ls t pq qr rp n s k)
+unfolding done
+operation-built m o ls t pq qr rp n s k e w r =
+    ap (done m) e ∙ (test-true (within (afterBuild m ls t pq qr rp n s k)) 17 _ w ∙ test-true (edgeRule t pq qr rp (m .triangles)) 18 _ r)
+
+pub operation-declared : (m : Machine) (o : Operation) (ls : List Ring) (d : Edge) (n : ℕ) → effect o (m .used) (m .loops) ≡ marks ls d n
+    → within (afterMark m ls n) ≡ true → operation m o ≡ declared d (afterMark m ls n)
+unfolding done
+operation-declared m o ls d n e w = ap (done m) e ∙ test-true (within (afterMark m ls n)) 17 _ w

@@ -78,7 +78,7 @@ good-border e f ps ws g (q ∷ qs) h =
     ((r .0, omega (arith, length-append ps (marked (vertex e) ∷ []))), g .1)
 
 -- whether a vertex has a triangle
-has-triangle : (c : ℕ) (ts : List Triangle) → ((m : ℕ) × (n : ℕ) × In c m n ts) ⊎ ((m n : ℕ) → In c m n ts → ⊥)
+pub has-triangle : (c : ℕ) (ts : List Triangle) → ((m : ℕ) × (n : ℕ) × In c m n ts) ⊎ ((m n : ℕ) → In c m n ts → ⊥)
 has-triangle c [] = inr (λ m n i. elim i [ ])
 has-triangle c (t ∷ ts) = go (eqb (t .p) c) (eqb (t .q) c) (eqb (t .r) c) refl refl refl (has-triangle c ts)
   where

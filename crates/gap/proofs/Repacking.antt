@@ -28,11 +28,11 @@ use Rattle.gap.proofs.Following.{Followed, follow, run-length}
 use Rattle.gap.proofs.Working.{Worked, Ready, works, works-ready}
 
 -- triangles put before others, one after the other
-abbrev onto : List Triangle → List Triangle → List Triangle
+abbrev pub onto : List Triangle → List Triangle → List Triangle
 onto [] B = B
 onto (t ∷ R) B = onto R (t ∷ B)
 
-in-onto : (R B : List Triangle) (x y z : ℕ) → In x y z (onto R B) → In x y z R ⊎ In x y z B
+pub in-onto : (R B : List Triangle) (x y z : ℕ) → In x y z (onto R B) → In x y z R ⊎ In x y z B
 in-onto [] B x y z i = inr i
 in-onto (t ∷ R) B x y z i = go (in-onto R (t ∷ B) x y z i)
   where
@@ -42,23 +42,23 @@ in-onto (t ∷ R) B x y z i = go (in-onto R (t ∷ B) x y z i)
     go (inr (there j)) = inr j
 
 -- the triangles at the end, the latest first, are those of the run
-run-onto : {M B : List Triangle} {rims ls : List Ring} {os : List Operation} {R : List Triangle} → Run M B rims ls os R → M ≡ onto R B
+pub run-onto : {M B : List Triangle} {rims ls : List Ring} {os : List Operation} {R : List Triangle} → Run M B rims ls os R → M ≡ onto R B
 run-onto r-done = refl
 run-onto (r-start np nq nr d run) = run-onto run
 run-onto (r-build v s ra rb d new run) = run-onto run
 run-onto (r-border v run) = run-onto run
 
 -- as a list of numbers and back
-abbrev numbersIn : List Triangle → List ℕ
+abbrev pub numbersIn : List Triangle → List ℕ
 numbersIn [] = []
 numbersIn (t ∷ ts) = t .p ∷ (t .q ∷ (t .r ∷ numbersIn ts))
 
-triangles-in : (ts : List Triangle) → trianglesOf (numbersIn ts) ≡ ts
+pub triangles-in : (ts : List Triangle) → trianglesOf (numbersIn ts) ≡ ts
 unfolding trianglesOf
 triangles-in [] = refl
 triangles-in (t ∷ ts) = ap (λ (l : List Triangle). t ∷ l) (triangles-in ts)
 
-numbers-onto : (R B : List Triangle) → numbersOf (onto R B) ≡ numbersOf B ++ numbersIn R
+pub numbers-onto : (R B : List Triangle) → numbersOf (onto R B) ≡ numbersOf B ++ numbersIn R
 unfolding numbersOf
 numbers-onto [] B = sym (append-nil (numbersOf B))
   where
@@ -105,17 +105,17 @@ module _ (st : Counts) (os : List Operation) (m : Machine) (w : Works (empty st)
   pub works-order : trianglesOf (numbersOf (m .triangles)) ≡ worked .order
   works-order = built-order (m .triangles) (worked .order) (run-onto (worked .run))
 
-  module _ (h : Most) (fans : oneFanEach (m .used) (m .triangles) ≡ true) (in-places : st .places ≤ h .places) (in-loops : st .loops ≤ h .loops) where
-    all : (x y z : ℕ) → In x y z (m .triangles) → In x y z (worked .order)
-    all x y z i = go (in-onto (worked .order) [] x y z (subst (In x y z) (run-onto (worked .run)) i))
-      where
-        go : In x y z (worked .order) ⊎ In x y z [] → In x y z (worked .order)
-        go (inl j) = j
-        go (inr j) = elim j [ ]
+  pub in-order : (x y z : ℕ) → In x y z (m .triangles) → In x y z (worked .order)
+  in-order x y z i = go (in-onto (worked .order) [] x y z (subst (In x y z) (run-onto (worked .run)) i))
+    where
+      go : In x y z (worked .order) ⊎ In x y z [] → In x y z (worked .order)
+      go (inl j) = j
+      go (inr j) = elim j [ ]
 
+  module _ (h : Most) (fans : oneFanEach (m .used) (m .triangles) ≡ true) (in-places : st .places ≤ h .places) (in-loops : st .loops ≤ h .loops) where
     choices : Choices (worked .order) (worked .run)
     choices =
-        canonical-all (m .triangles) (worked .order) (works-facts .once) all (works-facts .subR) (fans-of (m .used) (m .triangles) (works-facts .onceM) fans works-below)
+        canonical-all (m .triangles) (worked .order) (works-facts .once) in-order (works-facts .subR) (fans-of (m .used) (m .triangles) (works-facts .onceM) fans works-below)
         (worked .run)
 
     followed : Followed (nothingBuilt h (worked .order)) (4 * length (worked .order) + 1) os (peak places 0 (worked .run)) (peak length 0 (worked .run)) (numbering [] (worked .run))

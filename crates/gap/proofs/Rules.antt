@@ -3,15 +3,15 @@
 use Prim.Native.Nat.{ℕ}
 use mathlib.Core.Bool.{Bool, true, false, _&&_, not, false≢true}
 use mathlib.Core.List.{List}
-use mathlib.Core.Path.{_≡_, sym}
+use mathlib.Core.Path.{_≡_, refl, sym, ap}
 use lib.Dec.{eqb}
-use borrow.Author.Tests.{eqb-false, not-true}
+use borrow.Author.Tests.{eqb-false, ne-eqb, not-true}
 use Rattle.rules.specs.declared.Triangle.{Triangle}
-use Rattle.rules.specs.Table.{glued, sideRule, edgeRule}
+use Rattle.rules.specs.Table.{glued, fresh, sideRule, edgeRule}
 use Rattle.gap.specs.Turn.{Unused}
 use Rattle.gap.specs.Tally.{sideOf}
-use Rattle.gap.proofs.Bools.{and-true}
-use Rattle.gap.proofs.Uses.{unjoined-unused}
+use Rattle.gap.proofs.Bools.{and-true, and-both}
+use Rattle.gap.proofs.Uses.{unjoined-unused, unused-unjoined}
 
 -- the edge rule, for the triangle b a c of an operation
 pub record Rules (t : Triangle) (gA gB : Bool) (B : List Triangle) : Type 0 where
@@ -44,3 +44,33 @@ rules-of t gA gB B h =
       ruleA = side-free gA (t .q) (t .r) B (h2 .1);
       ruleB = side-free gB (t .r) (t .p) B (h1 .1);
     }
+
+-- and back
+side-holds : (g : Bool) (x y : ℕ) (B : List Triangle) → (g ≡ false → Unused x y B × Unused y x B) → sideRule (sideOf g) x y B ≡ true
+side-holds true x y B h = refl
+side-holds false x y B h = let r = h refl in unused-unjoined x y B (r .0) (r .1)
+
+not-eqb : (x y : ℕ) → (x ≡ y → ⊥) → not (eqb x y) ≡ true
+not-eqb x y h = ap not (ne-eqb x y h)
+
+pub rule-of : (t : Triangle) (gA gB : Bool) (B : List Triangle) → Rules t gA gB B → edgeRule t glued (sideOf gA) (sideOf gB) B ≡ true
+rule-of t gA gB B r =
+    and-both _ _
+    (and-both _ _
+    (and-both _ true
+    (and-both _ _ (and-both _ _ (not-eqb (t .p) (t .q) (r .apart .0)) (not-eqb (t .q) (t .r) (r .apart .1))) (not-eqb (t .r) (t .p) (r .apart .2)))
+    refl)
+    (side-holds gA (t .q) (t .r) B (r .ruleA)))
+    (side-holds gB (t .r) (t .p) B (r .ruleB))
+
+-- where none of the sides is glued
+pub rule-fresh : (t : Triangle) (B : List Triangle) → ((t .p ≡ t .q) → ⊥) × ((t .q ≡ t .r) → ⊥) × ((t .r ≡ t .p) → ⊥)
+    → Unused (t .p) (t .q) B × Unused (t .q) (t .p) B → Unused (t .q) (t .r) B × Unused (t .r) (t .q) B → Unused (t .r) (t .p) B × Unused (t .p) (t .r) B
+    → edgeRule t fresh fresh fresh B ≡ true
+rule-fresh t B d pq qr rp =
+    and-both _ _
+    (and-both _ _
+    (and-both _ _ (and-both _ _ (and-both _ _ (not-eqb (t .p) (t .q) (d .0)) (not-eqb (t .q) (t .r) (d .1))) (not-eqb (t .r) (t .p) (d .2)))
+    (unused-unjoined (t .p) (t .q) B (pq .0) (pq .1)))
+    (unused-unjoined (t .q) (t .r) B (qr .0) (qr .1)))
+    (unused-unjoined (t .r) (t .p) B (rp .0) (rp .1))

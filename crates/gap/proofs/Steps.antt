@@ -86,9 +86,6 @@ packs M R B ls rims k = record {
 module _ (M R B : List Triangle) (e f : Node) (ps : List Node) (ws ls rims : List Ring) (c : ℕ) (o : Operation)
     (k : Keeps M (triangleAt e f c ∷ R) B ((e ∷ (f ∷ ps)) ∷ ws) rims) (s : Surgery e f ps ws ls c o)
     (ruleA : gluesA o ≡ false → Unused (vertex e) c B × Unused c (vertex e) B) (ruleB : gluesB o ≡ false → Unused c (vertex f) B × Unused (vertex f) c B) where
-  T : ℕ → ℕ → ℕ
-  T x y = total x y ((e ∷ (f ∷ ps)) ∷ ws) + total x y rims
-
   d : ((vertex f ≡ vertex e) → ⊥) × ((vertex e ≡ c) → ⊥) × ((c ≡ vertex f) → ⊥)
   d = k .once .1
 

@@ -1,19 +1,19 @@
 -- The counts of directed edges in a list of triangles tell which edges are used; the tests 4 and 5 make each used once.
 -- Assumes nothing.
-use Prim.Native.Nat.{ℕ, _+_, _≤_}
+use Prim.Native.Nat.{ℕ, zero, suc, _+_, _≤_}
 use native.Mathlib.Omega.{arith}
 use mathlib.Core.Bool.{true, _&&_, not}
 use mathlib.Core.List.{List, [], _∷_}
 use mathlib.Core.Path.{_≡_, refl}
 use mathlib.Core.Logic.{inl, inr}
 use lib.Dec.{eqb}
-use borrow.Author.Tests.{eqb-true, eqb-false, not-true}
+use borrow.Author.Tests.{eqb-true, eqb-false, not-true, eq-eqb}
 use Rattle.rules.specs.declared.Triangle.{Triangle}
 use Rattle.rules.specs.Triangle.{distinct, Edge, edge, edgesOf}
 use Rattle.rules.specs.Count.{hit, count, uses, unjoined}
 use Rattle.rules.specs.Check.{allDistinct, noneTwice}
 use Rattle.gap.specs.Turn.{at-p, at-q, at-r, In, here, there, Unused, Once}
-use Rattle.gap.proofs.Bools.{and-true}
+use Rattle.gap.proofs.Bools.{and-true, and-both}
 use Rattle.gap.proofs.Legal.{Counted, counted, hit-here}
 
 -- an edge that is used is counted
@@ -76,3 +76,14 @@ once-of (t ∷ ts) h k =
       apart-of t (d .0),
       once-of ts (d .1) (n3 .1),
     )
+
+pub uses-none : (x y : ℕ) (ts : List Triangle) → Unused x y ts → uses x y ts ≡ 0
+uses-none x y ts h = go (uses x y ts) refl
+  where
+    go : (n : ℕ) → uses x y ts ≡ n → n ≡ 0
+    go zero e = refl
+    go (suc n) e = let r = uses-in x y ts (omega arith) in absurd (h (r .0) (r .1))
+
+pub unused-unjoined : (x y : ℕ) (ts : List Triangle) → Unused x y ts → Unused y x ts → unjoined x y (edgesOf ts) ≡ true
+unused-unjoined x y ts h k =
+    and-both (eqb (uses x y ts) 0) (eqb (uses y x ts) 0) (eq-eqb (uses x y ts) 0 (uses-none x y ts h)) (eq-eqb (uses y x ts) 0 (uses-none y x ts k))

@@ -1,22 +1,24 @@
 -- The whole packing of a list with no directed edge twice and one fan at each vertex: it is refused by 9 or 10, or its
 -- operations are a run of the machine, over the list's own vertex numbers, that builds every triangle of the list.
 -- Assumes nothing.
-use Prim.Native.Nat.{ℕ, zero, suc, _+_, _*_, _<_}
+use Prim.Native.Nat.{ℕ, zero, suc, _+_, _*_, _≤_, _<_}
 use native.Mathlib.Omega.{arith}
 use mathlib.Core.Bool.{Bool, true, false, false≢true}
 use mathlib.Core.List.{List, []}
-use mathlib.Core.Path.{_≡_, refl, sym, _∙_, subst}
+use mathlib.Core.Path.{_≡_, refl, sym, ap, _∙_, subst}
 use mathlib.Core.Logic.{_⊎_, inl, inr}
 use lib.ListN.{length}
 use lib.Dec.{leb}
 use Rattle.rules.specs.declared.Triangle.{Triangle}
 use Rattle.rules.specs.declared.Operation.{Operation}
+use Rattle.rules.specs.Count.{occurs}
 use Rattle.rules.specs.Ring.{Ring, places}
 use Rattle.rules.specs.Choice.{Packing, has, Next, ended, refuses, takes, limited, chooseIn, choose}
 use Rattle.rules.specs.Pack.{Chosen, stopped, chosen, cons, chooseAll, Most, nothingBuilt, chosenFor}
 use Rattle.gap.specs.Turn.{In, Once, FanAt}
 use Rattle.gap.proofs.Progress.{begin}
-use Rattle.gap.proofs.Runs.{Run, r-done}
+use Rattle.gap.proofs.Runs.{r-done}
+use Rattle.gap.proofs.Tracking.{RunsAt, Runs}
 use Rattle.gap.proofs.Choosing.{Fits, labour, GoesOn, choose-step}
 
 -- from a packing under way to its end, by the operations os
@@ -24,12 +26,11 @@ pub record Complete (s : Packing) (B : List Triangle) (rims : List Ring) (os : L
   pub mesh : s′ .mesh ≡ s .mesh
   pub no-loop : s′ .loops ≡ []
   pub none-left : s′ .left ≡ []
-  -- the triangles and rims at the end, and those that the operations build, in their order
+  -- the triangles and rims at the end
   pub built : List Triangle
   pub ended-rims : List Ring
-  pub order : List Triangle
   pub fits : Fits s′ built ended-rims
-  pub run : Run built B rims (s .loops) os order
+  pub runs : Runs s s′ built B rims os
 
 unfoldable pub Ends : Packing → List Triangle → List Ring → Chosen → Type 0
 Ends s B rims (stopped n) = (n ≡ 9) ⊎ (n ≡ 10)
@@ -40,16 +41,14 @@ ends-cons : (s : Packing) (B : List Triangle) (rims : List Ring) (g : GoesOn s B
 unfolding Ends
 ends-cons s B rims g (stopped n) h = h
 ends-cons s B rims g (chosen os s′) h =
-    let r = g .runs (h .run) in
     record {
       mesh = h .mesh ∙ g .mesh;
       no-loop = h .no-loop;
       none-left = h .none-left;
       built = h .built;
       ended-rims = h .ended-rims;
-      order = r .0;
       fits = h .fits;
-      run = r .1;
+      runs = g .runs s′ (h .built) os (h .runs);
     }
 
 -- an operation is taken, or refused by 9 or 10
@@ -111,9 +110,10 @@ choose-all (suc n) s B rims fit fan h =
           none-left = e .1;
           built = B;
           ended-rims = rims;
-          order = [];
           fits = fit;
-          run = subst (λ (l : List Ring). Run B B rims l [] []) (sym (e .0)) r-done;
+          runs =
+              subst (λ (l : List Ring). RunsAt s B B rims [] l (length (s .left)) (s .mostPlaces) (s .mostLoops) (s .numbered)) (sym (e .0))
+              (record { order = []; count = sym (ap length (e .1)); run = r-done; most-places = refl; most-loops = refl; numbers = refl; agrees = tt });
         })
     go ih (inr g) = on g (ih g) (limited-cases (g .o) (g .after))
 
@@ -121,12 +121,17 @@ has-none : (c : ℕ) → has c [] ≡ true → ⊥
 unfolding has
 has-none c h = false≢true h
 
+occurs-nil : (x : ℕ) → occurs x [] ≤ 1
+unfolding occurs
+occurs-nil x = omega arith
+
 -- a list that is to be packed
 pub fits-begin : (h : Most) (M : List Triangle) → Once M → Fits (nothingBuilt h M) [] []
 fits-begin h M o = record {
   keeps = begin M o;
   good = tt;
   numbers = record { met = λ c g. absurd (has-none c g); numbered = λ c m. elim (m .2) [ ] };
+  distinct = occurs-nil;
 }
 
 -- the whole packing

@@ -298,3 +298,11 @@ pub works-ready : {m n : Machine} {os : List Operation} → Works m os n → Rea
 works-ready w-none ready = ready
 works-ready {m} (w-built {m′ = m′} {o = o} {t = t} h w) ready = works-ready w (step-built m m′ o t h ready .0)
 works-ready {m} (w-declared {m′ = m′} {o = o} {d = d} h w) ready = works-ready w (step-declared m m′ o d h ready .0)
+
+-- the counts stated stay
+pub works-stated : {m n : Machine} {os : List Operation} → Works m os n → n .stated ≡ m .stated
+works-stated w-none = refl
+works-stated {m} (w-built {m′ = m′} {o = o} {t = t} h w) =
+    works-stated w ∙ ap (λ (k : Machine). k .stated) (built-of m (effect o (m .used) (m .loops)) t m′ h .after)
+works-stated {m} (w-declared {m′ = m′} {o = o} {d = d} h w) =
+    works-stated w ∙ ap (λ (k : Machine). k .stated) (declared-of m (effect o (m .used) (m .loops)) d m′ h .after)

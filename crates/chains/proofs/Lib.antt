@@ -1,0 +1,10 @@
+pub mod Prefix
+pub mod Walking
+pub mod Finding
+pub mod Linking
+pub mod Used
+pub mod Once
+pub mod Turning
+pub mod Fans
+pub mod Listing
+pub mod Checking

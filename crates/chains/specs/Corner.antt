@@ -1,0 +1,54 @@
+-- Corners of a list of numbers: corner c is position c, of triangle c / 3. What is found by going down from a corner.
+-- Assumes nothing.
+use Prim.Native.Nat.{ℕ, zero, suc, _+_, _*_, _-_, _/_, _%_}
+use mathlib.Core.Bool.{Bool, true, false, _&&_}
+use mathlib.Core.List.{List}
+use lib.ListN.{getD, take}
+use lib.Dec.{eqb}
+use Rattle.rules.specs.declared.Triangle.{Triangle}
+use Rattle.rules.specs.declared.Across.{Across}
+use Rattle.rules.specs.declared.Across.the-variants.{Found, Nothing}
+use Rattle.rules.specs.Triangle.{tri, trianglesOf}
+use Rattle.rules.specs.Count.{uses}
+
+-- the next corner of the same triangle, and the one before
+unfoldable pub nextCorner : ℕ → ℕ
+nextCorner c = elim (eqb (c % 3) 2) [ true ↦ c - 2 | false ↦ c + 1 ]
+
+unfoldable pub lastCorner : ℕ → ℕ
+lastCorner c = elim (eqb (c % 3) 0) [ true ↦ c + 2 | false ↦ c - 1 ]
+
+-- the first n triangles of a list of numbers, and triangle n
+abbrev pub firstTriangles : ℕ → List ℕ → List Triangle
+firstTriangles n xs = trianglesOf (take (3 * n) xs)
+
+abbrev pub triangleAt : List ℕ → ℕ → Triangle
+triangleAt xs n = tri (getD xs (3 * n) 0) (getD xs (3 * n + 1) 0) (getD xs (3 * n + 2) 0)
+
+-- 1 more than the last corner below n that has vertex v, or 0 if there is none
+unfoldable pub latest : ℕ → List ℕ → ℕ → ℕ
+latest v xs zero = 0
+latest v xs (suc c) = elim (eqb (getD xs c 0) v) [ true ↦ suc c | false ↦ latest v xs c ]
+
+-- how many corners below n have vertex v
+unfoldable pub degree : ℕ → List ℕ → ℕ → ℕ
+degree v xs zero = 0
+degree v xs (suc c) = elim (eqb (getD xs c 0) v) [ true ↦ suc (degree v xs c) | false ↦ degree v xs c ]
+
+-- the triangle of corner c, seen across the directed edge that leaves that corner
+unfoldable pub seenFrom : List ℕ → ℕ → Across
+seenFrom xs c = Found (c / 3) (lastCorner c % 3) (getD xs (lastCorner c) 0)
+
+-- the last corner below n that the directed edge x→y leaves
+unfoldable pub lastWith : ℕ → ℕ → List ℕ → ℕ → Across
+lastWith x y xs zero = Nothing
+lastWith x y xs (suc c) =
+    elim (eqb (getD xs c 0) x && eqb (getD xs (nextCorner c) 0) y) [ true ↦ seenFrom xs c | false ↦ lastWith x y xs c ]
+
+-- none of the triangles has x→y
+unfoldable pub isFree : ℕ → ℕ → List Triangle → Bool
+isFree x y ts = eqb (uses x y ts) 0
+
+-- none of them has one of t's directed edges
+unfoldable pub isNew : List Triangle → Triangle → Bool
+isNew ts t = isFree (t .p) (t .q) ts && (isFree (t .q) (t .r) ts && isFree (t .r) (t .p) ts)

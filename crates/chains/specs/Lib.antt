@@ -1,0 +1,4 @@
+pub mod Corner
+pub mod Chains
+pub mod Turn
+pub mod Checks

@@ -1,0 +1,5 @@
+pub mod Places
+pub mod Copies
+pub mod Windows
+pub mod Codes
+pub mod Words

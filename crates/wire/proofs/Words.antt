@@ -1,0 +1,153 @@
+-- An operation's bits as a number, and the bytes in which it lies: laws over plain values.
+-- Assumes nothing.
+use Prim.Native.Nat.{ℕ, zero, suc, _+_, _*_, _-_, _/_, _%_, _^_, _≤_, _<_, min}
+use native.Mathlib.Nat.{mod-eq-of-lt, lt-of-lt-of-le, lt-of-le-of-lt}
+use native.Mathlib.Omega.{arith}
+use mathlib.Core.Bool.{Bool, true, false}
+use mathlib.Core.List.{List, [], _∷_, _++_}
+use mathlib.Core.Path.{_≡_, refl, sym, ap, ap₂, _∙_, subst}
+use lib.ListN.{length, getD, length-append}
+use lib.Pow.{pow-mono, shl-lt, shr-le}
+use lib.Seq.{paste}
+use mir.Syntax.{w8}
+use mir.Val as Val
+use borrow.Author.Tests.{le-leb, lt-leb}
+use Rattle.rules.specs.declared.Operation.{Operation}
+use Rattle.rules.specs.declared.Operation.the-variants.{New, Forward, Backward, Border, Split, Close, Union, Start}
+use Rattle.rules.specs.Buffer.{over}
+use Rattle.rules.specs.Bits.{bits, valueOf, bytesOf}
+use Rattle.rules.specs.Code.{operationBits, operationsBits}
+use Rattle.codes.specs.Room.{writtenAt, bytesFor, fourBytes, wordOf}
+use Rattle.codes.specs.Whole.{widthOf}
+use Rattle.codes.proofs.Lists.{below-all}
+use Rattle.codes.proofs.Numbers.{value-append, value-bits, value-below}
+use Rattle.codes.proofs.Operations.{length-operation, operation-bits-are, operations-bits-are, operations-more, width-least, width-most}
+use Rattle.codes.proofs.Room.{written-more, written-word}
+use Rattle.wire.specs.declared.writer.Written.{Written}
+use Rattle.wire.specs.Fields.{pickRoom}
+use Rattle.wire.specs.Writer.{PieceOf, fitsIn, lastNumber, writtenOf, roomAfter}
+
+-- ---- an operation as a number
+
+abbrev pub valueIn : Operation → ℕ
+valueIn New = 0
+valueIn Forward = 1
+valueIn Backward = 2
+valueIn Border = 3
+valueIn (Split i) = 4096 + i % 1024
+valueIn Close = 5
+valueIn (Union p j) = 786432 + p % 128 * 1024 + j % 1024
+valueIn Start = 7
+
+piece-value : (o : Operation) → valueIn o ≡ valueOf 0 (operationBits o)
+unfolding operationBits bits valueOf
+piece-value New = refl
+piece-value Forward = refl
+piece-value Backward = refl
+piece-value Border = refl
+piece-value (Split i) = omega (arith, value-append 0 (bits 3 4) (bits 10 i), value-bits 4 10 i)
+piece-value Close = refl
+piece-value (Union p j) =
+    let a : valueOf 0 (bits 3 6 ++ (bits 7 p ++ bits 10 j)) ≡ valueOf (valueOf 6 (bits 7 p)) (bits 10 j) =
+    value-append 0 (bits 3 6) (bits 7 p ++ bits 10 j) ∙ value-append 6 (bits 7 p) (bits 10 j) in
+    let b : valueOf 6 (bits 7 p) ≡ 6 * 128 + p % 128 = value-bits 6 7 p in
+    let c : valueOf (6 * 128 + p % 128) (bits 10 j) ≡ (6 * 128 + p % 128) * 1024 + j % 1024 = value-bits (6 * 128 + p % 128) 10 j in
+    let d : (6 * 128 + p % 128) * 1024 + j % 1024 ≡ 786432 + p % 128 * 1024 + j % 1024 = omega arith in
+    sym (a ∙ ap (λ (x : ℕ). valueOf x (bits 10 j)) b ∙ c ∙ d)
+piece-value Start = refl
+
+below-width : (o : Operation) → valueOf 0 (operationBits o) < 2 ^ widthOf o
+below-width o = subst (λ (k : ℕ). valueOf 0 (operationBits o) < 2 ^ k) (length-operation o) (value-below (operationBits o) (operation-bits-are o))
+
+pub piece-is : (o k : Operation) → o ≡ k → PieceOf o (widthOf k) (valueIn k)
+piece-is o k e =
+    record {
+      width = ap widthOf (sym e);
+      least = width-least k;
+      most = width-most k;
+      value = piece-value k ∙ ap (λ (x : Operation). valueOf 0 (operationBits x)) (sym e);
+      below = subst (λ (v : ℕ). v < 2 ^ widthOf k) (sym (piece-value k)) (below-width k);
+    }
+
+-- ---- the word
+
+module _ (b bit n v : ℕ) (hb : b < 256) (hn : n ≤ 20) (hv : v < 2 ^ n) where
+  -- nothing is shifted out
+  front-small : b / 2 ^ (8 - bit) * 2 ^ n < 2 ^ 28
+  front-small = lt-of-lt-of-le (shl-lt 8 n (lt-of-le-of-lt (shr-le b (8 - bit)) hb)) (pow-mono {i = 8 + n} {j = 28} (omega arith))
+
+  front-same : b / 2 ^ (8 - bit) * 2 ^ n % 18446744073709551616 ≡ b / 2 ^ (8 - bit) * 2 ^ n
+  front-same = mod-eq-of-lt (omega (arith, front-small))
+
+  pub word-fits : b / 2 ^ (8 - bit) * 2 ^ n % 18446744073709551616 + v < 18446744073709551616
+  word-fits = let p : 2 ^ n ≤ 2 ^ 20 = pow-mono hn in omega (arith, front-same, front-small)
+
+  pub word-is : (b / 2 ^ (8 - bit) * 2 ^ n % 18446744073709551616 + v) * 2 ^ (32 - bit - n) % 18446744073709551616 ≡ wordOf b bit n v
+  word-is =
+      let p : 2 ^ n ≤ 2 ^ 20 = pow-mono hn in
+      let s : b / 2 ^ (8 - bit) * 2 ^ n + v < 2 ^ 29 = omega (arith, front-small) in
+      let w : wordOf b bit n v < 2 ^ 61 = lt-of-lt-of-le (shl-lt 29 (32 - bit - n) s) (pow-mono {i = 29 + (32 - bit - n)} {j = 61} (omega arith)) in
+      ap (λ (x : ℕ). (x + v) * 2 ^ (32 - bit - n) % 18446744073709551616) front-same ∙ mod-eq-of-lt (omega (arith, w))
+
+-- its bytes
+pub four-at : (w i : ℕ) → i < 4 → w / 2 ^ (24 - 8 * i) % 256 ≡ getD (fourBytes w) i 0
+four-at w zero h = refl
+four-at w (suc zero) h = refl
+four-at w (suc (suc zero)) h = refl
+four-at w (suc (suc (suc zero))) h = refl
+four-at w (suc (suc (suc (suc i)))) h = absurd (omega arith)
+
+-- ---- the answers
+
+module _ (room : List ℕ) (at : ℕ) (o : Operation) (n next : ℕ) (wide : n ≡ widthOf o) (further : next ≡ min (at + n) lastNumber) where
+  ahead : next ≡ min (at + widthOf o) lastNumber
+  ahead = further ∙ ap (λ (k : ℕ). min (at + k) lastNumber) wide
+
+  pub room-refused : length room < at / 8 + (at % 8 + n + 7) / 8
+      → (_≡_ {A = Written} (record { fits = false; next = next }) (writtenOf (length room) at o)) × (room ≡ roomAfter room at o)
+  unfolding roomAfter
+  room-refused h =
+      let f : fitsIn (length room) at o ≡ false = lt-leb (bytesFor (at + widthOf o)) (length room) (omega arith) in
+      (ap₂ (λ (t : Bool) (k : ℕ). record { fits = t; next = k }) (sym f) ahead, sym (ap (λ (t : Bool). pickRoom t (writtenAt room at (operationBits o)) room) f))
+
+  pub room-written : (last : List ℕ) (b v w : ℕ) → ((i : ℕ) → Val.Fits w8 (getD room i 0)) → at / 8 + (at % 8 + n + 7) / 8 ≤ length room
+      → b ≡ getD room (at / 8) 0 → v ≡ valueOf 0 (operationBits o) → w ≡ wordOf b (at % 8) n v → last ≡ paste room (at / 8) (fourBytes w) ((at % 8 + n + 7) / 8)
+      → (_≡_ {A = Written} (record { fits = true; next = next }) (writtenOf (length room) at o)) × (last ≡ roomAfter room at o)
+  unfolding roomAfter
+  room-written last b v w all h eb ev ew el =
+      let xs = operationBits o in
+      let l : length xs ≡ widthOf o = length-operation o in
+      let m : n ≡ length xs = wide ∙ sym l in
+      let f : fitsIn (length room) at o ≡ true = le-leb (bytesFor (at + widthOf o)) (length room) (omega arith) in
+      let p : writtenAt room at xs ≡ paste room (at / 8) (fourBytes (wordOf (getD room (at / 8) 0) (at % 8) (length xs) (valueOf 0 xs))) (bytesFor (at % 8 + length xs)) =
+      written-word room at xs (below-all 256 room (λ i. all i .fits)) (operation-bits-are o) (omega (arith, width-most o)) (omega arith) (omega arith) in
+      let q : wordOf b (at % 8) n v ≡ wordOf (getD room (at / 8) 0) (at % 8) (length xs) (valueOf 0 xs) = rw (eb, ev, m) in
+      let r : paste room (at / 8) (fourBytes w) ((at % 8 + n + 7) / 8) ≡ writtenAt room at xs =
+      ap₂ (λ (x k : ℕ). paste room (at / 8) (fourBytes x) (bytesFor (at % 8 + k))) (ew ∙ q) m ∙ sym p in (
+        ap₂ (λ (t : Bool) (k : ℕ). record { fits = t; next = k }) (sym f) ahead,
+        el ∙ r ∙ sym (ap (λ (t : Bool). pickRoom t (writtenAt room at xs) room) f),
+      )
+
+-- ---- for callers: one operation after the other
+
+module _ (room : List ℕ) (at : ℕ) (o : Operation) where
+  -- it fits, and is written; or nothing is
+  pub room-fits : bytesFor (at + widthOf o) ≤ length room → roomAfter room at o ≡ writtenAt room at (operationBits o)
+  unfolding roomAfter
+  room-fits h = ap (λ (t : Bool). pickRoom t (writtenAt room at (operationBits o)) room) (le-leb (bytesFor (at + widthOf o)) (length room) h)
+
+  pub room-full : length room < bytesFor (at + widthOf o) → roomAfter room at o ≡ room
+  unfolding roomAfter
+  room-full h = ap (λ (t : Bool). pickRoom t (writtenAt room at (operationBits o)) room) (lt-leb (bytesFor (at + widthOf o)) (length room) h)
+
+-- after the operations os, one more
+pub room-more : (os : List Operation) (o : Operation) (room₀ room : List ℕ) (at : ℕ) → room ≡ over (bytesOf (operationsBits os)) room₀
+    → at ≡ length (operationsBits os) → bytesFor (at + widthOf o) ≤ length room → roomAfter room at o ≡ over (bytesOf (operationsBits (os ++ (o ∷ [])))) room₀
+room-more os o room₀ room at e f h =
+    room-fits room at o h ∙ ap₂ (λ (r : List ℕ) (k : ℕ). writtenAt r k (operationBits o)) e f
+    ∙ written-more (operationsBits os) (operationBits o) room₀ (operations-bits-are os) ∙ ap (λ (xs : List ℕ). over (bytesOf xs) room₀) (sym (operations-more os o))
+
+-- and its position
+pub position-more : (os : List Operation) (o : Operation) (at : ℕ) → at ≡ length (operationsBits os) → at + widthOf o ≡ length (operationsBits (os ++ (o ∷ [])))
+position-more os o at e =
+    omega (arith, ap length (operations-more os o), length-append (operationsBits os) (operationBits o), length-operation o)

@@ -1,0 +1,58 @@
+-- Where a pack's fields are, by the definitions of the rules.
+-- Assumes nothing.
+use Prim.Native.Nat.{ℕ, _+_, _-_, _≤_, _<_}
+use mathlib.Core.Bool.{Bool, true, false}
+use mathlib.Core.List.{List}
+use mathlib.Core.Path.{_≡_}
+use lib.Dec.{leb}
+use lib.ListN.{length, take, drop}
+use Rattle.rules.specs.declared.Counts.{Counts}
+use Rattle.rules.specs.Fields.{Field, no-field, field, takeField, Fields, no-pack, fields, fieldsOf}
+use Rattle.rules.specs.Limits.{inRange}
+use Rattle.rules.specs.Buffer.{over}
+use Rattle.codes.specs.Header.{headerOf}
+use Rattle.wire.specs.declared.fields.Place.{Place}
+use Rattle.wire.specs.declared.fields.Place.the-variants.{At, Nothing}
+use Rattle.wire.specs.declared.fields.PackFields.{PackFields}
+use Rattle.wire.specs.declared.fields.PackFields.the-variants.{Found, Refused}
+
+-- the contents stand after the tag and the two bytes of the length
+abbrev pub placeFrom : ℕ → Field → Place
+placeFrom at no-field = Nothing
+placeFrom at (field cs ds) = At (at + 3) (at + 3 + length cs)
+
+-- the field with this tag at a position
+unfoldable pub fieldAt : List ℕ → ℕ → ℕ → Place
+fieldAt bs at tag = placeFrom at (takeField tag (drop at bs))
+
+abbrev pub ranged : Bool → Counts → List ℕ → PackFields
+ranged true s ops = Found s 14 (14 + length ops)
+ranged false s ops = Refused 13
+
+-- 12, 13, or the counts and where the operations are
+abbrev pub tested : Fields → PackFields
+tested no-pack = Refused 12
+tested (fields s ops) = ranged (inRange s) s ops
+
+unfoldable pub packFields : List ℕ → PackFields
+packFields bs = tested (fieldsOf bs)
+
+-- the operations are the bytes of the pack from a to b
+pub record PartFound (bs : List ℕ) (s : Counts) (a b : ℕ) : Type 0 where
+  pub found : fieldsOf bs ≡ fields s (take (b - a) (drop a bs))
+  pub ranges : inRange s ≡ true
+  pub order : a ≤ b
+  pub within : b ≤ length bs
+  pub long : length (take (b - a) (drop a bs)) ≡ b - a
+  pub short : b - a < 65536
+
+abbrev pub Parted : List ℕ → PackFields → Type 0
+Parted bs r = (s : Counts) (a b : ℕ) → r ≡ Found s a b → PartFound bs s a b
+
+abbrev pub pickRoom : Bool → List ℕ → List ℕ → List ℕ
+pickRoom true a b = a
+pickRoom false a b = b
+
+-- the header at the front of a buffer that has room for it
+unfoldable pub headed : List ℕ → Counts → ℕ → List ℕ
+headed room s n = pickRoom (leb 14 (length room)) (over (headerOf s n) room) room

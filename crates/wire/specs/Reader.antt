@@ -1,0 +1,75 @@
+-- Numbers and operations at a bit position, by the definitions of the rules.
+-- Assumes nothing.
+use Prim.Native.Nat.{ℕ, _+_, _*_, _-_, _≤_, _<_}
+use mathlib.Core.Bool.{Bool, true, false}
+use mathlib.Core.List.{List}
+use mathlib.Core.Path.{_≡_}
+use lib.Dec.{leb}
+use lib.ListN.{length, drop}
+use Rattle.rules.specs.declared.Operation.{Operation}
+use Rattle.rules.specs.declared.Operation.the-variants.{Split, Union}
+use Rattle.rules.specs.Bits as Bits
+use Rattle.rules.specs.Bits.{bitsOfBytes, broken-off, number, readNumber}
+use Rattle.rules.specs.Code.{Read, breaks-off, read, readOperation}
+use Rattle.codes.specs.Shape.{Fits}
+use Rattle.codes.specs.Whole.{widthOf}
+use Rattle.wire.specs.declared.reader.Number.{Number}
+use Rattle.wire.specs.declared.reader.Number.the-variants.{Value, BrokenOff}
+use Rattle.wire.specs.declared.reader.OperationRead.{OperationRead}
+use Rattle.wire.specs.declared.reader.OperationRead.the-variants.{Found, BreaksOff}
+
+-- the operations of a pack have at most so many bytes; more are not read
+abbrev pub mostBytes : ℕ
+mostBytes = 65535
+
+-- of t bits, those that are left tell the position
+abbrev pub numberIn : ℕ → Bits.Number → Number
+numberIn t broken-off = BrokenOff
+numberIn t (number v ys) = Value v (t - length ys)
+
+abbrev pub numberWithin : Bool → ℕ → List ℕ → ℕ → Number
+numberWithin true n bs at = numberIn (8 * length bs) (readNumber n 0 (drop at (bitsOfBytes bs)))
+numberWithin false n bs at = BrokenOff
+
+-- the number of n bits at a bit position
+unfoldable pub numberAt : ℕ → List ℕ → ℕ → Number
+numberAt n bs at = numberWithin (leb (length bs) mostBytes) n bs at
+
+abbrev pub operationIn : ℕ → Read → OperationRead
+operationIn t breaks-off = BreaksOff
+operationIn t (read o ys) = Found o (t - length ys)
+
+abbrev pub operationWithin : Bool → List ℕ → ℕ → OperationRead
+operationWithin true bs at = operationIn (8 * length bs) (readOperation (drop at (bitsOfBytes bs)))
+operationWithin false bs at = BreaksOff
+
+-- the operation at a bit position
+unfoldable pub operationAt : List ℕ → ℕ → OperationRead
+operationAt bs at = operationWithin (leb (length bs) mostBytes) bs at
+
+-- ---- as the reader goes: the code, then the indices
+
+abbrev pub splitOf : Number → OperationRead
+splitOf BrokenOff = BreaksOff
+splitOf (Value i next) = Found (Split i) next
+
+abbrev pub placeOf : ℕ → Number → OperationRead
+placeOf p BrokenOff = BreaksOff
+placeOf p (Value j next) = Found (Union p j) next
+
+abbrev pub unionOf : List ℕ → Number → OperationRead
+unionOf bs BrokenOff = BreaksOff
+unionOf bs (Value p next) = placeOf p (numberAt 10 bs next)
+
+-- ---- what an operation that was found says of the bits
+
+pub record OperationFound (bs : List ℕ) (at : ℕ) (o : Operation) (next : ℕ) : Type 0 where
+  pub reads : readOperation (drop at (bitsOfBytes bs)) ≡ read o (drop next (bitsOfBytes bs))
+  pub fits : Fits o
+  pub width : next ≡ at + widthOf o
+  pub ahead : at < next
+  pub within : next ≤ 8 * length bs
+  pub short : length bs ≤ mostBytes
+
+abbrev pub Ahead : List ℕ → ℕ → OperationRead → Type 0
+Ahead bs at r = (o : Operation) (next : ℕ) → r ≡ Found o next → OperationFound bs at o next

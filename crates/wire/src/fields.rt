@@ -1,0 +1,180 @@
+// The tagged fields of a pack: found in any bytes, and written before the operations.
+// Its contracts cite specs/Fields.antt.
+use crate::wide;
+use rules::Counts;
+ghost use mathlib.Core.Path.{_≡_};
+ghost use Prim.Native.Nat.{_+_, _/_, _%_, _<_, _≤_};
+ghost use lib.Dec.{leb};
+ghost use lib.ListN.{length, take, drop};
+ghost use Rattle.rules.specs.Fields.{wordAt, countsFrom};
+ghost use Rattle.rules.specs.Limits.{between, inRange};
+ghost use Rattle.codes.specs.Header.{headerOf};
+ghost use Rattle.wire.specs.Fields.{fieldAt, packFields, Parted, headed};
+
+const COUNTS_TAG: u8 = 1;
+
+const OPERATIONS_TAG: u8 = 2;
+
+// What a pack holds: its counts, and where its operations start and end; or the refusal, 12 or 13.
+pub enum PackFields {
+    Found(Counts, usize, usize),
+    Refused(u8),
+}
+
+// Where the contents of a field start and end.
+enum Place {
+    At(usize, usize),
+    Nothing,
+}
+
+// The number in two bytes.
+fn word_at(pack: &[u8], i: usize) -> u16
+    requires { ⌜ i + 1 < length (now pack) ⌝ }
+    ensures { λ r. ⌜ r ≡ wordAt (now (pack .entry)) i ⌝ }
+{
+    (256 * wide(pack[i]) + wide(pack[i + 1])) as u16
+}
+
+// The field with this tag at a position, if it is there and whole.
+fn field_at(pack: &[u8], at: usize, tag: u8) -> Place
+    ensures { λ r. ⌜ r ≡ fieldAt (now (pack .entry)) at tag ⌝ }
+{
+    if pack.len() < 3 {
+        return Place::Nothing;
+    }
+    if pack.len() - 3 < at {
+        return Place::Nothing;
+    }
+    if pack[at] != tag {
+        return Place::Nothing;
+    }
+    let start = at + 3;
+    let n = word_at(pack, at + 1) as usize;
+    if pack.len() - start < n {
+        return Place::Nothing;
+    }
+    Place::At(start, start + n)
+}
+
+// The four counts, which are the first field's contents.
+fn counts_of(pack: &[u8]) -> Counts
+    requires { ⌜ 11 ≤ length (now pack) ⌝ }
+    ensures { λ r. ⌜ r ≡ countsFrom (take 8 (drop 3 (now (pack .entry)))) ⌝ }
+{
+    Counts {
+        vertices: word_at(pack, 3),
+        triangles: word_at(pack, 5),
+        places: word_at(pack, 7),
+        loops: word_at(pack, 9),
+    }
+}
+
+// Whether a count is in a range, both ends included.
+fn is_between(low: u16, n: u16, high: u16) -> bool
+    ensures { λ r. ⌜ r ≡ between low n high ⌝ }
+{
+    if n < low {
+        return false;
+    }
+    n <= high
+}
+
+// Whether the counts are in 13's ranges.
+pub fn is_in_range(counts: Counts) -> bool
+    ensures { λ r. ⌜ r ≡ inRange counts ⌝ }
+{
+    if !is_between(3, counts.vertices, 4096) {
+        return false;
+    }
+    if !is_between(1, counts.triangles, 8192) {
+        return false;
+    }
+    if !is_between(3, counts.places, 1024) {
+        return false;
+    }
+    is_between(1, counts.loops, 100)
+}
+
+// The two fields of any bytes, tested for 12 and 13. Nothing follows the operations, which are the part of the pack from the
+// first position answered to the second.
+pub fn fields_of(pack: &[u8]) -> PackFields
+    ensures { λ r. ⌜ r ≡ packFields (now (pack .entry)) ⌝ }
+    ensures part { λ r. ⌜ Parted (now (pack .entry)) r ⌝ }
+{
+    let first = field_at(pack, 0, COUNTS_TAG);
+    let Place::At(_, end) = first else {
+        return PackFields::Refused(12);
+    };
+    if end != 11 {
+        return PackFields::Refused(12);
+    }
+    let second = field_at(pack, end, OPERATIONS_TAG);
+    let Place::At(from, to) = second else {
+        return PackFields::Refused(12);
+    };
+    if to != pack.len() {
+        return PackFields::Refused(12);
+    }
+    let counts = counts_of(pack);
+    if is_in_range(counts) {
+        PackFields::Found(counts, from, to)
+    } else {
+        PackFields::Refused(13)
+    }
+}
+
+// The high byte of a number of two bytes.
+fn high(v: usize) -> u8
+    ensures { λ r. ⌜ r ≡ v / 256 % 256 ⌝ }
+{
+    (v / 256 % 256) as u8
+}
+
+// The low byte.
+fn low(v: usize) -> u8
+    ensures { λ r. ⌜ r ≡ v % 256 ⌝ }
+{
+    (v % 256) as u8
+}
+
+// What stands before n bytes of operations: the field of the counts, and the next field's tag and length.
+fn header_of(counts: Counts, n: usize) -> [u8; 14]
+    ensures { λ r. ⌜ r ≡ headerOf counts n ⌝ }
+{
+    let v = counts.vertices as usize;
+    let t = counts.triangles as usize;
+    let p = counts.places as usize;
+    let l = counts.loops as usize;
+    [
+        COUNTS_TAG,
+        0,
+        8,
+        high(v),
+        low(v),
+        high(t),
+        low(t),
+        high(p),
+        low(p),
+        high(l),
+        low(l),
+        OPERATIONS_TAG,
+        high(n),
+        low(n),
+    ]
+}
+
+// Writes the 14 bytes before n bytes of operations, if the buffer has as many; it answers whether it has.
+pub fn write_header(pack: &mut [u8], counts: Counts, n: usize) -> bool
+    ensures { λ r. ⌜ (r ≡ leb 14 (length (now (pack .entry)))) × (now (pack .exit) ≡ headed (now (pack .entry)) counts n) ⌝ }
+{
+    if pack.len() < 14 {
+        return false;
+    }
+    let header = header_of(counts, n);
+    let mut i = 0;
+    while i < 14 {
+        pack[i] = header[i];
+        i += 1;
+    }
+    true
+}

@@ -1,0 +1,208 @@
+// The operation reader: numbers of three, seven and ten bits, and the operations that they make.
+// Its contracts cite specs/Reader.antt.
+use crate::wide;
+use rules::Operation;
+ghost use mathlib.Core.Path.{_≡_};
+ghost use Prim.Native.Nat.{_≤_, _<_};
+ghost use lib.ListN.{drop, getD};
+ghost use Rattle.rules.specs.Bits.{bitsOfBytes};
+ghost use Rattle.rules.specs.Code.{kinds, kindIn};
+ghost use Rattle.rules.specs.Unpack.{restFits};
+ghost use Rattle.wire.specs.Reader.{numberAt, splitOf, unionOf, operationAt, Ahead};
+
+// A field has no more bytes than its length can say.
+const MOST_BYTES: usize = 65535;
+
+// A number that was read, and the bit position after it; or the bytes end before it does.
+pub enum Number {
+    Value(u16, usize),
+    BrokenOff,
+}
+
+// An operation that was read, and the bit position after it; or the bytes end inside its code or an index.
+pub enum OperationRead {
+    Found(Operation, usize),
+    BreaksOff,
+}
+
+// The byte at an index, 0 beyond the end.
+fn byte_at(bytes: &[u8], i: usize) -> usize
+    ensures { λ r. ⌜ (r ≡ getD (now (bytes .entry)) i 0) × (r < 256) ⌝ }
+{
+    if i < bytes.len() { wide(bytes[i]) } else { 0 }
+}
+
+// The number of n bits at a bit position: it lies in three bytes, and is shifted out of them.
+fn number_at(bytes: &[u8], at: usize, n: usize) -> Number
+    requires { ⌜ (0 < n) × (n ≤ 10) ⌝ }
+    ensures { λ r. ⌜ r ≡ numberAt n (now (bytes .entry)) at ⌝ }
+{
+    if MOST_BYTES < bytes.len() {
+        return Number::BrokenOff;
+    }
+    let first = at / 8;
+    let bit = at % 8;
+    if bytes.len() < first + (bit + n + 7) / 8 {
+        return Number::BrokenOff;
+    }
+    let a = byte_at(bytes, first);
+    let b = byte_at(bytes, first + 1);
+    let c = byte_at(bytes, first + 2);
+    let word = 65536 * a + 256 * b + c;
+    let value = (word >> (24 - bit - n)) % (1 << n);
+    Number::Value(value as u16, at + n)
+}
+
+// Three bits, an operation's code.
+fn three_at(bytes: &[u8], at: usize) -> Number
+    ensures { λ r. ⌜ r ≡ numberAt 3 (now (bytes .entry)) at ⌝ }
+{
+    number_at(bytes, at, 3)
+}
+
+// Seven bits, the number of a waiting loop.
+fn seven_at(bytes: &[u8], at: usize) -> Number
+    ensures { λ r. ⌜ r ≡ numberAt 7 (now (bytes .entry)) at ⌝ }
+{
+    number_at(bytes, at, 7)
+}
+
+// Ten bits, the number of a place.
+fn ten_at(bytes: &[u8], at: usize) -> Number
+    ensures { λ r. ⌜ r ≡ numberAt 10 (now (bytes .entry)) at ⌝ }
+{
+    number_at(bytes, at, 10)
+}
+
+// The operation reader: the bytes it was lent and a bit position.
+pub struct OperationReader<'a> {
+    pub bytes: &'a [u8],
+    pub at: usize,
+}
+
+// A reader of these bytes at a bit position.
+pub fn reader<'a>(bytes: &'a [u8], at: usize) -> OperationReader<'a>
+    ensures { λ r. ⌜ (r .bytes ≡ bytes .entry) × (r .at ≡ at) ⌝ }
+{
+    OperationReader { bytes, at }
+}
+
+// Three bits at the reader's position.
+pub fn read3<'a>(r: OperationReader<'a>) -> Number
+    ensures { λ s. ⌜ s ≡ numberAt 3 (now (r .entry .bytes)) (r .entry .at) ⌝ }
+{
+    three_at(r.bytes, r.at)
+}
+
+// Seven bits at the reader's position.
+pub fn read7<'a>(r: OperationReader<'a>) -> Number
+    ensures { λ s. ⌜ s ≡ numberAt 7 (now (r .entry .bytes)) (r .entry .at) ⌝ }
+{
+    seven_at(r.bytes, r.at)
+}
+
+// Ten bits at the reader's position.
+pub fn read10<'a>(r: OperationReader<'a>) -> Number
+    ensures { λ s. ⌜ s ≡ numberAt 10 (now (r .entry .bytes)) (r .entry .at) ⌝ }
+{
+    ten_at(r.bytes, r.at)
+}
+
+// What a reader reads as a code. From here on the parameters are plain.
+fn code_bits(bytes: &[u8], at: usize) -> Number
+    ensures { λ r. ⌜ r ≡ numberAt 3 (now (bytes .entry)) at ⌝ }
+{
+    read3(reader(bytes, at))
+}
+
+// What a reader reads as a loop's number.
+fn loop_bits(bytes: &[u8], at: usize) -> Number
+    ensures { λ r. ⌜ r ≡ numberAt 7 (now (bytes .entry)) at ⌝ }
+{
+    read7(reader(bytes, at))
+}
+
+// What a reader reads as a place's number.
+fn place_bits(bytes: &[u8], at: usize) -> Number
+    ensures { λ r. ⌜ r ≡ numberAt 10 (now (bytes .entry)) at ⌝ }
+{
+    read10(reader(bytes, at))
+}
+
+// The kind of an operation, by its code; its indices are read apart.
+fn kind_of(code: u16) -> Operation
+    ensures { λ r. ⌜ r ≡ kindIn code kinds ⌝ }
+{
+    match code {
+        0 => Operation::New,
+        1 => Operation::Forward,
+        2 => Operation::Backward,
+        3 => Operation::Border,
+        4 => Operation::Split(0),
+        5 => Operation::Close,
+        6 => Operation::Union(0, 0),
+        _ => Operation::Start,
+    }
+}
+
+// A split's index, after its code.
+fn split_at(ops: &[u8], at: usize) -> OperationRead
+    ensures { λ r. ⌜ r ≡ splitOf (numberAt 10 (now (ops .entry)) at) ⌝ }
+{
+    let place = place_bits(ops, at);
+    let Number::Value(i, next) = place else {
+        return OperationRead::BreaksOff;
+    };
+    OperationRead::Found(Operation::Split(i), next)
+}
+
+// A union's indices, after its code: p stands before j.
+fn union_at(ops: &[u8], at: usize) -> OperationRead
+    ensures { λ r. ⌜ r ≡ unionOf (now (ops .entry)) (numberAt 7 (now (ops .entry)) at) ⌝ }
+{
+    let number = loop_bits(ops, at);
+    let Number::Value(p, after) = number else {
+        return OperationRead::BreaksOff;
+    };
+    let place = place_bits(ops, after);
+    let Number::Value(j, next) = place else {
+        return OperationRead::BreaksOff;
+    };
+    OperationRead::Found(Operation::Union(p, j), next)
+}
+
+// The operation at a bit position, and the position after it, which is further on and in the bytes.
+pub fn read_operation(ops: &[u8], at: usize) -> OperationRead
+    ensures { λ r. ⌜ r ≡ operationAt (now (ops .entry)) at ⌝ }
+    ensures ahead { λ r. ⌜ Ahead (now (ops .entry)) at r ⌝ }
+{
+    let number = code_bits(ops, at);
+    let Number::Value(code, next) = number else {
+        return OperationRead::BreaksOff;
+    };
+    if code == 4 {
+        return split_at(ops, next);
+    }
+    if code == 6 {
+        return union_at(ops, next);
+    }
+    OperationRead::Found(kind_of(code), next)
+}
+
+// Whether fewer than eight bits are left after a bit position, all of them zero: 19's test of the last byte.
+pub fn is_rest_zero(ops: &[u8], at: usize) -> bool
+    ensures { λ r. ⌜ r ≡ restFits (drop at (bitsOfBytes (now (ops .entry)))) ⌝ }
+{
+    let last = at / 8;
+    let bit = at % 8;
+    if ops.len() <= last {
+        return true;
+    }
+    if last + 1 < ops.len() {
+        return false;
+    }
+    if bit == 0 {
+        return false;
+    }
+    wide(ops[last]) % (1 << (8 - bit)) == 0
+}

@@ -1,0 +1,197 @@
+//! The compiled service compared with the second program on random input. `compare SEED SCALE`
+//!
+//! Prints a line for each part; stops at the first difference with the input that shows it.
+
+use compare::{check, fields, read, write};
+use cutborder::gen::{self, Model};
+use cutborder::ops::{encode_ops, split_fields, BitReader, Op};
+use cutborder::plain;
+use cutborder::rng::Rng;
+use std::collections::BTreeMap;
+use std::time::Instant;
+
+type Tally = BTreeMap<u8, usize>;
+
+/// Counts an answer, 0 for acceptance.
+fn count<T>(tally: &mut Tally, answer: &Result<T, u8>) {
+    *tally.entry(answer.as_ref().err().copied().unwrap_or(0)).or_default() += 1;
+}
+
+/// Each of these answers was met.
+fn met(tally: &Tally, answers: &[u8]) {
+    for n in answers {
+        assert!(tally.get(n).copied().unwrap_or(0) > 0, "answer {n} was never met: {tally:?}");
+    }
+}
+
+/// A list made bad in the way that one of 1 to 7 names (other refusals may come first).
+fn spoil(rng: &mut Rng, m: &mut Model, way: usize) {
+    let n = m.list.len();
+    match way {
+        1 => match rng.below(3) {
+            0 => m.list.clear(),
+            1 => m.list.truncate(n - 1 - rng.below(2)),
+            _ => m.list = vec![1; 24_576 + 3 * rng.below(2)],
+        },
+        2 => m.v = [0, 1, 2, 4_097, 65_536, u64::MAX][rng.below(6)],
+        3 => m.list[rng.below(n)] = (m.v + [0, 1, 60_000][rng.below(3)]).min(65_535) as u16,
+        4 => {
+            let t = 3 * rng.below(n / 3);
+            let i = rng.below(3);
+            m.list[t + i] = m.list[t + (i + 1) % 3];
+        }
+        5 => {
+            let t = 3 * rng.below(n / 3);
+            let i = rng.below(3);
+            let (p, q) = (m.list[t + i], m.list[t + (i + 1) % 3]);
+            m.list.extend_from_slice(&[p, q, rng.below(m.v as usize) as u16]);
+        }
+        6 => m.v += 1,
+        _ => {
+            // One vertex for two.
+            let (p, q) = (rng.below(m.v as usize) as u16, rng.below(m.v as usize) as u16);
+            for x in &mut m.list {
+                if *x == p {
+                    *x = q;
+                } else if u64::from(*x) + 1 == m.v {
+                    *x = p;
+                }
+            }
+            m.v -= 1;
+        }
+    }
+}
+
+fn lists(rng: &mut Rng, rounds: usize) -> (usize, Tally) {
+    let mut tally = Tally::new();
+    let mut n = 0;
+    for i in 0..rounds {
+        let max_t = [6, 20, 60, 200, 1_500][rng.below(5)];
+        let mut m = if i % 8 == 0 { gen::model(rng, max_t) } else { gen::sound(rng, max_t) };
+        if i % 3 != 0 && !m.list.is_empty() {
+            spoil(rng, &mut m, 1 + i % 7);
+        }
+        let expected = plain::check(m.v, &m.list);
+        assert_eq!(check(m.v as usize, &m.list), expected, "list {}", m.line());
+        count(&mut tally, &expected);
+        n += 1;
+    }
+    met(&tally, &[0, 1, 2, 3, 4, 5, 6, 7]);
+    (n, tally)
+}
+
+/// A pack, sound or spoilt, or any bytes.
+fn bytes(rng: &mut Rng) -> Vec<u8> {
+    let mut b = if rng.chance(1, 6) { (0..rng.below(40)).map(|_| rng.below(256) as u8).collect() } else { gen::pack(rng, 40) };
+    match rng.below(6) {
+        0 if !b.is_empty() => b.truncate(rng.below(b.len())),
+        1 => b.extend((0..rng.range(1, 4)).map(|_| rng.below(256) as u8)),
+        2 if !b.is_empty() => {
+            let i = rng.below(b.len().min(20));
+            b[i] ^= 1 << rng.below(8);
+        }
+        _ => {}
+    }
+    b
+}
+
+fn packs(rng: &mut Rng, rounds: usize) -> (usize, Tally) {
+    let mut tally = Tally::new();
+    for _ in 0..rounds {
+        let b = bytes(rng);
+        let expected = split_fields(&b).and_then(|(c, ops)| if c.in_range() { Ok((c, ops)) } else { Err(13) });
+        let found = fields(&b);
+        assert_eq!(found.map(|(c, from, to)| (c, &b[from..to])), expected, "pack {b:02x?}");
+        count(&mut tally, &expected);
+    }
+    met(&tally, &[0, 12, 13]);
+    (rounds, tally)
+}
+
+fn width(o: Op) -> usize {
+    match o {
+        Op::Split(_) => 13,
+        Op::Union(..) => 20,
+        _ => 3,
+    }
+}
+
+/// All operations that bytes hold, and from any position on.
+fn reads(rng: &mut Rng, rounds: usize) -> usize {
+    let mut n = 0;
+    for _ in 0..rounds {
+        let b = bytes(rng);
+        let mut reader = BitReader::new(&b);
+        let mut at = 0;
+        loop {
+            let expected = reader.next_op().map(|o| (o, at + width(o)));
+            assert_eq!(read(&b, at), expected, "at {at} of {b:02x?}");
+            n += 1;
+            match expected {
+                Some((_, next)) => at = next,
+                None => break,
+            }
+        }
+        let beyond = 8 * b.len() + rng.below(70_000);
+        assert_eq!(read(&b, beyond), None, "beyond the end of {b:02x?}");
+    }
+    n
+}
+
+/// Operations written one after the other into buffers that held anything, too short ones too.
+fn writes(rng: &mut Rng, rounds: usize) -> usize {
+    let mut n = 0;
+    for _ in 0..rounds {
+        let ops: Vec<Op> = (0..rng.range(1, 60))
+            .map(|_| match rng.below(10) {
+                0..=1 => Op::Split(rng.below(1_024) as u32),
+                2..=3 => Op::Union(rng.below(128) as u32, rng.below(1_024) as u32),
+                4 => Op::New,
+                5 => Op::Forward,
+                6 => Op::Backward,
+                7 => Op::Border,
+                8 => Op::Close,
+                _ => Op::Start,
+            })
+            .collect();
+        let whole = encode_ops(&ops);
+        let filler = rng.below(256) as u8;
+        let mut room = vec![filler; rng.below(whole.len() + 4)];
+        let (mut at, mut fitting) = (0, 0);
+        for (i, &o) in ops.iter().enumerate() {
+            let (fits, next) = write(&mut room, at, o);
+            assert_eq!(next, at + width(o), "{ops:?}");
+            assert_eq!(fits, next <= 8 * room.len(), "{ops:?}");
+            if !fits {
+                break;
+            }
+            (at, fitting) = (next, i + 1);
+            let written = encode_ops(&ops[..fitting]);
+            assert_eq!(room[..written.len()], written, "{:?}", &ops[..fitting]);
+            assert!(room[written.len()..].iter().all(|&b| b == filler), "beyond the end: {ops:?}");
+            n += 1;
+        }
+        assert_eq!(room[..encode_ops(&ops[..fitting]).len()], encode_ops(&ops[..fitting]));
+    }
+    n
+}
+
+fn main() {
+    let args: Vec<u64> = std::env::args().skip(1).filter_map(|a| a.parse().ok()).collect();
+    let [seed, scale] = args[..] else {
+        eprintln!("usage: compare SEED SCALE");
+        std::process::exit(2);
+    };
+    let mut rng = Rng::new(seed);
+    let scale = scale as usize;
+    let t = Instant::now();
+    let (n, tally) = lists(&mut rng, 2_000 * scale);
+    println!("lists: {n} alike, answers {tally:?}, {:.1} s", t.elapsed().as_secs_f64());
+    let t = Instant::now();
+    let (n, tally) = packs(&mut rng, 5_000 * scale);
+    println!("fields: {n} byte strings alike, answers {tally:?}, {:.1} s", t.elapsed().as_secs_f64());
+    let t = Instant::now();
+    println!("reads: {} alike, {:.1} s", reads(&mut rng, 2_000 * scale), t.elapsed().as_secs_f64());
+    let t = Instant::now();
+    println!("writes: {} alike, {:.1} s", writes(&mut rng, 2_000 * scale), t.elapsed().as_secs_f64());
+}
