@@ -22,7 +22,8 @@ use Rattle.chains.proofs.Listing.{below-each}
 pub check-is : (v : ℕ) (xs : List ℕ)
     → check v xs
     ≡ passes (fitsSize (length xs)) 1
-    (passes (vertexRange v) 2 (passes (allBelow v xs) 3 (passes (allDistinct (trianglesOf xs)) 4 (checkChains v (trianglesOf xs)))))
+    (passes (vertexRange v) 2
+    (passes (allBelow v xs) 3 (passes (allDistinct (trianglesOf xs)) 4 (checkChains v (trianglesOf xs)))))
 unfolding check checkTriangles checkChains
 check-is v xs = refl
 
@@ -82,7 +83,8 @@ pub size-long : (n : ℕ) (b : Bool) → b ≡ fitsSize n → not b ≡ false �
 size-long n b e f = omega (arith, eqb-true (n % 3) 0 (and-right (between 1 n maxNumbers) (eqb (n % 3) 0) (sym e ∙ not-false b f)))
 
 -- a list that has passed 1 to 4
-pub sound-is : (v : ℕ) (xs : List ℕ) (a b c d : Bool) → a ≡ fitsSize (length xs) → not a ≡ false → b ≡ vertexRange v → not b ≡ false
+pub sound-is : (v : ℕ) (xs : List ℕ) (a b c d : Bool) → a ≡ fitsSize (length xs) → not a ≡ false → b ≡ vertexRange v
+    → not b ≡ false
     → c ≡ allBelow v xs → not c ≡ false → d ≡ allDistinct (trianglesOf xs) → not d ≡ false → Sound xs
 sound-is v xs a b c d e f g h i j k l =
     let m = range-most v b g h in

@@ -26,17 +26,18 @@ use Rattle.fans.proofs.Tests.{all-distinct}
 use Rattle.fans.proofs.Fans.{run-fan, any-order, one-fan}
 use Rattle.fans.proofs.About.{in-about}
 use Rattle.fans.proofs.Finding.{across-found, found-in}
-use Rattle.chains.specs.Corner.{nextCorner, lastCorner, firstTriangles, triangleAt, latest, degree}
+use Rattle.chains.specs.Corner.{cornerAfter, cornerBefore, firstTriangles, triangleAt, latest, degree}
 use Rattle.chains.specs.Chains.{Linked, Finds, Newest, CountsFrom}
 use Rattle.chains.specs.Turn.{leftBack, leftOn}
 use Rattle.chains.proofs.Prefix.{first-more}
 use Rattle.chains.proofs.Finding.{linked-first, linked-found}
-use Rattle.chains.proofs.Walking.{next-first, next-second, next-third, last-first, last-second, last-third, latest-has, latest-below, latest-none, latest-some}
+use Rattle.chains.proofs.Walking.{after-first, after-second, after-third, before-first, before-second, before-third, latest-has, latest-below, latest-none, latest-some}
 use Rattle.chains.proofs.Used.{occurs-degree, used-none, used-here, used-not}
 use Rattle.chains.proofs.Turning.{Way, on, about-length}
 
 -- an edge that is there can be taken out
-taken-out : (x y : ℕ) (ds : List Edge) → 1 ≤ count x y ds → (es : List Edge) × ((w : Edge → ℕ) → total w ds ≡ w (edge x y) + total w es)
+taken-out : (x y : ℕ) (ds : List Edge) → 1 ≤ count x y ds
+    → (es : List Edge) × ((w : Edge → ℕ) → total w ds ≡ w (edge x y) + total w es)
 unfolding total count
 taken-out x y [] h = absurd (omega arith)
 taken-out x y (d ∷ ds) h = go (hit x y (d .from) (d .to)) refl (taken-out x y ds)
@@ -87,7 +88,8 @@ module _ (v : ℕ) (ts : List Triangle) (distinct : allDistinct ts ≡ true) (on
         enters = omega (arith, same-yes y);
       } in
       ap (λ (n : ℕ). eqb (leftOn ts v x y n) 0) n-is
-      ∙ ap (λ (n : ℕ). eqb n 0) (on v ts distinct once (length es) (length es) x y (edge x y ∷ []) es way refl (le-refl (length es)))
+      ∙ ap (λ (n : ℕ). eqb n 0)
+      (on v ts distinct once (length es) (length es) x y (edge x y ∷ []) es way refl (le-refl (length es)))
       ∙ nil-length (turnBack (length es) x (turnOn (length es) y es)) ∙ any-run (edge x y ∷ es) (t .1)
 
 -- the triangle of a corner is in the list
@@ -100,7 +102,7 @@ in-right [] i = i
 in-right (t ∷ ts) i = there (in-right ts i)
 
 abbrev Seen : List ℕ → ℕ → List Triangle → Type 0
-Seen xs c ts = In (getD xs c 0) (getD xs (nextCorner c) 0) (getD xs (lastCorner c) 0) ts
+Seen xs c ts = In (getD xs c 0) (getD xs (cornerAfter c) 0) (getD xs (cornerBefore c) 0) ts
 
 corner-last : (xs : List ℕ) (n c : ℕ) → 3 * n ≤ c → c < 3 * n + 3 → Seen xs c (triangleAt xs n ∷ [])
 corner-last xs n c l h = go (eqb c (3 * n)) refl (eqb c (3 * n + 1)) refl
@@ -108,21 +110,23 @@ corner-last xs n c l h = go (eqb c (3 * n)) refl (eqb c (3 * n + 1)) refl
     go : (a : Bool) → eqb c (3 * n) ≡ a → (b : Bool) → eqb c (3 * n + 1) ≡ b → Seen xs c (triangleAt xs n ∷ [])
     go true e b f =
         let k : c ≡ 3 * n = eqb-true c (3 * n) e in
-        rw (k, next-first n, last-first n) (here (at-p refl refl refl))
+        rw (k, after-first n, before-first n) (here (at-p refl refl refl))
     go false e true f =
         let k : c ≡ 3 * n + 1 = eqb-true c (3 * n + 1) f in
-        rw (k, next-second n, last-second n) (here (at-q refl refl refl))
+        rw (k, after-second n, before-second n) (here (at-q refl refl refl))
     go false e false f =
         let e′ = eqb-false c (3 * n) e in
         let f′ = eqb-false c (3 * n + 1) f in
         let k : c ≡ 3 * n + 2 = omega arith in
-        rw (k, next-third n, last-third n) (here (at-r refl refl refl))
+        rw (k, after-third n, before-third n) (here (at-r refl refl refl))
 
 pub corner-in : (xs : List ℕ) (n c : ℕ) → 3 * n ≤ length xs → c < 3 * n → Seen xs c (firstTriangles n xs)
 corner-in xs zero c l h = absurd (omega arith)
-corner-in xs (suc n) c l h = subst (Seen xs c) (sym (first-more n xs (omega arith))) (go (ltb c (3 * n)) refl (corner-in xs n c (omega arith)))
+corner-in xs (suc n) c l h =
+    subst (Seen xs c) (sym (first-more n xs (omega arith))) (go (ltb c (3 * n)) refl (corner-in xs n c (omega arith)))
   where
-    go : (b : Bool) → ltb c (3 * n) ≡ b → (c < 3 * n → Seen xs c (firstTriangles n xs)) → Seen xs c (firstTriangles n xs ++ (triangleAt xs n ∷ []))
+    go : (b : Bool) → ltb c (3 * n) ≡ b → (c < 3 * n → Seen xs c (firstTriangles n xs))
+        → Seen xs c (firstTriangles n xs ++ (triangleAt xs n ∷ []))
     go true e i = in-left (triangleAt xs n ∷ []) (i (ltb-true c (3 * n) e))
     go false e i = in-right (firstTriangles n xs) (corner-last xs n c (ltb-false c (3 * n) e) (omega arith))
 
@@ -130,34 +134,40 @@ corner-in xs (suc n) c l h = subst (Seen xs c) (sym (first-more n xs (omega arit
 module _ (xs cs : List ℕ) (linked : Linked xs cs) where
   pub all-degree : (v : ℕ) → degree v xs (3 * (length xs / 3)) ≡ length (about v (trianglesOf xs))
   all-degree v =
-      sym (occurs-degree v (length xs / 3) xs (linked .chains .within)) ∙ ap (λ (ts : List Triangle). occurs v (corners ts)) (linked-first xs cs linked)
+      sym (occurs-degree v (length xs / 3) xs (linked .chains .within)) ∙ ap (λ (ts : List Triangle). occurs v (corners ts))
+      (linked-first xs cs linked)
       ∙ sym (about-length v (trianglesOf xs) (linked .sound .distinct))
 
   before : (c : ℕ) → suc c - 1 ≡ c
   before c = omega arith
 
   -- corner c - 1 is the latest of v, and d corners have v
-  corner-of : (v c : ℕ) → 0 < c → c ≡ latest v xs (3 * (length xs / 3)) → In v (getD xs (nextCorner (c - 1)) 0) (getD xs (lastCorner (c - 1)) 0) (trianglesOf xs)
+  corner-of : (v c : ℕ) → 0 < c → c ≡ latest v xs (3 * (length xs / 3))
+      → In v (getD xs (cornerAfter (c - 1)) 0) (getD xs (cornerBefore (c - 1)) 0) (trianglesOf xs)
   corner-of v zero h e = absurd (omega arith)
   corner-of v (suc c) h e =
       let m = 3 * (length xs / 3) in
       let i = corner-in xs (length xs / 3) c (linked .chains .within) (omega (arith, latest-below v xs m)) in
-      rw (before c, ← linked-first xs cs linked) (subst (λ (u : ℕ). In u (getD xs (nextCorner c) 0) (getD xs (lastCorner c) 0) (firstTriangles (length xs / 3) xs)) (latest-has v xs m c (sym e)) i)
+      rw (before c, ← linked-first xs cs linked)
+      (subst (λ (u : ℕ). In u (getD xs (cornerAfter c) 0) (getD xs (cornerBefore c) 0) (firstTriangles (length xs / 3) xs))
+      (latest-has v xs m c (sym e)) i)
 
   pub fan-left : (v c d n : ℕ) → 0 < c → c ≡ latest v xs (3 * (length xs / 3)) → d ≡ degree v xs (3 * (length xs / 3))
-      → n ≡ leftOn (trianglesOf xs) v (getD xs (nextCorner (c - 1)) 0) (getD xs (lastCorner (c - 1)) 0) (d - 1)
+      → n ≡ leftOn (trianglesOf xs) v (getD xs (cornerAfter (c - 1)) 0) (getD xs (cornerBefore (c - 1)) 0) (d - 1)
       → eqb n 0 ≡ oneRun (about v (trianglesOf xs))
   fan-left v c d n h e f g =
-      let x = getD xs (nextCorner (c - 1)) 0 in
-      let y = getD xs (lastCorner (c - 1)) 0 in
+      let x = getD xs (cornerAfter (c - 1)) 0 in
+      let y = getD xs (cornerBefore (c - 1)) 0 in
       ap (λ (k : ℕ). eqb k 0) (g ∙ ap (λ (k : ℕ). leftOn (trianglesOf xs) v x y (k - 1)) (f ∙ all-degree v))
       ∙ run-left v (trianglesOf xs) (linked .sound .distinct) (linked .once) x y (corner-of v c h e)
 
   -- the first triangle's other vertices are not v
   pub corner-differs : (v c : ℕ) → 0 < c → c ≡ latest v xs (3 * (length xs / 3))
-      → (v ≡ getD xs (nextCorner (c - 1)) 0 → ⊥) × (v ≡ getD xs (lastCorner (c - 1)) 0 → ⊥)
+      → (v ≡ getD xs (cornerAfter (c - 1)) 0 → ⊥) × (v ≡ getD xs (cornerBefore (c - 1)) 0 → ⊥)
   corner-differs v c h e =
-      let d = all-distinct (trianglesOf xs) .0 (linked .sound .distinct) v (getD xs (nextCorner (c - 1)) 0) (getD xs (lastCorner (c - 1)) 0) (corner-of v c h e) in
+      let d =
+      all-distinct (trianglesOf xs) .0 (linked .sound .distinct) v (getD xs (cornerAfter (c - 1)) 0)
+      (getD xs (cornerBefore (c - 1)) 0) (corner-of v c h e) in
       (d .x-y, λ q. d .z-x (sym q))
 
   -- a vertex with an empty chain has no triangle about it
@@ -170,7 +180,8 @@ module _ (xs cs : List ℕ) (linked : Linked xs cs) where
       go (d ∷ ds) h = absurd (omega arith)
 
   -- the test of 6, from the highest vertex down
-  pub head-some : (u : ℕ) → 0 < u → u ≤ maxVertices → (getD cs (u - 1) 0 ≡ 0 → ⊥) → allUsed (u - 1) (corners (trianglesOf xs)) ≡ allUsed u (corners (trianglesOf xs))
+  pub head-some : (u : ℕ) → 0 < u → u ≤ maxVertices → (getD cs (u - 1) 0 ≡ 0 → ⊥)
+      → allUsed (u - 1) (corners (trianglesOf xs)) ≡ allUsed u (corners (trianglesOf xs))
   head-some u h l z =
       let k = linked .chains in
       subst (λ (ts : List Triangle). allUsed (u - 1) (corners ts) ≡ allUsed u (corners ts)) (linked-first xs cs linked)
@@ -184,7 +195,8 @@ module _ (xs cs : List ℕ) (linked : Linked xs cs) where
 
   pub head-all : (u : ℕ) → u ≤ 0 → true ≡ allUsed u (corners (trianglesOf xs))
   head-all u h =
-      subst (λ (ts : List Triangle). true ≡ allUsed u (corners ts)) (linked-first xs cs linked) (sym (used-none xs (length xs / 3) (linked .chains .within) u h))
+      subst (λ (ts : List Triangle). true ≡ allUsed u (corners ts)) (linked-first xs cs linked)
+      (sym (used-none xs (length xs / 3) (linked .chains .within) u h))
 
   -- one look-up on, and one back
   pub on-stop : (v x y n : ℕ) → 0 < n → y ≡ x → n ≡ leftOn (trianglesOf xs) v x y n
@@ -203,7 +215,9 @@ module _ (xs cs : List ℕ) (linked : Linked xs cs) where
   on-more v x y zero r i j z h a b f e = absurd (omega arith)
   on-more v x y (suc n) r i j z h a b f e =
       let q : across v y (trianglesOf xs) ≡ Found i j z = sym (linked-found xs cs linked v y r f b) ∙ e in
-      let d = all-distinct (trianglesOf xs) .0 (linked .sound .distinct) v y z (found-in (trianglesOf xs) (across-found v y (trianglesOf xs) i j z q)) in
+      let d =
+      all-distinct (trianglesOf xs) .0 (linked .sound .distinct) v y z
+      (found-in (trianglesOf xs) (across-found v y (trianglesOf xs) i j z q)) in
       (ap (leftOn (trianglesOf xs) v x z) (before n) ∙ sym (rw (leftOn, ne-eqb y x a, q)), λ k. d .z-x (sym k))
 
   pub on-back : (v x y n : ℕ) (r : Across) (m : ℕ) → 0 < n → (y ≡ x → ⊥) → (v ≡ y → ⊥) → Finds xs cs v y r → r ≡ Nothing
@@ -219,7 +233,8 @@ module _ (xs cs : List ℕ) (linked : Linked xs cs) where
   back-none v x zero h = refl
   back-none v x (suc n) h = absurd (omega arith)
 
-  pub back-stop : (v x n : ℕ) (r : Across) → 0 < n → (x ≡ v → ⊥) → Finds xs cs x v r → r ≡ Nothing → n ≡ leftBack (trianglesOf xs) v x n
+  pub back-stop : (v x n : ℕ) (r : Across) → 0 < n → (x ≡ v → ⊥) → Finds xs cs x v r → r ≡ Nothing
+      → n ≡ leftBack (trianglesOf xs) v x n
   unfolding leftBack
   back-stop v x zero r h b f e = absurd (omega arith)
   back-stop v x (suc n) r h b f e =
@@ -232,7 +247,9 @@ module _ (xs cs : List ℕ) (linked : Linked xs cs) where
   back-more v x zero r i j z h b f e = absurd (omega arith)
   back-more v x (suc n) r i j z h b f e =
       let q : across x v (trianglesOf xs) ≡ Found i j z = sym (linked-found xs cs linked x v r f b) ∙ e in
-      let d = all-distinct (trianglesOf xs) .0 (linked .sound .distinct) x v z (found-in (trianglesOf xs) (across-found x v (trianglesOf xs) i j z q)) in
+      let d =
+      all-distinct (trianglesOf xs) .0 (linked .sound .distinct) x v z
+      (found-in (trianglesOf xs) (across-found x v (trianglesOf xs) i j z q)) in
       (ap (leftBack (trianglesOf xs) v z) (before n) ∙ sym (rw (leftBack, q)), λ k. d .y-z (sym k))
 
 -- the test at one vertex: its latest corner is c - 1, whose triangle's next corners are k and m, and n corners have it
@@ -252,17 +269,18 @@ module _ (xs cs : List ℕ) (linked : Linked xs cs) (v c : ℕ) (newest : Newest
         let l : 0 < latest v xs (3 * (length xs / 3)) = omega (arith, latest-is) in
         omega (arith, count-is, latest-some v xs (3 * (length xs / 3)) l)
 
-    module _ (k m : ℕ) (after : k ≡ nextCorner (c - 1)) (last : m ≡ lastCorner (c - 1)) where
+    module _ (k m : ℕ) (after : k ≡ cornerAfter (c - 1)) (last : m ≡ cornerBefore (c - 1)) where
       pub fan-differs : (v ≡ getD xs k 0 → ⊥) × (v ≡ getD xs m 0 → ⊥)
       fan-differs =
           let d = corner-differs xs cs linked v c (omega arith) latest-is in
           (λ e. d .0 (e ∙ ap (λ (i : ℕ). getD xs i 0) after), λ e. d .1 (e ∙ ap (λ (i : ℕ). getD xs i 0) last))
 
-      pub fan-test : (r : ℕ) → r ≡ leftOn (trianglesOf xs) v (getD xs k 0) (getD xs m 0) (n - 1) → eqb r 0 ≡ oneRun (about v (trianglesOf xs))
+      pub fan-test : (r : ℕ) → r ≡ leftOn (trianglesOf xs) v (getD xs k 0) (getD xs m 0) (n - 1)
+          → eqb r 0 ≡ oneRun (about v (trianglesOf xs))
       fan-test r e =
           fan-left xs cs linked v c n r (omega arith) latest-is count-is
           (e ∙ ap (λ (i : ℕ). leftOn (trianglesOf xs) v (getD xs i 0) (getD xs m 0) (n - 1)) after
-          ∙ ap (λ (i : ℕ). leftOn (trianglesOf xs) v (getD xs (nextCorner (c - 1)) 0) (getD xs i 0) (n - 1)) last)
+          ∙ ap (λ (i : ℕ). leftOn (trianglesOf xs) v (getD xs (cornerAfter (c - 1)) 0) (getD xs i 0) (n - 1)) last)
 
 -- the test of 7, from the highest vertex down
 pub fans-none : (u : ℕ) (ts : List Triangle) → u ≤ 0 → true ≡ oneFanEach u ts
@@ -281,7 +299,8 @@ fans-here (suc u) ts b h e n =
     let e′ : oneRun (about u ts) ≡ true = rw (one-before u) at (sym e ∙ not-false b n) in
     rw (one-before u) (sym (rw (oneFanEach, e′)))
 
-pub fans-not : (u : ℕ) (ts : List Triangle) (b : Bool) → 0 < u → b ≡ oneRun (about (u - 1) ts) → not b ≡ true → false ≡ oneFanEach u ts
+pub fans-not : (u : ℕ) (ts : List Triangle) (b : Bool) → 0 < u → b ≡ oneRun (about (u - 1) ts) → not b ≡ true
+    → false ≡ oneFanEach u ts
 unfolding oneFanEach
 fans-not zero ts b h e n = absurd (omega arith)
 fans-not (suc u) ts b h e n =

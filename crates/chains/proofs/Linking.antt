@@ -32,7 +32,8 @@ pub zeros-none : (xs : List ℕ) (n : ℕ) → n ≡ room → Chains xs 0 (repli
 zeros-none xs n e = chains-none xs (replicate n 0) (length-replicate n 0 ∙ e) (λ v l. getD-replicate n v 0 0 (omega arith))
 
 -- one corner more
-module _ (xs : List ℕ) (n : ℕ) (cs : List ℕ) (chains : Chains xs n cs) (v : ℕ) (is : getD xs n 0 ≡ v) (small : v < maxVertices) (fits : n < maxNumbers) where
+module _ (xs : List ℕ) (n : ℕ) (cs : List ℕ) (chains : Chains xs n cs) (v : ℕ) (is : getD xs n 0 ≡ v) (small : v < maxVertices)
+    (fits : n < maxNumbers) where
   head-kept : (u : ℕ) → u < maxVertices → getD (linked cs v n) u 0 ≡ latest u xs (suc n)
   head-kept u l = go (eqb u v) refl
     where
@@ -48,9 +49,11 @@ module _ (xs : List ℕ) (n : ℕ) (cs : List ℕ) (chains : Chains xs n cs) (v 
           ∙ sym (latest-other u xs n (λ h. eqb-false u v e (sym h ∙ is)))
 
   link-kept : (c : ℕ) → c < suc n → getD (linked cs v n) (maxVertices + c) 0 ≡ latest (getD xs c 0) xs c
-  link-kept c l = getD-set-other (set cs (maxVertices + n) (getD cs v 0)) v (maxVertices + c) (n + 1) 0 (omega arith) ∙ go (eqb c n) refl
+  link-kept c l =
+      getD-set-other (set cs (maxVertices + n) (getD cs v 0)) v (maxVertices + c) (n + 1) 0 (omega arith) ∙ go (eqb c n) refl
     where
-      go : (b : Bool) → eqb c n ≡ b → getD (set cs (maxVertices + n) (getD cs v 0)) (maxVertices + c) 0 ≡ latest (getD xs c 0) xs c
+      go : (b : Bool) → eqb c n ≡ b
+          → getD (set cs (maxVertices + n) (getD cs v 0)) (maxVertices + c) 0 ≡ latest (getD xs c 0) xs c
       go true e =
           let e′ : c ≡ n = eqb-true c n e in
           rw e′
@@ -58,7 +61,8 @@ module _ (xs : List ℕ) (n : ℕ) (cs : List ℕ) (chains : Chains xs n cs) (v 
           ∙ ap (λ (u : ℕ). latest u xs n) (sym is))
       go false e =
           let f = eqb-false c n e in
-          getD-set-other cs (maxVertices + n) (maxVertices + c) (getD cs v 0) 0 (λ h. f (omega arith)) ∙ chains .links c (omega arith)
+          getD-set-other cs (maxVertices + n) (maxVertices + c) (getD cs v 0) 0 (λ h. f (omega arith)) ∙ chains .links c
+          (omega arith)
 
   below-kept : (c : ℕ) → c < suc n → getD xs c 0 < maxVertices
   below-kept c l = go (eqb c n) refl
@@ -74,7 +78,9 @@ module _ (xs : List ℕ) (n : ℕ) (cs : List ℕ) (chains : Chains xs n cs) (v 
       (record {
         within = h;
         most = fits;
-        whole = length-set (set cs (maxVertices + n) (getD cs v 0)) v (n + 1) ∙ length-set cs (maxVertices + n) (getD cs v 0) ∙ chains .whole;
+        whole =
+            length-set (set cs (maxVertices + n) (getD cs v 0)) v (n + 1) ∙ length-set cs (maxVertices + n) (getD cs v 0)
+            ∙ chains .whole;
         below = below-kept;
         heads = head-kept;
         links = link-kept;
@@ -83,7 +89,8 @@ module _ (xs : List ℕ) (n : ℕ) (cs : List ℕ) (chains : Chains xs n cs) (v 
 -- one triangle more
 module _ (xs : List ℕ) (n : ℕ) (cs : List ℕ) (chains : Chains xs (3 * n) cs) (fits : 3 * n + 3 ≤ length xs) where
   three-linked : (p q r : ℕ) → getD xs (3 * n) 0 ≡ p → getD xs (3 * n + 1) 0 ≡ q → getD xs (3 * n + 2) 0 ≡ r
-      → n < maxTriangles → p < maxVertices → q < maxVertices → r < maxVertices → Chains xs (3 * (n + 1)) (linkedTriangle cs n p q r)
+      → n < maxTriangles → p < maxVertices → q < maxVertices → r < maxVertices
+      → Chains xs (3 * (n + 1)) (linkedTriangle cs n p q r)
   three-linked p q r e f g m a b c =
       let cs₁ = linked cs p (3 * n) in
       let cs₂ = linked cs₁ q (3 * n + 1) in
@@ -141,7 +148,8 @@ pub linkable-r : (n p q r : ℕ) → n < maxTriangles → p < maxVertices → q 
 unfolding linkable
 linkable-r n p q r h a b = sym (rw (linkable, lt-ltb n maxTriangles h, lt-ltb p maxVertices a, lt-ltb q maxVertices b))
 
-pub relinked-yes : (cs : List ℕ) {cs₁ cs₂ cs₃ : List ℕ} (n p q r : ℕ) → linkable n p q r ≡ true → cs₁ ≡ linked cs p (3 * n) → cs₂ ≡ linked cs₁ q (3 * n + 1)
+pub relinked-yes : (cs : List ℕ) {cs₁ cs₂ cs₃ : List ℕ} (n p q r : ℕ) → linkable n p q r ≡ true → cs₁ ≡ linked cs p (3 * n)
+    → cs₂ ≡ linked cs₁ q (3 * n + 1)
     → cs₃ ≡ linked cs₂ r (3 * n + 2) → cs₃ ≡ relinked cs n p q r
 unfolding relinked
 relinked-yes cs {cs₁} {cs₂} {cs₃} n p q r h e f g =

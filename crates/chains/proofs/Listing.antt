@@ -18,7 +18,7 @@ use Rattle.fans.proofs.Tests.{all-distinct}
 use Rattle.chains.specs.Corner.{firstTriangles, triangleAt, isNew}
 use Rattle.chains.specs.Chains.{Chains, NewIs, Sound, AllLinked, relinked}
 use Rattle.chains.proofs.Prefix.{first-all}
-use Rattle.chains.proofs.Walking.{next-first, last-first}
+use Rattle.chains.proofs.Walking.{after-first, before-first}
 use Rattle.chains.proofs.Linking.{triangle-linked}
 use Rattle.chains.proofs.Once.{once-more, once-not, once-none}
 use Rattle.chains.proofs.Fans.{corner-in}
@@ -70,7 +70,15 @@ drop-three xs t h =
     let a : 3 * t + 1 ≡ suc (3 * t) = omega arith in
     let b : 3 * t + 2 ≡ suc (suc (3 * t)) = omega arith in
     let c : 3 * (t + 1) ≡ suc (suc (suc (3 * t))) = omega arith in
-    rw (c, a, b, drop-cons xs (3 * t) 0 (omega arith), drop-cons xs (suc (3 * t)) 0 (omega arith), drop-cons xs (suc (suc (3 * t))) 0 (omega arith))
+    rw (
+      c,
+      a,
+      b,
+      drop-cons xs (3 * t) 0 (omega arith),
+      drop-cons xs (suc (3 * t)) 0 (omega arith),
+      drop-cons xs
+          (suc (suc (3 * t))) 0 (omega arith),
+    )
 
 module _ (xs : List ℕ) (t : ℕ) (same : allDistinct (trianglesOf (drop (3 * t) xs)) ≡ allDistinct (trianglesOf xs)) where
   pub distinct-more : (b : Bool) → 3 * t + 3 ≤ length xs → b ≡ distinct (triangleAt xs t) → not b ≡ false
@@ -78,13 +86,16 @@ module _ (xs : List ℕ) (t : ℕ) (same : allDistinct (trianglesOf (drop (3 * t
   unfolding allDistinct
   distinct-more b h i n =
       let d = sym i ∙ not-false b n in
-      sym (ap allDistinct (drop-three xs t h) ∙ ap (λ (b : Bool). b && allDistinct (trianglesOf (drop (3 * (t + 1)) xs))) d) ∙ same
+      sym (ap allDistinct (drop-three xs t h) ∙ ap (λ (b : Bool). b && allDistinct (trianglesOf (drop (3 * (t + 1)) xs))) d)
+      ∙ same
 
-  pub distinct-not : (b : Bool) → 3 * t + 3 ≤ length xs → b ≡ distinct (triangleAt xs t) → not b ≡ true → false ≡ allDistinct (trianglesOf xs)
+  pub distinct-not : (b : Bool) → 3 * t + 3 ≤ length xs → b ≡ distinct (triangleAt xs t) → not b ≡ true
+      → false ≡ allDistinct (trianglesOf xs)
   unfolding allDistinct
   distinct-not b h i n =
       let d = sym i ∙ not-true b n in
-      sym (ap allDistinct (drop-three xs t h) ∙ ap (λ (b : Bool). b && allDistinct (trianglesOf (drop (3 * (t + 1)) xs))) d) ∙ same
+      sym (ap allDistinct (drop-three xs t h) ∙ ap (λ (b : Bool). b && allDistinct (trianglesOf (drop (3 * (t + 1)) xs))) d)
+      ∙ same
 
   pub distinct-all : length xs ≤ 3 * t → true ≡ allDistinct (trianglesOf xs)
   unfolding allDistinct trianglesOf
@@ -100,12 +111,13 @@ pub record Linking (xs : List ℕ) (t : ℕ) (cs : List ℕ) : Type 0 where
 pub linking-none : {xs cs : List ℕ} → Sound xs → Chains xs 0 cs → Linking xs 0 cs
 linking-none {xs} s k = record { sound = s; upto = omega arith; chains = k; once = once-none xs }
 
-pub sound-differs : {xs : List ℕ} (t : ℕ) → Sound xs → t < length xs / 3 → Different (getD xs (3 * t) 0) (getD xs (3 * t + 1) 0) (getD xs (3 * t + 2) 0)
+pub sound-differs : {xs : List ℕ} (t : ℕ) → Sound xs → t < length xs / 3
+    → Different (getD xs (3 * t) 0) (getD xs (3 * t + 1) 0) (getD xs (3 * t + 2) 0)
 sound-differs {xs} t s h =
     let m = length xs / 3 in
     let i = corner-in xs m (3 * t) (omega (arith, s .long)) (omega arith) in
     let d = all-distinct (firstTriangles m xs) .0 (ap allDistinct (first-all m xs (s .long)) ∙ s .distinct) _ _ _ i in
-    rw (next-first t, last-first t) at d
+    rw (after-first t, before-first t) at d
 
 module _ {xs cs : List ℕ} (t : ℕ) (k : Linking xs t cs) (more : t < length xs / 3) where
   fits : 3 * t + 3 ≤ length xs
@@ -115,8 +127,10 @@ module _ {xs cs : List ℕ} (t : ℕ) (k : Linking xs t cs) (more : t < length x
       → b ≡ isNew (firstTriangles t xs) (triangleAt xs t)
   is-new b h = h t (k .chains) (sound-differs t (k .sound) more)
 
-  pub linking-more : (b : Bool) → NewIs xs cs (getD xs (3 * t) 0) (getD xs (3 * t + 1) 0) (getD xs (3 * t + 2) 0) b → not b ≡ false
-      → (cs′ : List ℕ) → cs′ ≡ relinked cs t (getD xs (3 * t) 0) (getD xs (3 * t + 1) 0) (getD xs (3 * t + 2) 0) → Linking xs (t + 1) cs′
+  pub linking-more : (b : Bool) → NewIs xs cs (getD xs (3 * t) 0) (getD xs (3 * t + 1) 0) (getD xs (3 * t + 2) 0) b
+      → not b ≡ false
+      → (cs′ : List ℕ) → cs′ ≡ relinked cs t (getD xs (3 * t) 0) (getD xs (3 * t + 1) 0) (getD xs (3 * t + 2) 0)
+      → Linking xs (t + 1) cs′
   linking-more b h n cs′ e =
       let new = sym (is-new b h) ∙ not-false b n in
       let s = k .sound in
@@ -126,8 +140,10 @@ module _ {xs cs : List ℕ} (t : ℕ) (k : Linking xs t cs) (more : t < length x
         sound = s;
         upto = omega arith;
         chains =
-            triangle-linked xs t cs (k .chains) fits (getD xs (3 * t) 0) (getD xs (3 * t + 1) 0) (getD xs (3 * t + 2) 0) refl refl refl
-            (omega (arith, s .most)) (s .below (3 * t) (omega arith)) (s .below (3 * t + 1) (omega arith)) (s .below (3 * t + 2) (omega arith)) cs′ e;
+            triangle-linked xs t cs (k .chains) fits (getD xs (3 * t) 0) (getD xs (3 * t + 1) 0)
+            (getD xs (3 * t + 2) 0) refl refl refl
+            (omega (arith, s .most)) (s .below (3 * t) (omega arith)) (s .below (3 * t + 1) (omega arith))
+            (s .below (3 * t + 2) (omega arith)) cs′ e;
         once =
             subst (λ (n : ℕ). noneTwice (edgesOf (firstTriangles n xs)) ≡ true) u
             (once-more xs t fits new (sound-differs t s more) (k .once));

@@ -107,7 +107,8 @@ module _ (xs : List ℕ) (n : ℕ) (fits : 3 * n + 3 ≤ length xs) where
       let k = new-once (firstTriangles n xs) (triangleAt xs n) new d x y (none-twice (edgesOf (firstTriangles n xs)) .0 h x y) in
       omega (arith, uses-more x y n xs fits))
 
-  twice : {x y z : ℕ} → Rot (triangleAt xs n) x y z → 1 ≤ uses x y (firstTriangles n xs) → (b : Bool) → noneTwice (edgesOf (trianglesOf xs)) ≡ b
+  twice : {x y z : ℕ} → Rot (triangleAt xs n) x y z → 1 ≤ uses x y (firstTriangles n xs) → (b : Bool)
+      → noneTwice (edgesOf (trianglesOf xs)) ≡ b
       → false ≡ noneTwice (edgesOf (trianglesOf xs))
   twice {x} {y} {z} r h false e = sym e
   twice {x} {y} {z} r h true e =
@@ -135,7 +136,8 @@ module _ (xs : List ℕ) (n : ℕ) (fits : 3 * n + 3 ≤ length xs) where
       bs : Bool
       bs = noneTwice (edgesOf (trianglesOf xs))
 
-      go : (a : Bool) → isFree (t .p) (t .q) ts ≡ a → (b : Bool) → isFree (t .q) (t .r) ts ≡ b → (c : Bool) → isFree (t .r) (t .p) ts ≡ c
+      go : (a : Bool) → isFree (t .p) (t .q) ts ≡ a → (b : Bool) → isFree (t .q) (t .r) ts ≡ b → (c : Bool)
+          → isFree (t .r) (t .p) ts ≡ c
           → false ≡ bs
       go false e b f c g = twice (at-p refl refl refl) (taken-uses (t .p) (t .q) ts e) bs refl
       go true e false f c g = twice (at-q refl refl refl) (taken-uses (t .q) (t .r) ts f) bs refl

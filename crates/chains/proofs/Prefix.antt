@@ -57,7 +57,8 @@ unfolding count edgesOf
 uses-append x y [] us = omega arith
 uses-append x y (t ∷ ts) us = omega (arith, uses-append x y ts us)
 
-pub occurs-append : (v : ℕ) (ts us : List Triangle) → occurs v (corners (ts ++ us)) ≡ occurs v (corners ts) + occurs v (corners us)
+pub occurs-append : (v : ℕ) (ts us : List Triangle)
+    → occurs v (corners (ts ++ us)) ≡ occurs v (corners ts) + occurs v (corners us)
 unfolding occurs corners
 occurs-append v [] us = omega arith
 occurs-append v (t ∷ ts) us = omega (arith, occurs-append v ts us)
@@ -65,7 +66,8 @@ occurs-append v (t ∷ ts) us = omega (arith, occurs-append v ts us)
 -- the rest of the triangles stand after the first
 pub first-rest : (n : ℕ) (xs : List ℕ) → 3 * n ≤ length xs → firstTriangles n xs ++ trianglesOf (drop (3 * n) xs) ≡ trianglesOf xs
 first-rest n xs h =
-    sym (triangles-append n (take (3 * n) xs) (drop (3 * n) xs) (length-take-le (3 * n) xs h)) ∙ ap trianglesOf (take-append-drop (3 * n) xs)
+    sym (triangles-append n (take (3 * n) xs) (drop (3 * n) xs) (length-take-le (3 * n) xs h)) ∙ ap trianglesOf
+    (take-append-drop (3 * n) xs)
 
 pub first-uses : (x y n : ℕ) (xs : List ℕ) → 3 * n ≤ length xs → uses x y (firstTriangles n xs) ≤ uses x y (trianglesOf xs)
 first-uses x y n xs h =
@@ -77,4 +79,5 @@ first-uses x y n xs h =
 
 pub uses-more : (x y n : ℕ) (xs : List ℕ) → 3 * n + 3 ≤ length xs
     → uses x y (firstTriangles (suc n) xs) ≡ uses x y (firstTriangles n xs) + uses x y (triangleAt xs n ∷ [])
-uses-more x y n xs h = ap (λ (ts : List Triangle). uses x y ts) (first-more n xs h) ∙ uses-append x y (firstTriangles n xs) (triangleAt xs n ∷ [])
+uses-more x y n xs h =
+    ap (λ (ts : List Triangle). uses x y ts) (first-more n xs h) ∙ uses-append x y (firstTriangles n xs) (triangleAt xs n ∷ [])

@@ -27,7 +27,8 @@ use Rattle.fans.proofs.Finding.{across-found, across-nothing, found-in}
 use Rattle.chains.specs.Turn.{leftBack, leftOn}
 
 -- as many triangles are about v as corners have v
-rot-same : {v x y : ℕ} (t : Triangle) → Different (t .p) (t .q) (t .r) → Rot t v x y → same v (t .r) + (same v (t .q) + same v (t .p)) ≡ 1
+rot-same : {v x y : ℕ} (t : Triangle) → Different (t .p) (t .q) (t .r) → Rot t v x y
+    → same v (t .r) + (same v (t .q) + same v (t .p)) ≡ 1
 rot-same {v} t d (at-p a b c) =
     omega (arith, ap (same v) a, same-yes v, same-no v (t .q) (λ e. d .x-y (a ∙ e)), same-no v (t .r) (λ e. d .z-x (sym (a ∙ e))))
 rot-same {v} t d (at-q a b c) =
@@ -49,8 +50,10 @@ abbrev Parts : (Edge → ℕ) → ℕ → List Edge → Taken → Type 0
 Parts near x ds no-edge = total (λ d. same x (near d)) ds ≡ 0
 Parts near x ds (taken d es) = (near d ≡ x) × ((w : Edge → ℕ) → total w ds ≡ w d + total w es)
 
-module _ (near far : Edge → ℕ) (pick : ℕ → List Edge → Taken) (turn : ℕ → ℕ → List Edge → List Edge) (law : Turn near far pick turn) where
-  parts-keep : (x : ℕ) (d : Edge) (ds : List Edge) (r : Taken) → eqb (near d) x ≡ false → Parts near x ds r → Parts near x (d ∷ ds) (keep d r)
+module _ (near far : Edge → ℕ) (pick : ℕ → List Edge → Taken) (turn : ℕ → ℕ → List Edge → List Edge)
+    (law : Turn near far pick turn) where
+  parts-keep : (x : ℕ) (d : Edge) (ds : List Edge) (r : Taken) → eqb (near d) x ≡ false → Parts near x ds r
+      → Parts near x (d ∷ ds) (keep d r)
   unfolding total
   parts-keep x d ds no-edge e h = omega (arith, h, same-no x (near d) (λ q. eqb-false (near d) x e (sym q)))
   parts-keep x d ds (taken f es) e h = (h .0, λ w. omega (arith, h .1 w))
@@ -132,7 +135,8 @@ module _ (v : ℕ) (ts : List Triangle) (distinct : allDistinct ts ≡ true) (on
   back : (m n s t : ℕ) (way rest : List Edge) → Way all s t way rest → starts t all ≡ 0 → length rest ≡ n → n ≤ m
       → leftBack ts v s n ≡ length (turnBack m s rest)
   unfolding leftBack total
-  back m zero s t way [] w o e l = sym (ap (length {A = Edge}) (stops (λ d. d .to) (λ d. d .from) entering turnBack backward m s [] refl))
+  back m zero s t way [] w o e l =
+      sym (ap (length {A = Edge}) (stops (λ d. d .to) (λ d. d .from) entering turnBack backward m s [] refl))
   back m zero s t way (r ∷ rest) w o e l = absurd (omega arith)
   back zero (suc n) s t way rest w o e l = absurd (omega arith)
   back (suc m) (suc n) s t way rest w o e l =
@@ -146,11 +150,13 @@ module _ (v : ℕ) (ts : List Triangle) (distinct : allDistinct ts ≡ true) (on
 
       more : (z : ℕ) → 1 ≤ count z s all
           → ((z : ℕ) (way′ rest′ : List Edge) → Way all z t way′ rest′ → length rest′ ≡ n → leftBack ts v z n ≡ length (turnBack m z rest′))
-          → Next (λ d. d .to) (λ d. d .from) entering turnBack backward m s rest → leftBack ts v z n ≡ length (turnBack (suc m) s rest)
+          → Next (λ d. d .to) (λ d. d .from) entering turnBack backward m s rest
+          → leftBack ts v z n ≡ length (turnBack (suc m) s rest)
       more z h k x =
           let d = x .edge-taken in
           let c : 1 ≤ hit z s (d .from) (d .to) =
-          the-one (λ g. g .to) (λ g. g .from) entering turnBack backward m s all way rest (w .sum) (apart .ends-once s) none x (hits z s)
+          the-one (λ g. g .to) (λ g. g .from) entering turnBack backward m s all way rest (w .sum) (apart .ends-once s) none x
+          (hits z s)
           (λ g. hit-to z s (g .from) (g .to)) (omega (arith, count-total z s all)) in
           let z-is : z ≡ d .from = hit-is z s (d .from) (d .to) c .0 in
           let w′ : Way all z t (d ∷ way) (x .rest) =
@@ -201,7 +207,8 @@ module _ (v : ℕ) (ts : List Triangle) (distinct : allDistinct ts ≡ true) (on
       more z h o k x =
           let d = x .edge-taken in
           let c : 1 ≤ hit t z (d .from) (d .to) =
-          the-one (λ g. g .from) (λ g. g .to) leaving turnOn onward n t all way rest (w .sum) (apart .starts-once t) o x (hits t z)
+          the-one (λ g. g .from) (λ g. g .to) leaving turnOn onward n t all way rest (w .sum) (apart .starts-once t) o x
+          (hits t z)
           (λ g. hit-from t z (g .from) (g .to)) (omega (arith, count-total t z all)) in
           let z-is : z ≡ d .to = hit-is t z (d .from) (d .to) c .1 in
           let w′ : Way all s z (d ∷ way) (x .rest) =

@@ -60,7 +60,8 @@ module _ (xs : List ℕ) (n : ℕ) (whole : 3 * n ≤ length xs) where
       let l′ : 0 < latest u xs (3 * n) = rw (before u) at l in
       let d = latest-some u xs (3 * n) l′ in
       rw (before u)
-      (sym (rw (allUsed, ne-eqb (occurs u (corners (firstTriangles n xs))) 0 (λ q. omega (arith, occurs-degree u n xs whole, d)))))
+      (sym
+      (rw (allUsed, ne-eqb (occurs u (corners (firstTriangles n xs))) 0 (λ q. omega (arith, occurs-degree u n xs whole, d)))))
 
   pub used-not : (u : ℕ) → 0 < u → latest (u - 1) xs (3 * n) ≡ 0 → false ≡ allUsed u (corners (firstTriangles n xs))
   unfolding allUsed

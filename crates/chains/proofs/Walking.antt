@@ -10,7 +10,7 @@ use lib.Dec.{eqb}
 use borrow.Author.Tests.{eqb-true, eqb-false, eq-eqb, ne-eqb}
 use Rattle.rules.specs.Limits.{maxNumbers, maxVertices}
 use Rattle.rules.specs.declared.Across.the-variants.{Found, Nothing}
-use Rattle.chains.specs.Corner.{nextCorner, lastCorner, latest, degree, seenFrom, lastWith}
+use Rattle.chains.specs.Corner.{cornerAfter, cornerBefore, latest, degree, seenFrom, lastWith}
 use Rattle.chains.specs.Chains.{Chains, Newest, Older, CountsFrom}
 
 -- what the last corner below suc c is, by whether corner c has the vertex
@@ -102,49 +102,49 @@ latest-some v xs n h = go (latest v xs n) refl h
         omega arith
 
 -- the corners of a triangle
-pub next-two : (c : ℕ) → c % 3 ≡ 2 → c - 2 ≡ nextCorner c
-unfolding nextCorner
-next-two c e = sym (rw (nextCorner, eq-eqb (c % 3) 2 e))
+pub after-two : (c : ℕ) → c % 3 ≡ 2 → c - 2 ≡ cornerAfter c
+unfolding cornerAfter
+after-two c e = sym (rw (cornerAfter, eq-eqb (c % 3) 2 e))
 
-pub next-other : (c : ℕ) → (c % 3 ≡ 2 → ⊥) → c + 1 ≡ nextCorner c
-unfolding nextCorner
-next-other c h = sym (rw (nextCorner, ne-eqb (c % 3) 2 h))
+pub after-other : (c : ℕ) → (c % 3 ≡ 2 → ⊥) → c + 1 ≡ cornerAfter c
+unfolding cornerAfter
+after-other c h = sym (rw (cornerAfter, ne-eqb (c % 3) 2 h))
 
-pub last-zero : (c : ℕ) → c % 3 ≡ 0 → c + 2 ≡ lastCorner c
-unfolding lastCorner
-last-zero c e = sym (rw (lastCorner, eq-eqb (c % 3) 0 e))
+pub before-zero : (c : ℕ) → c % 3 ≡ 0 → c + 2 ≡ cornerBefore c
+unfolding cornerBefore
+before-zero c e = sym (rw (cornerBefore, eq-eqb (c % 3) 0 e))
 
-pub last-other : (c : ℕ) → (c % 3 ≡ 0 → ⊥) → c - 1 ≡ lastCorner c
-unfolding lastCorner
-last-other c h = sym (rw (lastCorner, ne-eqb (c % 3) 0 h))
+pub before-other : (c : ℕ) → (c % 3 ≡ 0 → ⊥) → c - 1 ≡ cornerBefore c
+unfolding cornerBefore
+before-other c h = sym (rw (cornerBefore, ne-eqb (c % 3) 0 h))
 
-pub seen-is : (xs : List ℕ) (c r : ℕ) → r ≡ lastCorner c → Found (c / 3) (r % 3) (getD xs r 0) ≡ seenFrom xs c
+pub seen-is : (xs : List ℕ) (c r : ℕ) → r ≡ cornerBefore c → Found (c / 3) (r % 3) (getD xs r 0) ≡ seenFrom xs c
 unfolding seenFrom
 seen-is xs c r e = rw e
 
-pub next-first : (n : ℕ) → nextCorner (3 * n) ≡ 3 * n + 1
-unfolding nextCorner
-next-first n = rw (nextCorner, ne-eqb (3 * n % 3) 2 (omega arith))
+pub after-first : (n : ℕ) → cornerAfter (3 * n) ≡ 3 * n + 1
+unfolding cornerAfter
+after-first n = rw (cornerAfter, ne-eqb (3 * n % 3) 2 (omega arith))
 
-pub next-second : (n : ℕ) → nextCorner (3 * n + 1) ≡ 3 * n + 2
-unfolding nextCorner
-next-second n = rw (nextCorner, ne-eqb ((3 * n + 1) % 3) 2 (omega arith)) (omega arith)
+pub after-second : (n : ℕ) → cornerAfter (3 * n + 1) ≡ 3 * n + 2
+unfolding cornerAfter
+after-second n = rw (cornerAfter, ne-eqb ((3 * n + 1) % 3) 2 (omega arith)) (omega arith)
 
-pub next-third : (n : ℕ) → nextCorner (3 * n + 2) ≡ 3 * n
-unfolding nextCorner
-next-third n = rw (nextCorner, eq-eqb ((3 * n + 2) % 3) 2 (omega arith)) (omega arith)
+pub after-third : (n : ℕ) → cornerAfter (3 * n + 2) ≡ 3 * n
+unfolding cornerAfter
+after-third n = rw (cornerAfter, eq-eqb ((3 * n + 2) % 3) 2 (omega arith)) (omega arith)
 
-pub last-first : (n : ℕ) → lastCorner (3 * n) ≡ 3 * n + 2
-unfolding lastCorner
-last-first n = rw (lastCorner, eq-eqb (3 * n % 3) 0 (omega arith))
+pub before-first : (n : ℕ) → cornerBefore (3 * n) ≡ 3 * n + 2
+unfolding cornerBefore
+before-first n = rw (cornerBefore, eq-eqb (3 * n % 3) 0 (omega arith))
 
-pub last-second : (n : ℕ) → lastCorner (3 * n + 1) ≡ 3 * n
-unfolding lastCorner
-last-second n = rw (lastCorner, ne-eqb ((3 * n + 1) % 3) 0 (omega arith)) (omega arith)
+pub before-second : (n : ℕ) → cornerBefore (3 * n + 1) ≡ 3 * n
+unfolding cornerBefore
+before-second n = rw (cornerBefore, ne-eqb ((3 * n + 1) % 3) 0 (omega arith)) (omega arith)
 
-pub last-third : (n : ℕ) → lastCorner (3 * n + 2) ≡ 3 * n + 1
-unfolding lastCorner
-last-third n = rw (lastCorner, ne-eqb ((3 * n + 2) % 3) 0 (omega arith)) (omega arith)
+pub before-third : (n : ℕ) → cornerBefore (3 * n + 2) ≡ 3 * n + 1
+unfolding cornerBefore
+before-third n = rw (cornerBefore, ne-eqb ((3 * n + 2) % 3) 0 (omega arith)) (omega arith)
 
 -- the walk for x→y down the chain of x stands at c: corner c - 1 has x, and what is found from c on is what is found from n on
 pub record At (xs : List ℕ) (n x y c : ℕ) : Type 0 where
@@ -166,24 +166,25 @@ at-latest xs m n x y l e = record {
     go zero q h = absurd (omega arith)
     go (suc k) q h = rw (before k) (latest-has x xs m k q)
 
-pub at-found : {xs : List ℕ} {n x y : ℕ} (c : ℕ) → At xs n x y c → 0 < c → getD xs (nextCorner (c - 1)) 0 ≡ y → seenFrom xs (c - 1) ≡ lastWith x y xs n
+pub at-found : {xs : List ℕ} {n x y : ℕ} (c : ℕ) → At xs n x y c → 0 < c → getD xs (cornerAfter (c - 1)) 0 ≡ y
+    → seenFrom xs (c - 1) ≡ lastWith x y xs n
 unfolding lastWith
 at-found {xs} {n} {x} {y} zero a h e = absurd (omega arith)
 at-found {xs} {n} {x} {y} (suc c) a h e =
     let i : getD xs c 0 ≡ x = rw (before c) at (a .has h) in
-    let j : getD xs (nextCorner c) 0 ≡ y = rw (before c) at e in
-    rw (before c) (sym (rw (lastWith, eq-eqb (getD xs c 0) x i, eq-eqb (getD xs (nextCorner c) 0) y j)) ∙ a .same)
+    let j : getD xs (cornerAfter c) 0 ≡ y = rw (before c) at e in
+    rw (before c) (sym (rw (lastWith, eq-eqb (getD xs c 0) x i, eq-eqb (getD xs (cornerAfter c) 0) y j)) ∙ a .same)
 
-pub at-more : {xs : List ℕ} {n x y : ℕ} (c d : ℕ) → At xs n x y c → 0 < c → (getD xs (nextCorner (c - 1)) 0 ≡ y → ⊥)
+pub at-more : {xs : List ℕ} {n x y : ℕ} (c d : ℕ) → At xs n x y c → 0 < c → (getD xs (cornerAfter (c - 1)) 0 ≡ y → ⊥)
     → d ≡ latest (getD xs (c - 1) 0) xs (c - 1) → At xs n x y d
 unfolding lastWith
 at-more {xs} {n} {x} {y} zero d a h e f = absurd (omega arith)
 at-more {xs} {n} {x} {y} (suc c) d a h e f =
     let i : getD xs c 0 ≡ x = rw (before c) at (a .has h) in
-    let e′ : getD xs (nextCorner c) 0 ≡ y → ⊥ = rw (before c) at e in
+    let e′ : getD xs (cornerAfter c) 0 ≡ y → ⊥ = rw (before c) at e in
     let f′ : d ≡ latest (getD xs c 0) xs c = rw (before c) at f in
     let s : lastWith x y xs (suc c) ≡ lastWith x y xs c =
-    rw (lastWith, eq-eqb (getD xs c 0) x i, ne-eqb (getD xs (nextCorner c) 0) y e′) in
+    rw (lastWith, eq-eqb (getD xs c 0) x i, ne-eqb (getD xs (cornerAfter c) 0) y e′) in
     rw (f′, i) (at-latest xs c n x y (omega (arith, a .bound)) (sym s ∙ a .same))
 
 pub at-none : {xs : List ℕ} {n x y : ℕ} (c : ℕ) → At xs n x y c → c ≤ 0 → Nothing ≡ lastWith x y xs n
@@ -192,7 +193,8 @@ at-none {xs} {n} {x} {y} zero a h = a .same
 at-none {xs} {n} {x} {y} (suc c) a h = absurd (omega arith)
 
 -- where a chain begins: in an array that holds chains, an entry that the tests pass over cannot stand
-pub latest-out : (v : ℕ) (xs : List ℕ) (n : ℕ) → ((c : ℕ) → c < n → getD xs c 0 < maxVertices) → maxVertices ≤ v → latest v xs n ≡ 0
+pub latest-out : (v : ℕ) (xs : List ℕ) (n : ℕ) → ((c : ℕ) → c < n → getD xs c 0 < maxVertices) → maxVertices ≤ v
+    → latest v xs n ≡ 0
 unfolding latest
 latest-out v xs zero b h = refl
 latest-out v xs (suc n) b h =
@@ -247,7 +249,8 @@ passed-latest xs m n v k l e =
       sum = ap (λ (i : ℕ). k + i) (latest-degree v xs m) ∙ e;
     }
 
-pub passed-more : {xs : List ℕ} {n v k : ℕ} (c d : ℕ) → Passed xs n v k c → 0 < c → d ≡ latest (getD xs (c - 1) 0) xs (c - 1) → Passed xs n v (k + 1) d
+pub passed-more : {xs : List ℕ} {n v k : ℕ} (c d : ℕ) → Passed xs n v k c → 0 < c → d ≡ latest (getD xs (c - 1) 0) xs (c - 1)
+    → Passed xs n v (k + 1) d
 passed-more zero d a h f = absurd (omega arith)
 passed-more {xs} {n} {v} {k} (suc c) d a h f =
     let i : getD xs c 0 ≡ v = rw (before c) at (a .has h) in

@@ -16,6 +16,7 @@ use Rattle.rules.specs.Check.{allDistinct, noneTwice}
 use Rattle.fans.specs.Corner.{Different}
 use Rattle.chains.specs.Corner.{firstTriangles, latest, degree, isFree, isNew}
 
+-- how many entries the array has
 abbrev pub room : ℕ
 room = maxVertices + maxNumbers
 
@@ -70,7 +71,7 @@ NewIs xs cs p q r b = (n : ℕ) → Chains xs (3 * n) cs → Different p q r →
 abbrev pub CountsFrom : List ℕ → ℕ → ℕ → Type 0
 CountsFrom cs c k = (xs : List ℕ) (v n : ℕ) → Chains xs n cs → c ≡ latest v xs n → k ≡ degree v xs n
 
--- a list of whole triangles, each of three different vertices below 4,096, and not too many for the chains
+-- a list of whole triangles, each of three different vertices, that the array has room for
 pub record Sound (xs : List ℕ) : Type 0 where
   pub long : length xs ≡ 3 * (length xs / 3)
   pub most : length xs ≤ maxNumbers

@@ -23,7 +23,7 @@ unfoldable pub checkChains : ℕ → List Triangle → Checked
 checkChains v ts =
     passes (noneTwice (edgesOf ts)) 5 (passes (allUsed v (corners ts)) 6 (passes (oneFanEach v ts) 7 Accepted))
 
--- r is the answer for the list; if it is accepted, cs holds its chains
+-- r is the answer for the list; if it is accepted, cs holds its chains, else anything
 pub record Answers (answer : Checked) (xs : List ℕ) (r : Checked) (cs : List ℕ) : Type 0 where
   pub right : r ≡ answer
   pub chained : r ≡ Accepted → Linked xs cs

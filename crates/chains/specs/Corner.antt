@@ -11,12 +11,12 @@ use Rattle.rules.specs.declared.Across.the-variants.{Found, Nothing}
 use Rattle.rules.specs.Triangle.{tri, trianglesOf}
 use Rattle.rules.specs.Count.{uses}
 
--- the next corner of the same triangle, and the one before
-unfoldable pub nextCorner : ℕ → ℕ
-nextCorner c = elim (eqb (c % 3) 2) [ true ↦ c - 2 | false ↦ c + 1 ]
+-- the corner after c in its triangle, and the one before
+unfoldable pub cornerAfter : ℕ → ℕ
+cornerAfter c = elim (eqb (c % 3) 2) [ true ↦ c - 2 | false ↦ c + 1 ]
 
-unfoldable pub lastCorner : ℕ → ℕ
-lastCorner c = elim (eqb (c % 3) 0) [ true ↦ c + 2 | false ↦ c - 1 ]
+unfoldable pub cornerBefore : ℕ → ℕ
+cornerBefore c = elim (eqb (c % 3) 0) [ true ↦ c + 2 | false ↦ c - 1 ]
 
 -- the first n triangles of a list of numbers, and triangle n
 abbrev pub firstTriangles : ℕ → List ℕ → List Triangle
@@ -37,13 +37,13 @@ degree v xs (suc c) = elim (eqb (getD xs c 0) v) [ true ↦ suc (degree v xs c) 
 
 -- the triangle of corner c, seen across the directed edge that leaves that corner
 unfoldable pub seenFrom : List ℕ → ℕ → Across
-seenFrom xs c = Found (c / 3) (lastCorner c % 3) (getD xs (lastCorner c) 0)
+seenFrom xs c = Found (c / 3) (cornerBefore c % 3) (getD xs (cornerBefore c) 0)
 
 -- the last corner below n that the directed edge x→y leaves
 unfoldable pub lastWith : ℕ → ℕ → List ℕ → ℕ → Across
 lastWith x y xs zero = Nothing
 lastWith x y xs (suc c) =
-    elim (eqb (getD xs c 0) x && eqb (getD xs (nextCorner c) 0) y) [ true ↦ seenFrom xs c | false ↦ lastWith x y xs c ]
+    elim (eqb (getD xs c 0) x && eqb (getD xs (cornerAfter c) 0) y) [ true ↦ seenFrom xs c | false ↦ lastWith x y xs c ]
 
 -- none of the triangles has x→y
 unfoldable pub isFree : ℕ → ℕ → List Triangle → Bool

@@ -10,7 +10,7 @@ ghost use Rattle.rules.specs.Limits.{maxNumbers, maxVertices, vertexRange};
 ghost use Rattle.rules.specs.Triangle.{tri, distinct, trianglesOf, corners};
 ghost use Rattle.rules.specs.Fan.{about, oneRun, oneFanEach};
 ghost use Rattle.rules.specs.Check.{allBelow, allDistinct, allUsed};
-ghost use Rattle.chains.specs.Corner.{nextCorner, lastCorner, seenFrom};
+ghost use Rattle.chains.specs.Corner.{cornerAfter, cornerBefore, seenFrom};
 ghost use Rattle.chains.specs.Chains.{Chains, Finds, Newest, Older, linked, linkable, relinked, Sound, Linked, AllLinked};
 ghost use Rattle.chains.specs.Chains.{FreeIs, NewIs, CountsFrom};
 ghost use Rattle.chains.specs.Turn.{leftOn, leftBack};
@@ -35,7 +35,7 @@ fn wide(x: u16) -> usize
 // The next corner of the same triangle.
 fn corner_after(c: usize) -> usize
     requires { ⌜ c < maxNumbers ⌝ }
-    ensures { λ r. ⌜ (r ≡ nextCorner c) × (r < 3 * ((c + 3) / 3)) ⌝ }
+    ensures { λ r. ⌜ (r ≡ cornerAfter c) × (r < 3 * ((c + 3) / 3)) ⌝ }
 {
     if c % 3 == 2 { c - 2 } else { c + 1 }
 }
@@ -43,7 +43,7 @@ fn corner_after(c: usize) -> usize
 // The corner before it in the same triangle.
 fn corner_before(c: usize) -> usize
     requires { ⌜ c < maxNumbers ⌝ }
-    ensures { λ r. ⌜ (r ≡ lastCorner c) × (r < 3 * ((c + 3) / 3)) ⌝ }
+    ensures { λ r. ⌜ (r ≡ cornerBefore c) × (r < 3 * ((c + 3) / 3)) ⌝ }
 {
     if c % 3 == 0 { c + 2 } else { c - 1 }
 }

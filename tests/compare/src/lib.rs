@@ -5,9 +5,9 @@ use cutborder::Refusal;
 
 extern "C" {
     fn service_check(v: usize, list: *const u16, len: usize) -> u32;
-    fn service_fields(pack: *const u8, len: usize, out: *mut u32, out_len: usize) -> u32;
-    fn service_read(ops: *const u8, len: usize, at: usize, out: *mut u32, out_len: usize) -> u32;
-    fn service_write(pack: *mut u8, len: usize, at: usize, code: u32, p: u32, j: u32, out: *mut u32, out_len: usize) -> u32;
+    fn service_fields(pack: *const u8, len: usize, out: *mut [u32; 6]) -> u32;
+    fn service_read(ops: *const u8, len: usize, at: usize, out: *mut [u32; 4]) -> u32;
+    fn service_write(pack: *mut u8, len: usize, at: usize, code: u32, p: u32, j: u32, out: *mut [u32; 1]) -> u32;
 }
 
 fn verdict(n: u32) -> Result<(), Refusal> {
@@ -25,7 +25,7 @@ pub fn check(v: usize, list: &[u16]) -> Result<(), Refusal> {
 /// Refusals 12 and 13, or the counts and where the operations start and end.
 pub fn fields(pack: &[u8]) -> Result<(Counts, usize, usize), Refusal> {
     let mut out = [0u32; 6];
-    verdict(unsafe { service_fields(pack.as_ptr(), pack.len(), out.as_mut_ptr(), out.len()) })?;
+    verdict(unsafe { service_fields(pack.as_ptr(), pack.len(), &mut out) })?;
     let [v, t, places, loops, start, end] = out;
     Ok((Counts { v, t, places, loops }, start as usize, end as usize))
 }
@@ -33,7 +33,7 @@ pub fn fields(pack: &[u8]) -> Result<(Counts, usize, usize), Refusal> {
 /// The operation at a bit position and the position after it, or that the bytes break off.
 pub fn read(ops: &[u8], at: usize) -> Option<(Op, usize)> {
     let mut out = [0u32; 4];
-    if unsafe { service_read(ops.as_ptr(), ops.len(), at, out.as_mut_ptr(), out.len()) } != 0 {
+    if unsafe { service_read(ops.as_ptr(), ops.len(), at, &mut out) } != 0 {
         return None;
     }
     let op = match out[0] {
@@ -57,6 +57,6 @@ pub fn write(pack: &mut [u8], at: usize, op: Op) -> (bool, usize) {
         _ => (0, 0),
     };
     let mut out = [0u32; 1];
-    let fits = unsafe { service_write(pack.as_mut_ptr(), pack.len(), at, op.code(), p, j, out.as_mut_ptr(), out.len()) };
+    let fits = unsafe { service_write(pack.as_mut_ptr(), pack.len(), at, op.code(), p, j, &mut out) };
     (fits == 1, out[0] as usize)
 }

@@ -24,6 +24,25 @@ fn met(tally: &Tally, answers: &[u8]) {
     }
 }
 
+/// M1 to M9, as the paper has them.
+fn paper() -> usize {
+    let rows: [(usize, &[u16], Result<(), u8>); 9] = [
+        (3, &[0, 1, 2], Ok(())),
+        (4, &[0, 1, 2, 1, 0, 3, 2, 1, 3, 0, 2, 3], Ok(())),
+        (4, &[0, 1, 2, 1, 0, 3], Ok(())),
+        (3, &[0, 1, 2, 1, 0, 2], Ok(())),
+        (6, &[0, 1, 2, 3, 4, 5], Ok(())),
+        (4, &[0, 1, 2], Err(6)),
+        (4, &[0, 1, 2, 0, 1, 3], Err(5)),
+        (5, &[0, 1, 2, 0, 3, 4], Err(7)),
+        (3, &[], Err(1)),
+    ];
+    for (i, (v, list, expected)) in rows.iter().enumerate() {
+        assert_eq!(check(*v, list), *expected, "M{}", i + 1);
+    }
+    rows.len()
+}
+
 /// A list made bad in the way that one of 1 to 7 names (other refusals may come first).
 fn spoil(rng: &mut Rng, m: &mut Model, way: usize) {
     let n = m.list.len();
@@ -184,6 +203,7 @@ fn main() {
     };
     let mut rng = Rng::new(seed);
     let scale = scale as usize;
+    println!("models of the paper: {} right", paper());
     let t = Instant::now();
     let (n, tally) = lists(&mut rng, 2_000 * scale);
     println!("lists: {n} alike, answers {tally:?}, {:.1} s", t.elapsed().as_secs_f64());

@@ -1,4 +1,5 @@
--- `mesh::across` meets its contract. The loop's invariant: the walk down the chain of p stands at c, and what is found from there on is what is sought. The measure is c.
+-- `mesh::across` meets its contract.
+-- The loop's invariant: the walk down the chain of p stands at c, and what is found from there on is what is sought. The measure is c.
 -- Assumes nothing.
 use Prim.Native.Nat.{_≤_, _+_, _*_, _/_}
 use native.Mathlib.Omega.{arith}
@@ -40,7 +41,8 @@ returns : tie.Need-returns Inv-loop μ-loop
 returns c =
     let k = c .before .before .before in
     let b = k .before in
-    walk-found _ _ _ (b .before .loop .inv .2) (b .loop-test .taken) (k .corner-after .ensures .0) (c .before .if1 .taken) (c .seen-from .ensures)
+    walk-found _ _ _ (b .before .loop .inv .2) (b .loop-test .taken) (k .corner-after .ensures .0) (c .before .if1 .taken)
+    (c .seen-from .ensures)
 
 older-requires : tie.Need-older-requires Inv-loop μ-loop
 older-requires c κs = search needs
@@ -51,8 +53,12 @@ loop-less c = omega arith
 loop-again : tie.Need-loop-again Inv-loop μ-loop
 loop-again c =
     let k = c .before .before .before in
-    let b = k .before in
-    (search needs, search needs, walk-more _ _ _ (b .before .loop .inv .2) (b .loop-test .taken) (k .corner-after .ensures .0) (c .before .if1 .left) (c .older .ensures))
+    let b = k .before in (
+      search needs,
+      search needs,
+      walk-more _ _ _ (b .before .loop .inv .2) (b .loop-test .taken) (k .corner-after .ensures .0)
+          (c .before .if1 .left) (c .older .ensures),
+    )
 
 returns-2 : tie.Need-returns-2 Inv-loop μ-loop
 returns-2 c = walk-none _ (c .before .loop .inv .2) (c .loop-test .left)

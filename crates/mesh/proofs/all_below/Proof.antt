@@ -1,4 +1,5 @@
--- `mesh::all_below` meets its contract. The loop's invariant: the first i numbers are below v. The measure is what is left of the list.
+-- `mesh::all_below` meets its contract.
+-- The loop's invariant: the first i numbers are below v. The measure is what is left of the list.
 -- Assumes nothing.
 use Prim.Native.Nat.{_≤_, _-_}
 use native.Mathlib.Omega.{arith}

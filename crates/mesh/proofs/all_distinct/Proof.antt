@@ -1,4 +1,5 @@
--- `mesh::all_distinct` meets its contract. The loop's invariant: the first t triangles are distinct. The measure is what is left of n.
+-- `mesh::all_distinct` meets its contract.
+-- The loop's invariant: the first t triangles are distinct. The measure is what is left of n.
 -- Assumes nothing.
 use Prim.Native.Nat.{_≤_, _-_, _*_, _/_}
 use native.Mathlib.Omega.{arith}
@@ -12,7 +13,8 @@ use Rattle.mesh.proofs.all_distinct.Statement.{statement}
 use Rattle.mesh.proofs.all_distinct.Tie as tie
 
 abbrev Inv-loop : tie.InvT-loop
-Inv-loop list n t₀ t = (n ≡ length list / 3) × (t ≤ n) × (allDistinct (trianglesOf (drop (3 * t) list)) ≡ allDistinct (trianglesOf list))
+Inv-loop list n t₀ t =
+    (n ≡ length list / 3) × (t ≤ n) × (allDistinct (trianglesOf (drop (3 * t) list)) ≡ allDistinct (trianglesOf list))
 
 abbrev μ-loop : tie.MeasureT-loop
 μ-loop list n t₀ t = n - t
@@ -69,11 +71,16 @@ loop-less c = omega arith
 
 loop-again : tie.Need-loop-again Inv-loop μ-loop
 loop-again c =
-    let b = c .before .before .before .before .before in
-    (b .before .loop .inv .0, search needs, distinct-more _ _ (b .before .loop .inv .2) _ (search needs) (c .before .is-distinct .ensures) (c .if1 .left))
+    let b = c .before .before .before .before .before in (
+      b .before .loop .inv .0,
+      search needs,
+      distinct-more _ _ (b .before .loop .inv .2) _ (search needs)
+          (c .before .is-distinct .ensures) (c .if1 .left),
+    )
 
 returns-2 : tie.Need-returns-2 Inv-loop μ-loop
-returns-2 c = distinct-all (c .before .before .before .args .list .now) (c .before .loop .t) (c .before .loop .inv .2) (search needs)
+returns-2 c =
+    distinct-all (c .before .before .before .args .list .now) (c .before .loop .t) (c .before .loop .inv .2) (search needs)
 
 pub all-distinct-spec : {M : Type 1} → statement M
 all-distinct-spec =

@@ -1,4 +1,5 @@
--- `mesh::all_fans` meets its contract. The loop's invariant: the vertices from u on have one fan each. The measure is u.
+-- `mesh::all_fans` meets its contract.
+-- The loop's invariant: the vertices from u on have one fan each. The measure is u.
 -- Assumes nothing.
 use Prim.Native.Nat.{_≤_}
 use native.Mathlib.Omega.{arith}
@@ -29,13 +30,17 @@ is-fan-requires : tie.Need-is-fan-requires Inv-loop μ-loop
 is-fan-requires c κs = search needs
 
 returns : tie.Need-returns Inv-loop μ-loop
-returns c = let b = c .before .before in fans-not _ _ _ (b .loop-test .taken) (c .before .is-fan .ensures) (c .if1 .taken) ∙ b .before .loop .inv .1
+returns c =
+    let b = c .before .before in fans-not _ _ _ (b .loop-test .taken) (c .before .is-fan .ensures) (c .if1 .taken)
+    ∙ b .before .loop .inv .1
 
 loop-less : tie.Need-loop-less Inv-loop μ-loop
 loop-less c = omega arith
 
 loop-again : tie.Need-loop-again Inv-loop μ-loop
-loop-again c = let b = c .before .before in (search needs, fans-here _ _ _ (b .loop-test .taken) (c .before .is-fan .ensures) (c .if1 .left) ∙ b .before .loop .inv .1)
+loop-again c =
+    let b = c .before .before in
+    (search needs, fans-here _ _ _ (b .loop-test .taken) (c .before .is-fan .ensures) (c .if1 .left) ∙ b .before .loop .inv .1)
 
 returns-2 : tie.Need-returns-2 Inv-loop μ-loop
 returns-2 c = fans-none _ _ (c .loop-test .left) ∙ c .before .loop .inv .1

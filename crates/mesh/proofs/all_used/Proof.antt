@@ -1,4 +1,5 @@
--- `mesh::all_used` meets its contract. The loop's invariant: the vertices from u on are used. The measure is u.
+-- `mesh::all_used` meets its contract.
+-- The loop's invariant: the vertices from u on are used. The measure is u.
 -- Assumes nothing.
 use Prim.Native.Nat.{ℕ, _≤_}
 use native.Mathlib.Omega.{arith}
@@ -13,7 +14,8 @@ use Rattle.mesh.proofs.all_used.Statement.{statement}
 use Rattle.mesh.proofs.all_used.Tie as tie
 
 abbrev Inv-loop : tie.InvT-loop
-Inv-loop chains v u₀ u = (u ≤ v) × ((xs : List ℕ) → Linked xs chains → allUsed u (corners (trianglesOf xs)) ≡ allUsed v (corners (trianglesOf xs)))
+Inv-loop chains v u₀ u =
+    (u ≤ v) × ((xs : List ℕ) → Linked xs chains → allUsed u (corners (trianglesOf xs)) ≡ allUsed v (corners (trianglesOf xs)))
 
 abbrev μ-loop : tie.MeasureT-loop
 μ-loop chains v u₀ u = u

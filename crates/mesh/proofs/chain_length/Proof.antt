@@ -1,4 +1,5 @@
--- `mesh::chain_length` meets its contract. The loop's invariant: n corners are passed, and the chain goes on at d. The measure is d.
+-- `mesh::chain_length` meets its contract.
+-- The loop's invariant: n corners are passed, and the chain goes on at d. The measure is d.
 -- Assumes nothing.
 use Prim.Native.Nat.{_≤_, _+_}
 use native.Mathlib.Omega.{arith}

@@ -2,7 +2,7 @@
 -- Assumes nothing.
 use native.Mathlib.Omega.{arith}
 use borrow.Author.Needs.{needs}
-use Rattle.chains.proofs.Walking.{next-two, next-other}
+use Rattle.chains.proofs.Walking.{after-two, after-other}
 use Rattle.mesh.proofs.corner_after.Statement.{statement}
 use Rattle.mesh.proofs.corner_after.Tie as tie
 
@@ -13,10 +13,10 @@ add-result : tie.Need-add-result
 add-result c = omega arith
 
 returns : tie.Need-returns
-returns c = (next-two _ (c .if1 .taken), search needs)
+returns c = (after-two _ (c .if1 .taken), search needs)
 
 returns-2 : tie.Need-returns-2
-returns-2 c = (next-other _ (c .if1 .left), search needs)
+returns-2 c = (after-other _ (c .if1 .left), search needs)
 
 pub corner-after-spec : {M : Type 1} → statement M
 corner-after-spec = tie.close (tie.spec sub-result add-result returns returns-2)

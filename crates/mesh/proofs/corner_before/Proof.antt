@@ -2,7 +2,7 @@
 -- Assumes nothing.
 use native.Mathlib.Omega.{arith}
 use borrow.Author.Needs.{needs}
-use Rattle.chains.proofs.Walking.{last-zero, last-other}
+use Rattle.chains.proofs.Walking.{before-zero, before-other}
 use Rattle.mesh.proofs.corner_before.Statement.{statement}
 use Rattle.mesh.proofs.corner_before.Tie as tie
 
@@ -13,10 +13,10 @@ sub-result : tie.Need-sub-result
 sub-result c = omega arith
 
 returns : tie.Need-returns
-returns c = (last-zero _ (c .if1 .taken), search needs)
+returns c = (before-zero _ (c .if1 .taken), search needs)
 
 returns-2 : tie.Need-returns-2
-returns-2 c = (last-other _ (c .if1 .left), search needs)
+returns-2 c = (before-other _ (c .if1 .left), search needs)
 
 pub corner-before-spec : {M : Type 1} → statement M
 corner-before-spec = tie.close (tie.spec add-result sub-result returns returns-2)

@@ -49,14 +49,18 @@ turn-on-requires : tie.Need-turn-on-requires
 turn-on-requires c κs =
     let l = c .before .before .before .before in
     let b = l .before .before in
-    let d = fan-differs _ _ (b .before .before .pre) _ _ (b .newest .ensures) (l .before .if1 .left) _ (l .chain-length .ensures) _ _ (c .before .before .before .corner-after .ensures .0) (c .before .corner-before .ensures .0) in
+    let d =
+    fan-differs _ _ (b .before .before .pre) _ _ (b .newest .ensures) (l .before .if1 .left) _ (l .chain-length .ensures) _ _
+    (c .before .before .before .corner-after .ensures .0) (c .before .corner-before .ensures .0) in
     (b .before .before .pre, d .0, d .1)
 
 returns-2 : tie.Need-returns-2
 returns-2 c =
     let l = c .before .before .before .before .before in
     let b = l .before .before in
-    fan-test _ _ (b .before .before .pre) _ _ (b .newest .ensures) (l .before .if1 .left) _ (l .chain-length .ensures) _ _ (c .before .before .before .before .corner-after .ensures .0) (c .before .before .corner-before .ensures .0) _ (c .turn-on .ensures)
+    fan-test _ _ (b .before .before .pre) _ _ (b .newest .ensures) (l .before .if1 .left) _ (l .chain-length .ensures) _ _
+    (c .before .before .before .before .corner-after .ensures .0) (c .before .before .corner-before .ensures .0) _
+    (c .turn-on .ensures)
 
 pub is-fan-spec : {M : Type 1} → statement M
 is-fan-spec =

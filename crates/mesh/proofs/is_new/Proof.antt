@@ -15,7 +15,9 @@ is-free-requires-2 : tie.Need-is-free-requires-2
 is-free-requires-2 c κs = search needs
 
 returns-2 : tie.Need-returns-2
-returns-2 c = let k = c .before .before in new-second _ _ _ _ _ _ _ (k .before .is-free .ensures) (k .if1 .left) (c .before .is-free2 .ensures) (c .if2 .taken)
+returns-2 c =
+    let k = c .before .before in new-second _ _ _ _ _ _ _ (k .before .is-free .ensures) (k .if1 .left)
+    (c .before .is-free2 .ensures) (c .if2 .taken)
 
 is-free-requires-3 : tie.Need-is-free-requires-3
 is-free-requires-3 c κs = search needs
@@ -24,7 +26,8 @@ returns-3 : tie.Need-returns-3
 returns-3 c =
     let l = c .before in
     let k = l .before .before in
-    new-third _ _ _ _ _ _ _ _ (k .before .is-free .ensures) (k .if1 .left) (l .before .is-free2 .ensures) (l .if2 .left) (c .is-free3 .ensures)
+    new-third _ _ _ _ _ _ _ _ (k .before .is-free .ensures) (k .if1 .left) (l .before .is-free2 .ensures) (l .if2 .left)
+    (c .is-free3 .ensures)
 
 pub is-new-spec : {M : Type 1} → statement M
 is-new-spec =

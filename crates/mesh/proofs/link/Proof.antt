@@ -20,32 +20,40 @@ link-corner-requires c κs =
 
 mul-link-corner-2 : tie.Need-mul-link-corner-2
 mul-link-corner-2 c =
-    let k = c .before .before .before in let f = linkable-parts _ _ _ _ (sym (k .before .is-linkable .ensures) ∙ k .if1 .taken) in omega arith
+    let k = c .before .before .before in let f = linkable-parts _ _ _ _
+    (sym (k .before .is-linkable .ensures) ∙ k .if1 .taken) in omega arith
 
 add-link-corner : tie.Need-add-link-corner
 add-link-corner c =
-    let k = c .before .before .before in let f = linkable-parts _ _ _ _ (sym (k .before .is-linkable .ensures) ∙ k .if1 .taken) in omega arith
+    let k = c .before .before .before in let f = linkable-parts _ _ _ _
+    (sym (k .before .is-linkable .ensures) ∙ k .if1 .taken) in omega arith
 
 link-corner-requires-2 : tie.Need-link-corner-requires-2
 link-corner-requires-2 c κs =
-    let k = c .before .before .before in let f = linkable-parts _ _ _ _ (sym (k .before .is-linkable .ensures) ∙ k .if1 .taken) in omega arith
+    let k = c .before .before .before in let f = linkable-parts _ _ _ _
+    (sym (k .before .is-linkable .ensures) ∙ k .if1 .taken) in omega arith
 
 mul-link-corner-3 : tie.Need-mul-link-corner-3
 mul-link-corner-3 c =
-    let k = c .before .before .before .before .before in let f = linkable-parts _ _ _ _ (sym (k .before .is-linkable .ensures) ∙ k .if1 .taken) in omega arith
+    let k = c .before .before .before .before .before in let f = linkable-parts _ _ _ _
+    (sym (k .before .is-linkable .ensures) ∙ k .if1 .taken) in omega arith
 
 add-link-corner-2 : tie.Need-add-link-corner-2
 add-link-corner-2 c =
-    let k = c .before .before .before .before .before in let f = linkable-parts _ _ _ _ (sym (k .before .is-linkable .ensures) ∙ k .if1 .taken) in omega arith
+    let k = c .before .before .before .before .before in let f = linkable-parts _ _ _ _
+    (sym (k .before .is-linkable .ensures) ∙ k .if1 .taken) in omega arith
 
 link-corner-requires-3 : tie.Need-link-corner-requires-3
 link-corner-requires-3 c κs =
-    let k = c .before .before .before .before .before in let f = linkable-parts _ _ _ _ (sym (k .before .is-linkable .ensures) ∙ k .if1 .taken) in omega arith
+    let k = c .before .before .before .before .before in let f = linkable-parts _ _ _ _
+    (sym (k .before .is-linkable .ensures) ∙ k .if1 .taken) in omega arith
 
 returns : tie.Need-returns
 returns c =
     let k = c .before .before .before .before .before .before in
-    relinked-yes _ _ _ _ _ (sym (k .before .is-linkable .ensures) ∙ k .if1 .taken) (c .before .before .before .before .link-corner .ensures) (c .before .before .link-corner2 .ensures) (c .link-corner3 .ensures)
+    relinked-yes _ _ _ _ _ (sym (k .before .is-linkable .ensures) ∙ k .if1 .taken)
+    (c .before .before .before .before .link-corner .ensures) (c .before .before .link-corner2 .ensures)
+    (c .link-corner3 .ensures)
 
 returns-2 : tie.Need-returns-2
 returns-2 c = relinked-no _ _ _ _ _ (sym (c .before .is-linkable .ensures) ∙ c .if1 .left)

@@ -1,4 +1,5 @@
--- `mesh::link_all` meets its contract. The loop's invariant: the first t triangles are linked, and no directed edge occurs twice among them. The measure is what is left of n.
+-- `mesh::link_all` meets its contract.
+-- The loop's invariant: the first t triangles are linked, and no directed edge occurs twice among them. The measure is what is left of n.
 -- Assumes nothing.
 use Prim.Native.Nat.{_-_, _/_}
 use native.Mathlib.Omega.{arith}
@@ -73,8 +74,11 @@ loop-again : tie.Need-loop-again Inv-loop μ-loop
 loop-again c =
     let l = c .before .before in
     let k = l .before in
-    let b = k .before .before .before .before .before in
-    (b .before .loop .inv .0, linking-more _ (b .before .loop .inv .1) (search needs) _ (k .is-new .ensures) (l .if1 .left) _ (c .link .ensures))
+    let b = k .before .before .before .before .before in (
+      b .before .loop .inv .0,
+      linking-more _ (b .before .loop .inv .1) (search needs) _ (k .is-new .ensures) (l .if1 .left) _
+          (c .link .ensures),
+    )
 
 returns-2 : tie.Need-returns-2 Inv-loop μ-loop
 returns-2 c = linking-all _ (c .before .loop .inv .1) (search needs)

@@ -28,10 +28,13 @@ mul-if3 : tie.Need-mul-if3
 mul-if3 c = omega arith
 
 returns-3 : tie.Need-returns-3
-returns-3 c = newest-short _ _ _ _ (c .before .before .wide .ensures) (c .before .before .before .before .if1 .left) (c .if3 .taken)
+returns-3 c =
+    newest-short _ _ _ _ (c .before .before .wide .ensures) (c .before .before .before .before .if1 .left) (c .if3 .taken)
 
 returns-4 : tie.Need-returns-4
-returns-4 c = newest-here _ _ _ _ (c .before .before .wide .ensures) (c .before .before .before .before .if1 .left) (c .before .if2 .left) (c .if3 .left)
+returns-4 c =
+    newest-here _ _ _ _ (c .before .before .wide .ensures) (c .before .before .before .before .if1 .left) (c .before .if2 .left)
+    (c .if3 .left)
 
 pub newest-spec : {M : Type 1} → statement M
 newest-spec =

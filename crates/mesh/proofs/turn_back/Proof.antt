@@ -1,4 +1,5 @@
--- `mesh::turn_back` meets its contract. The loop's invariant: turning on from here leaves what the whole turn leaves. The measure is what is left.
+-- `mesh::turn_back` meets its contract.
+-- The loop's invariant: turning on from here leaves what the whole turn leaves. The measure is what is left.
 -- Assumes nothing.
 use native.Mathlib.Omega.{arith}
 use mathlib.Core.Path.{_≡_, refl, _∙_}
@@ -10,7 +11,8 @@ use Rattle.mesh.proofs.turn_back.Statement.{statement}
 use Rattle.mesh.proofs.turn_back.Tie as tie
 
 abbrev Inv-loop : tie.InvT-loop
-Inv-loop list chains v x n left₀ from₀ left from = (leftBack (trianglesOf list) v from left ≡ leftBack (trianglesOf list) v x n) × (from ≡ v → ⊥)
+Inv-loop list chains v x n left₀ from₀ left from =
+    (leftBack (trianglesOf list) v from left ≡ leftBack (trianglesOf list) v x n) × (from ≡ v → ⊥)
 
 abbrev μ-loop : tie.MeasureT-loop
 μ-loop list chains v x n left₀ from₀ left from = left
@@ -31,7 +33,8 @@ returns : tie.Need-returns Inv-loop μ-loop
 returns c =
     let k = c .before .before in
     let l = k .before .before in
-    back-stop _ _ (l .before .before .pre .0) _ _ _ _ (k .before .loop-test .taken) (l .loop .inv .1) (k .across .ensures) (c .enum-told .given .1) ∙ l .loop .inv .0
+    back-stop _ _ (l .before .before .pre .0) _ _ _ _ (k .before .loop-test .taken) (l .loop .inv .1) (k .across .ensures)
+    (c .enum-told .given .1) ∙ l .loop .inv .0
 
 sub-left : tie.Need-sub-left Inv-loop μ-loop
 sub-left c = omega arith
@@ -43,7 +46,9 @@ loop-again : tie.Need-loop-again Inv-loop μ-loop
 loop-again c =
     let k = c .before .before .before in
     let l = k .before .before in
-    let m = back-more _ _ (l .before .before .pre .0) _ _ _ _ _ _ _ (k .before .loop-test .taken) (l .loop .inv .1) (k .across .ensures) (c .before .a .given .1) in
+    let m =
+    back-more _ _ (l .before .before .pre .0) _ _ _ _ _ _ _ (k .before .loop-test .taken) (l .loop .inv .1) (k .across .ensures)
+    (c .before .a .given .1) in
     (m .0 ∙ l .loop .inv .0, m .1)
 
 returns-2 : tie.Need-returns-2 Inv-loop μ-loop

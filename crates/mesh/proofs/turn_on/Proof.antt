@@ -1,4 +1,5 @@
--- `mesh::turn_on` meets its contract. The loop's invariant: turning on from here leaves what the whole turn leaves. The measure is what is left.
+-- `mesh::turn_on` meets its contract.
+-- The loop's invariant: turning on from here leaves what the whole turn leaves. The measure is what is left.
 -- Assumes nothing.
 use native.Mathlib.Omega.{arith}
 use mathlib.Core.Path.{_≡_, refl, sym, _∙_}
@@ -10,7 +11,8 @@ use Rattle.mesh.proofs.turn_on.Statement.{statement}
 use Rattle.mesh.proofs.turn_on.Tie as tie
 
 abbrev Inv-loop : tie.InvT-loop
-Inv-loop list chains v x y n left₀ to₀ left to = (leftOn (trianglesOf list) v x to left ≡ leftOn (trianglesOf list) v x y n) × (v ≡ to → ⊥)
+Inv-loop list chains v x y n left₀ to₀ left to =
+    (leftOn (trianglesOf list) v x to left ≡ leftOn (trianglesOf list) v x y n) × (v ≡ to → ⊥)
 
 abbrev μ-loop : tie.MeasureT-loop
 μ-loop list chains v x y n left₀ to₀ left to = left
@@ -43,7 +45,8 @@ returns-2 c =
     let k = t .before .before in
     let b = k .before .before in
     let l = b .before in
-    on-back _ _ (l .before .before .pre .0) _ _ _ _ _ _ (b .loop-test .taken) (k .before .if1 .left) (l .loop .inv .1) (k .across .ensures) (t .enum-told .given .1) (c .turn-back .ensures) ∙ l .loop .inv .0
+    on-back _ _ (l .before .before .pre .0) _ _ _ _ _ _ (b .loop-test .taken) (k .before .if1 .left) (l .loop .inv .1)
+    (k .across .ensures) (t .enum-told .given .1) (c .turn-back .ensures) ∙ l .loop .inv .0
 
 sub-left : tie.Need-sub-left Inv-loop μ-loop
 sub-left c = omega arith
@@ -56,7 +59,9 @@ loop-again c =
     let k = c .before .before .before in
     let b = k .before .before in
     let l = b .before in
-    let m = on-more _ _ (l .before .before .pre .0) _ _ _ _ _ _ _ _ (b .loop-test .taken) (k .before .if1 .left) (l .loop .inv .1) (k .across .ensures) (c .before .a .given .1) in
+    let m =
+    on-more _ _ (l .before .before .pre .0) _ _ _ _ _ _ _ _ (b .loop-test .taken) (k .before .if1 .left) (l .loop .inv .1)
+    (k .across .ensures) (c .before .a .given .1) in
     (m .0 ∙ l .loop .inv .0, m .1)
 
 returns-3 : tie.Need-returns-3 Inv-loop μ-loop
