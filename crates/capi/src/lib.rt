@@ -95,6 +95,24 @@ pub extern "C" fn service_read(ops: &[u8], at: usize, out: &mut [u32; 4]) -> u32
     }
 }
 
+// The same at a bit position of a pack's operations, which are handed on as a part of the pack; 12 or 13 if it has none.
+#[no_mangle]
+pub extern "C" fn service_operation(pack: &[u8], at: usize, out: &mut [u32; 4]) -> u32 {
+    let f = wire::fields::fields_of(pack);
+    let PackFields::Found(_, from, to) = f else {
+        return refusal_of(f);
+    };
+    service_read(&pack[from..to], at, out)
+}
+
+// The number of a refusal.
+fn refusal_of(f: PackFields) -> u32 {
+    match f {
+        PackFields::Found(_, _, _) => 0,
+        PackFields::Refused(n) => n as u32,
+    }
+}
+
 // Writes an operation at a bit position: 1 if it fits, and the position after it.
 #[no_mangle]
 pub extern "C" fn service_write(

@@ -7,6 +7,7 @@ extern "C" {
     fn service_check(v: usize, list: *const u16, len: usize) -> u32;
     fn service_fields(pack: *const u8, len: usize, out: *mut [u32; 6]) -> u32;
     fn service_read(ops: *const u8, len: usize, at: usize, out: *mut [u32; 4]) -> u32;
+    fn service_operation(pack: *const u8, len: usize, at: usize, out: *mut [u32; 4]) -> u32;
     fn service_write(pack: *mut u8, len: usize, at: usize, code: u32, p: u32, j: u32, out: *mut [u32; 1]) -> u32;
 }
 
@@ -33,9 +34,19 @@ pub fn fields(pack: &[u8]) -> Result<(Counts, usize, usize), Refusal> {
 /// The operation at a bit position and the position after it, or that the bytes break off.
 pub fn read(ops: &[u8], at: usize) -> Option<(Op, usize)> {
     let mut out = [0u32; 4];
-    if unsafe { service_read(ops.as_ptr(), ops.len(), at, &mut out) } != 0 {
-        return None;
-    }
+    let n = unsafe { service_read(ops.as_ptr(), ops.len(), at, &mut out) };
+    (n == 0).then(|| found(out))
+}
+
+/// The same at a bit position of a pack's operations; 15 if they break off.
+pub fn read_in_pack(pack: &[u8], at: usize) -> Result<(Op, usize), Refusal> {
+    let mut out = [0u32; 4];
+    verdict(unsafe { service_operation(pack.as_ptr(), pack.len(), at, &mut out) })?;
+    Ok(found(out))
+}
+
+/// An operation's code, its indices and the position after it.
+fn found(out: [u32; 4]) -> (Op, usize) {
     let op = match out[0] {
         0 => Op::New,
         1 => Op::Forward,
@@ -46,7 +57,7 @@ pub fn read(ops: &[u8], at: usize) -> Option<(Op, usize)> {
         6 => Op::Union(out[1], out[2]),
         _ => Op::Start,
     };
-    Some((op, out[3] as usize))
+    (op, out[3] as usize)
 }
 
 /// Writes an operation at a bit position; whether it fits, and the position after it.

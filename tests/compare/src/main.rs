@@ -2,7 +2,7 @@
 //!
 //! Prints a line for each part; stops at the first difference with the input that shows it.
 
-use compare::{check, fields, read, write};
+use compare::{check, fields, read, read_in_pack, write};
 use cutborder::gen::{self, Model};
 use cutborder::ops::{encode_ops, split_fields, BitReader, Op};
 use cutborder::plain;
@@ -122,6 +122,9 @@ fn packs(rng: &mut Rng, rounds: usize) -> (usize, Tally) {
         let found = fields(&b);
         assert_eq!(found.map(|(c, from, to)| (c, &b[from..to])), expected, "pack {b:02x?}");
         count(&mut tally, &expected);
+        let at = rng.below(40);
+        let op = expected.and_then(|(_, ops)| read(ops, at).ok_or(15));
+        assert_eq!(read_in_pack(&b, at), op, "at {at} of pack {b:02x?}");
     }
     met(&tally, &[0, 12, 13]);
     (rounds, tally)

@@ -1,0 +1,171 @@
+// The list of place records that a caller lends: thin functions over it, and the way to the core's plain memory and back.
+// The contracts cite specs/Records.antt and specs/Memory.antt, and `placeAt` of the crate rules.
+use rules::Place;
+ghost use mathlib.Core.Path.{_≡_};
+ghost use Prim.Native.Nat.{_<_, _≤_};
+ghost use lib.ListN.{length, set};
+ghost use Rattle.rules.specs.Limits.{maxPlaces};
+ghost use Rattle.rules.specs.View.{placeAt};
+ghost use Rattle.places.specs.Records.{linkedAt, freedAt, filled, clearCount, clearedIfLong};
+ghost use Rattle.places.specs.Memory.{numberOf, isOne, storedAt, recordAt, loaded, saved, blank, countOf};
+
+// All loops together have at most so many places.
+pub const PLACES: usize = 1024;
+
+// How many numbers the core's plain memory has: four for each of 1,024 records, then 1,224 that are the core's own.
+pub const NUMBERS: usize = 5320;
+
+// The core's plain memory.
+pub type Memory = [u16; NUMBERS];
+
+// A record that is zero, its edge not open.
+pub const FREE: Place = Place {
+    vertex: 0,
+    before: 0,
+    after: 0,
+    open: false,
+};
+
+// A copy of record i.
+pub fn take(s: &[Place], i: usize) -> Place
+    requires { ⌜ i < length (now s) ⌝ }
+    ensures { λ r. ⌜ r ≡ placeAt (now (s .entry)) i ⌝ }
+{
+    s[i]
+}
+
+// Record i becomes p.
+pub fn put(s: &mut [Place], i: usize, p: Place)
+    requires { ⌜ i < length (now s) ⌝ }
+    ensures { λ _. ⌜ now (s .exit) ≡ set (now (s .entry)) i p ⌝ }
+{
+    s[i] = p;
+}
+
+// Record i gets these places before and after it, and keeps its vertex and whether its edge is open.
+pub fn link(s: &mut [Place], i: usize, before: u16, after: u16)
+    requires { ⌜ i < length (now s) ⌝ }
+    ensures { λ _. ⌜ now (s .exit) ≡ linkedAt (now (s .entry)) i before after ⌝ }
+{
+    s[i].before = before;
+    s[i].after = after;
+}
+
+// Record i becomes zero, its edge not open.
+pub fn free(s: &mut [Place], i: usize)
+    requires { ⌜ i < length (now s) ⌝ }
+    ensures { λ _. ⌜ now (s .exit) ≡ freedAt (now (s .entry)) i ⌝ }
+{
+    s[i] = FREE;
+}
+
+// The first n records become p.
+pub fn fill(s: &mut [Place], n: usize, p: Place)
+    requires { ⌜ n ≤ length (now s) ⌝ }
+    ensures { λ _. ⌜ now (s .exit) ≡ filled n p (now (s .entry)) ⌝ }
+{
+    let mut i = 0;
+    while i < n {
+        s[i] = p;
+        i += 1;
+    }
+}
+
+// How many of n records `clear` makes zero: 1,024, or none where there are fewer.
+pub fn clear_count(n: usize) -> usize
+    ensures { λ r. ⌜ r ≡ clearCount n ⌝ }
+{
+    if n < PLACES {
+        return 0;
+    }
+    PLACES
+}
+
+// The first 1,024 records become zero, their edges not open. A shorter list is left as it is.
+pub fn clear(s: &mut [Place])
+    ensures { λ _. ⌜ now (s .exit) ≡ clearedIfLong (now (s .entry)) ⌝ }
+{
+    let n = clear_count(s.len());
+    fill(s, n, FREE)
+}
+
+// An edge's openness as a number: 1 for open, else 0.
+pub fn number(open: bool) -> u16
+    ensures { λ r. ⌜ r ≡ numberOf «open» ⌝ }
+{
+    if open { 1 } else { 0 }
+}
+
+// Whether a number says that an edge is open: what is not 1 is not open.
+pub fn is_one(x: u16) -> bool
+    ensures { λ r. ⌜ r ≡ isOne x ⌝ }
+{
+    x == 1
+}
+
+// The plain memory that holds nothing.
+pub fn empty() -> Memory
+    ensures { λ r. ⌜ r ≡ blank ⌝ }
+{
+    [0u16; NUMBERS]
+}
+
+// Record i of the plain memory becomes p.
+pub fn store_record(m: &mut Memory, i: usize, p: Place)
+    requires { ⌜ i < maxPlaces ⌝ }
+    ensures { λ _. ⌜ now (m .exit) ≡ storedAt (now (m .entry)) i p ⌝ }
+{
+    let at = 4 * i;
+    m[at] = p.vertex;
+    m[at + 1] = p.before;
+    m[at + 2] = p.after;
+    m[at + 3] = number(p.open);
+}
+
+// Record i of the plain memory.
+pub fn record_at(m: &Memory, i: usize) -> Place
+    requires { ⌜ i < maxPlaces ⌝ }
+    ensures { λ r. ⌜ r ≡ recordAt (now (m .entry)) i ⌝ }
+{
+    let at = 4 * i;
+    Place {
+        vertex: m[at],
+        before: m[at + 1],
+        after: m[at + 2],
+        open: is_one(m[at + 3]),
+    }
+}
+
+// How many of n records are read: all, or the first 1,024.
+pub fn count(n: usize) -> usize
+    ensures { λ r. ⌜ r ≡ countOf n ⌝ }
+{
+    if n < PLACES {
+        return n;
+    }
+    PLACES
+}
+
+// The list's first n records go into the plain memory; its other numbers stay.
+pub fn load(s: &[Place], m: &mut Memory, n: usize)
+    requires { ⌜ (n ≤ length (now s)) × (n ≤ maxPlaces) ⌝ }
+    ensures { λ _. ⌜ now (m .exit) ≡ loaded n (now (s .entry)) (now (m .entry)) ⌝ }
+{
+    let mut i = 0;
+    while i < n {
+        store_record(&mut *m, i, s[i]);
+        i += 1;
+    }
+}
+
+// The plain memory's first n records go into the list; its other records stay.
+pub fn save(m: &Memory, s: &mut [Place], n: usize)
+    requires { ⌜ (n ≤ length (now s)) × (n ≤ maxPlaces) ⌝ }
+    ensures { λ _. ⌜ now (s .exit) ≡ saved n (now (m .entry)) (now (s .entry)) ⌝ }
+{
+    let mut i = 0;
+    while i < n {
+        s[i] = record_at(m, i);
+        i += 1;
+    }
+}

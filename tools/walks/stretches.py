@@ -1,0 +1,471 @@
+"""The body of a walk, cut into stretches: one from each call on, the last first."""
+from pieces import Context, chain, closed, items, local, sub
+
+
+def cells(b, filled, without=()):
+    """The locals' cells: what each filled one holds, and room in the others."""
+    out = []
+    for i in range(b.many):
+        if i in without:
+            continue
+        out.append(f'‵ (fat fullShare (ty {i}) {local(i)} 0 ({filled[i]}))' if i in filled else f'‵ (froom (ty {i}) {local(i)} 0)')
+    return out
+
+
+def cell_names(b, without=()):
+    """The names of the locals' cells in a context, and of that each local dies."""
+    return [f'_{i}' for i in range(b.many) if i not in without] + [f'dies{i}' for i in range(b.many)]
+
+
+def passed(b):
+    """The filled locals once the parameters are passed."""
+    out = {p.i: p.machine() for p in b.params}
+    out[b.list] = 'sp'
+    return out
+
+
+def look(b, c, name):
+    """A filled local."""
+    return f'(look ! {c.at(f"_{b.at(name)}")} refl)'
+
+
+def load_of(b, c, name):
+    """The operand that copies a local."""
+    return f'(load ! (from ! (stop !)) {look(b, c, name)})'
+
+
+def arguments(b, c, names):
+    """A call's arguments, each a local."""
+    out = '(no-more !)'
+    for name in reversed(names):
+        out = f'(and-then ! {load_of(b, c, name)} {out})'
+    return out
+
+
+def initial(b, c, name, why):
+    """A local as the target of the first assignment to it."""
+    return f'(from ! (stop !)) (init ! {c.at(f"_{b.at(name)}")} refl {why})'
+
+
+def reborrow(b, c, slice_, ptr, to, fits):
+    """`&mut *s` or `&*s` of a slice: its pointer, then the pair of that and its length."""
+    s = c.at(f'_{slice_}')
+    c.step(f'assigns ! (addr ! (from ! (fld ! refl (hop ! (look-in ! {s} (sub ! 0 refl (whole !))) (stop !))))) {initial(b, c, ptr, "(tt, tt)")}')
+    c.line()
+    length = f'(load ! (from ! (fld ! refl (stop !))) (look-in ! {s} (sub ! 1 refl (whole !))))'
+    c.step(f'assigns ! (agg ! (and-then ! {load_of(b, c, ptr)} (and-then ! {length} (no-more !)))) {initial(b, c, to, f"(tt, (tt, (record {{ fits = {fits} }}, tt)))")}')
+    c.line()
+
+
+def address(b, c, to):
+    """`&m` or `&mut m` of the local array."""
+    c.step(f'assigns ! (addr ! (from ! (stop !))) {initial(b, c, to, "(tt, tt)")}')
+    c.line()
+
+
+def forget(b, c, names):
+    """Filled locals become room again."""
+    for name in names:
+        c.step(f'forget ! {c.at(f"_{b.at(name)}")} refl')
+
+
+def unit_answer(b, c, ghosts, ensured, tokens, zs_type, lasts, fact):
+    """From a unit function's answer to its last values and its clause; the tokens and the last values are left in front."""
+    c.line(f'use1 W (later (some (λ ({ghosts} : Unit {{0}}). ({tokens} ⊛ ‵ (feq (List Val) (w ∷ []) (vunit ∷ []))) ⊛ raw ({ensured} tt {ghosts})))) (id⊢ 𝓤 _) $ await ! tt $ pick ! (λ {ghosts}.')
+    c.step('split !', 1, ['answer', 'ensured'])
+    c.move('ensured')
+    c.step(f'use1 W (some (λ (zs : {zs_type}). ‵ ({lasts} zs) ⊛ raw (fact 𝓤 ({fact})))) (id⊢ 𝓤 _)', 1, ['both'])
+    c.bind('pick ! (λ zs.')
+    c.split('both', 'lasts', 'fact')
+    c.move('fact')
+
+
+def unit_lands(b, c):
+    """The unit goes to its local."""
+    c.split('answer', 'tokens', 'is-unit')
+    c.move('is-unit')
+    c.bind('feqL ! (λ ew.', 1)
+    c.line()
+    c.step(f'land ! {initial(b, c, "unit", "(nothing-lawful 𝓤 H A W .typed tt (w ∷ []) ew .0)")}')
+
+
+def returning(b, c, exit_):
+    """The array's local is a cell again, `_0` is returned, each local dies, and what is left is what the exit asks."""
+    m = b.locals['m']
+    c.step(f'use1 W (some (λ (v : Val). ‵ (fat fullShare (ty {m}) {local(m)} 0 v) ⊛ ‵ (N .own m′ (v ∷ [])))) (part-out 𝓤 H A W N refl fullShare m′ {local(m)} 0)', 1, ['cell'])
+    c.bind('pick ! (λ v.')
+    c.split('cell', f'_{m}', 'm-owns')
+    c.line()
+    if b.saves:
+        c.step(f'assigns ! (of-opd ! {load_of(b, c, "r")}) {initial(b, c, 0, "wu")}')
+        c.line()
+    c.step(f'returns ! {look(b, c, 0)}')
+    filled = [0] + [p.i for p in b.params] + [b.list, b.locals['n'], m]
+    filled += [b.locals[x] for x in ('r', 'unit', 'save-m', 'save-ptr', 'save-slice')] if b.saves else []
+    forget(b, c, filled)
+    c.line()
+    for i in range(b.many):
+        c.move(f'_{i}', f'dies{i}')
+        c.step('free1 !', 2)
+    c.step('free0 !')
+    c.line()
+    c.keep(b.token_names() + [f's{p.i}' for p in b.slices] + ['list', 'result'])
+    c.say(exit_)
+
+
+def saving(b):
+    """From `save` on."""
+    lm, j = local(b.locals['m']), b.last
+    k = b.kappa(j)
+    binders, ys, lengths, ls = b.ends()
+    filled = passed(b)
+    filled[b.locals['n']], filled[b.locals['r']] = 'vint w64 n', 'u'
+    owned = ['‵ (Lies m′)'] + [b.token(i) for i in range(b.lives)] + [f'‵ ({b.result.row()} .own r (u ∷ []))']
+    owned += [f'‵ (finally {p.type} γ{p.s} ys{p.s})' for p in b.rooms] + [f'‵ ({p.own(b)})' for p in b.shared] + ['‵ Lent']
+    names = ['lies'] + b.token_names() + ['result'] + [f's{p.i}' for p in b.rooms] + [f's{p.i}' for p in b.shared] + ['lent']
+    without = (b.locals['m'],)
+    c = Context(names + cell_names(b, without))
+    address(b, c, 'save-m')
+    reborrow(b, c, b.list, 'save-ptr', 'save-slice', 'gn .0')
+    c.bind('lft-new ! tt (λ ν.', 0, ['tν'])
+    c.move('lies')
+    c.step(f'use1 W (later (some (λ (ε : GName). ‵ (ShrRef (named 0) (ν ∷ []) N .own (ref {lm} ε m′) (vptr {lm} 0 ∷ [])) ⊛ ‵ (flent (ν ∷ []) (Lies m′))))) (lends-shr 𝓤 H A W N (named 0) (ν ∷ []) fullShare m′ {lm} 0)', 1, ['m'])
+    c.bind('await ! tt $ pick ! (λ ε.')
+    c.split('m', 'm', 'm-lent')
+    c.line()
+    c.move('tν', 'tP', 'm', 'lent')
+    c.step('join !', 2, ['tokens'])
+    c.step(f'use3 W (raw (Save 𝓤 H A at-mem run .pre (to-save {lm} m′ ν ε))) (goes-save {lm} m′ ν ε)', 3, ['asked'])
+    c.line()
+    c.bind(f'calls-at ! fm (Save 𝓤 H A at-mem run) k-save (to-save {lm} m′ ν ε) {arguments(b, c, ["save-m", "save-slice", "n"])} (λ w.')
+    kappas, x = f'(ν ∷ [], ({k}, tt))', f'(ref {lm} ε m′, (rp γ, (n, tt)))'
+    unit_answer(b, c, 'z', f'ensured 𝓤 H A save′.ended (save′.clauses 𝓤 H A at-mem run) {kappas} {x}', f'(‵ (flft (ν ∷ []) fullShare) ⊛ ({b.token(j)} ⊛ ‵ ftrue))',
+                'Unit {0} × (List Place × (Unit {0} × Unit {0}))', f'lasts save′.ended {kappas} {x}', 'zs .1 .0 ≡ saved n m′ ps')
+    c.bind('heard ! (zs .1 .0 ≡ saved n m′ ps) (λ ep.', 1)
+    c.split('lasts', 'none', 'lasts', rule='fsplit')
+    c.drop('none')
+    c.split('lasts', 'last', 'lasts', rule='fsplit')
+    c.split('last', 'list', 'long', rule='fsplit')
+    c.move('long')
+    c.bind('feqL ! (λ lp.', 1)
+    unit_lands(b, c)
+    c.split('tokens', 'tν', 'rest')
+    c.step('lft-end ! tt', 1, ['dead'])
+    c.split('rest', 'tP', 'true')
+    c.move('dead', 'm-lent')
+    c.step('lent-back ! tt', 2, ['lies'])
+    returning(b, c, f'by ! (exits r {ys} m′ (zs .1 .0) u e ep {ls} lp)')
+    return closed(f'''    -- `save`, and the return
+    abbrev Ctx-save : {b.result.name} →{' List ℕ →' * len(b.rooms)} List ℕ → Val → List (Item 𝓤)
+    Ctx-save r {ys} m′ u = {' ∷ '.join(owned + cells(b, filled, without))} ∷ Dies
+
+    saving : (r : {b.result.name}){binders} (m′ : List ℕ) (u : Val) → {b.promised('r', ys.split(), 'm′')}{lengths} → Holds (hasTy (ty {b.locals['r']}) u) × WT u → ent 𝓤 (⋆ 𝓤 H A (Ctx-save r {ys} m′ u)) (Wp 𝓤 H C Λ En pieces.t-{b.at_save} (atReturn 𝓤 H En Post))
+    saving r {ys} m′ u e {ls} wu =
+        qed W (Ctx-save r {ys} m′ u) ∵ exec ! C Λ En pieces.t-{b.at_save} (atRet En Post) $
+        ''' + c.text)
+
+
+def holding(b, m):
+    """The items and their names while the core is still to be called: the array, the tokens, the slices, a copy of each `&`, the list."""
+    owned = [f'‵ (Lies {m})'] + [b.token(i) for i in range(b.lives)] + [f'‵ ({p.own(b)})' for p in b.slices]
+    owned += [f'‵ ({p.own(b)})' for p in b.shared] + ['‵ Lent']
+    names = ['lies'] + b.token_names() + [f'give{p.i}' for p in b.slices] + [f's{p.i}' for p in b.shared] + ['lent']
+    return owned, names
+
+
+def stepping(b):
+    """From the core's call on."""
+    lm, j, d = local(b.locals['m']), b.last, b.result
+    kappas, _, x, _ = b.to_core()
+    x = x.replace('ref ε', f'ref {lm} ε')
+    filled = passed(b)
+    filled[b.locals['n']] = 'vint w64 n'
+    owned, names = holding(b, 'm₁')
+    without = (b.locals['m'],)
+    c = Context(names + cell_names(b, without))
+    for p in b.rooms:
+        reborrow(b, c, p.i, f'ptr{p.i}', f'slice{p.i}', f'g{p.s} .0')
+    address(b, c, 'core-m')
+    c.bind('lft-new ! tt (λ μ.', 0, ['tμ'])
+    c.move('lies')
+    c.step(f'use1 W (later (some (λ (ε : GName). ‵ (MutRef (named {j}) (μ ∷ []) N .own (ref {lm} ε m₁) (vptr {lm} 0 ∷ [])) ⊛ ‵ (flent (μ ∷ []) (Body (mem N) {lm} 0 ε))))) (lends-ref 𝓤 H A W N (named {j}) (μ ∷ []) m₁ {lm} 0)', 1, ['m'])
+    c.bind('await ! tt $ pick ! (λ ε.')
+    c.split('m', 'm', 'm-lent')
+    c.line()
+    given = [f't{i}' for i in range(j)] + ['tμ'] + [f'give{p.i}' for p in b.slices] + ['m']
+    whole = given[-1]
+    for name in reversed(given[:-1]):
+        c.join(name, whole, 'asked')
+        whole = 'asked'
+    c.step(f'use1 W (raw (Core 𝓤 H A at-mem run .pre (to-core {lm} μ ε))) (goes-core {lm} μ ε)', 1, ['asked'])
+    c.line()
+    given = [f'slice{p.i}' if p.kind == 'room' else p.i for p in b.params] + ['core-m', 'n']
+    c.bind(f'calls-at ! fm (Core 𝓤 H A at-mem run) k-core (to-core {lm} μ ε) {arguments(b, c, given)} (λ u.')
+    c.line()
+    tokens = chain([b.token(i) for i in range(j)] + ['‵ (flft (μ ∷ []) fullShare)', '‵ ftrue'], '⊛')
+    c.step(f'use1 W (later (some (λ (r : {d.name}). (({tokens}) ⊛ ‵ ({d.row()} .own r (u ∷ []))) ⊛ raw (ensured 𝓤 H A core′.ended (core′.clauses 𝓤 H A at-mem run) {kappas} {x} tt r)))) (id⊢ 𝓤 _)', 1, ['got'])
+    c.bind('await ! tt $ pick ! (λ r.')
+    c.line()
+    # the last values of the rooms and of the memory, and what is promised of them
+    ends = ['List ℕ' if p.kind == 'room' else 'Unit {0}' for p in b.params] + ['List ℕ', 'Unit {0}', 'Unit {0}']
+    def end(i):
+        return '(zs' + ' .1' * (i - 1) + ' .0)'
+    memory = end(b.list)
+    promised = b.promised('r', [end(p.i) for p in b.rooms], memory)
+    c.split('got', 'answer', 'ensured')
+    c.move('ensured')
+    c.step(f'use1 W (some (λ (zs : {chain(ends, "×")}). ‵ (lasts core′.ended {kappas} {x} zs) ⊛ raw (fact 𝓤 ({promised})))) (id⊢ 𝓤 _)', 1, ['both'])
+    c.bind('pick ! (λ zs.')
+    c.line()
+    c.split('both', 'lasts', 'fact')
+    c.move('fact')
+    c.bind(f'heard ! ({promised}) (λ e.', 1)
+    for p in b.params:
+        if p.kind == 'room':
+            c.split('lasts', 'last', 'lasts', rule='fsplit')
+            c.split('last', f's{p.i}', 'long', rule='fsplit')
+            c.move('long')
+            c.bind(f'feqL ! (λ l′{p.s}.', 1)
+        else:
+            c.split('lasts', 'none', 'lasts', rule='fsplit')
+            c.drop('none')
+    c.split('lasts', 'm-last', 'lasts', rule='fsplit')
+    c.line()
+    # the answer goes to its local
+    c.split('answer', 'tokens', 'result')
+    c.move('result')
+    c.bind(f'peeks ! {d.row()} (Is {d.row()}) (shows 𝓤 H A {d.row()}) r (u ∷ []) (λ is.')
+    c.line(f'let wu : Holds (hasTy (ty {b.answered}) u) × WT u = {d.typed()} r (u ∷ []) is .0 in')
+    c.line()
+    c.step(f'land ! {initial(b, c, b.answered, "wu")}')
+    c.line()
+    for i in range(j):
+        c.split('tokens', f't{i}', 'tokens')
+    c.split('tokens', 'tμ', 'true')
+    c.step('lft-end ! tt', 1, ['dead'])
+    c.move('dead', 'm-lent', 'm-last')
+    c.step(f'use3 W (later (‵ (Lies {memory}))) (ref-back 𝓤 H A W N (μ ∷ []) ε {memory} {lm} 0)', 3, ['lies'])
+    c.step('await ! tt')
+    c.line()
+    forget(b, c, [x for p in b.rooms for x in (f'ptr{p.i}', f'slice{p.i}')] + ['core-m'])
+    c.line()
+    binders, ys, _, ls = b.ends()
+    ends = ' '.join(end(p.i) for p in b.rooms)
+    if b.saves:
+        c.keep(['lies'] + b.token_names() + ['result'] + [f's{p.i}' for p in b.rooms] + [f's{p.i}' for p in b.shared] + ['lent']
+               + cell_names(b, without))
+        c.say(f'by ! (saving r {ends} {memory} u e {ls} wu)')
+    else:
+        # nothing is saved: the return
+        c.names[c.at('lent')] = 'list'
+        c.say(f'let m′ : List ℕ = {memory} in')
+        returning(b, c, f'by ! (exits r {ends} m′ u e {ls})')
+    return closed(f'''    -- the core{'' if b.saves else ', and the return'}
+    abbrev Ctx-core : List (Item 𝓤)
+    Ctx-core = {' ∷ '.join(owned + cells(b, filled, without))} ∷ Dies
+
+    stepping : ent 𝓤 (⋆ 𝓤 H A Ctx-core) (Wp 𝓤 H C Λ En pieces.t-{b.at_core} (atReturn 𝓤 H En Post))
+    stepping =
+        qed W Ctx-core ∵ exec ! C Λ En pieces.t-{b.at_core} (atRet En Post) $
+        ''' + c.text)
+
+
+def loading(b):
+    """From `load` on."""
+    lm, j = local(b.locals['m']), b.last
+    k, q = b.kappa(j), b.share(j)
+    filled = passed(b)
+    filled[b.locals['n']] = 'vint w64 n'
+    owned, names = holding(b, 'blank')
+    if not b.saves:
+        # a copy of the list's `&` is for `load`
+        owned, names = owned + ['‵ Lent'], names + ['lent-load']
+    without = (b.locals['m'],)
+    c = Context(names + cell_names(b, without))
+    if b.saves:
+        reborrow(b, c, b.list, 'load-ptr', 'load-slice', 'gn .0')
+    address(b, c, 'load-m')
+    if b.saves:
+        c.bind('lft-new ! tt (λ ν.', 0, ['tν'])
+    c.bind('lft-new ! tt (λ μ.', 0, ['tμ'])
+    c.line()
+    if b.saves:
+        c.move('lent', 'tP')
+        c.step(f'use2 W (later (some (λ (δ : GName). ‵ (ShrSlice (named 0) (ν ∷ []) R .own (rp δ) (sp ∷ [])) ⊛ ‵ (LentShared R {k} (ν ∷ []) {q} γ b o ps)))) (lends-shared R {k} (ν ∷ []) {q} γ b o 𝓤 H A W (named {j}) (named 0) ps)', 2, ['list'])
+        c.bind('await ! tt $ pick ! (λ δ.')
+        c.split('list', 'lent-load', 'list-lent')
+        c.line()
+    c.move('lies')
+    c.step(f'use1 W (later (some (λ (ε : GName). ‵ (MutRef (named 1) (μ ∷ []) N .own (ref {lm} ε blank) (vptr {lm} 0 ∷ [])) ⊛ ‵ (flent (μ ∷ []) (Body (mem N) {lm} 0 ε))))) (lends-ref 𝓤 H A W N (named 1) (μ ∷ []) blank {lm} 0)', 1, ['m'])
+    c.bind('await ! tt $ pick ! (λ ε.')
+    c.split('m', 'm', 'm-lent')
+    c.line()
+    token = 'tν' if b.saves else 'tP'
+    c.move(token, 'tμ', 'lent-load', 'm')
+    c.step('join !', 2, ['tokens'])
+    args = 'ν μ δ ε' if b.saves else 'μ ε'
+    c.step(f'use3 W (raw (Load 𝓤 H A at-mem run .pre (to-load {lm} {args}))) (goes-load {lm} {args})', 3, ['asked'])
+    c.line()
+    given = ['load-slice' if b.saves else b.list, 'load-m', 'n']
+    c.bind(f'calls-at ! fm (Load 𝓤 H A at-mem run) k-load (to-load {lm} {args}) {arguments(b, c, given)} (λ w.')
+    if b.saves:
+        kappas, x, first = '(ν ∷ [], (μ ∷ [], tt))', f'(rp δ, (ref {lm} ε blank, (n, tt)))', '‵ (flft (ν ∷ []) fullShare)'
+    else:
+        kappas, x, first = f'({k}, (μ ∷ [], tt))', f'(rp γ, (ref {lm} ε blank, (n, tt)))', b.token(j)
+    unit_answer(b, c, 'r', f'ensured 𝓤 H A load′.ended (load′.clauses 𝓤 H A at-mem run) {kappas} {x}', f'({first} ⊛ (‵ (flft (μ ∷ []) fullShare) ⊛ ‵ ftrue))',
+                'Unit {0} × (List ℕ × (Unit {0} × Unit {0}))', f'lasts load′.ended {kappas} {x}', 'zs .1 .0 ≡ m₁')
+    c.bind('heard ! (zs .1 .0 ≡ m₁) (λ e.', 1)
+    c.split('lasts', 'none', 'lasts', rule='fsplit')
+    c.drop('none')
+    c.split('lasts', 'm-last', 'lasts', rule='fsplit')
+    unit_lands(b, c)
+    c.line()
+    c.split('tokens', token, 'rest')
+    if b.saves:
+        c.step('lft-end ! tt', 1, ['dead'])
+        c.move('dead', 'list-lent')
+        c.step(f'use2 W (later (‵ Lent ⊛ {b.token(j)})) (shared-back R {k} (ν ∷ []) {q} γ b o 𝓤 H A W (named {j}) (named 0) ps gn)', 2, ['back'])
+        c.step('await ! tt')
+        c.split('back', 'lent', 'tP')
+        c.line()
+    c.split('rest', 'tμ', 'true')
+    c.step('lft-end ! tt', 1, ['dead'])
+    c.move('dead', 'm-lent', 'm-last')
+    c.step(f'use3 W (later (‵ (Lies (zs .1 .0)))) (ref-back 𝓤 H A W N (μ ∷ []) ε (zs .1 .0) {lm} 0)', 3, ['lies'])
+    c.step('await ! tt')
+    c.step('rewrite ! 0 (λ (z : List ℕ). ‵ (Lies z)) e refl')
+    c.line()
+    forget(b, c, ['unit'] + (['load-ptr', 'load-slice'] if b.saves else []) + ['load-m'])
+    c.line()
+    c.keep(holding(b, 'm₁')[1] + cell_names(b, without))
+    c.say('by ! stepping')
+    return closed(f'''    -- `load`
+    abbrev Ctx-load : List (Item 𝓤)
+    Ctx-load = {' ∷ '.join(owned + cells(b, filled, without))} ∷ Dies
+
+    loading : ent 𝓤 (⋆ 𝓤 H A Ctx-load) (Wp 𝓤 H C Λ En pieces.t-{b.at_load} (atReturn 𝓤 H En Post))
+    loading =
+        qed W Ctx-load ∵ exec ! C Λ En pieces.t-{b.at_load} (atRet En Post) $
+        ''' + c.text)
+
+
+def copied(b, c, own, life, elem, x, v, first, second):
+    """One more of a `&` to a slice, which stands in front."""
+    kappa = b.kappa(life)
+    c.step(f'use1 W (‵ ({own}) ⊛ ‵ ({own})) (shr-slice-copy 𝓤 H A W (named {life}) {kappa} {elem} .twice {x} ({v} ∷ []))', 1, ['two'])
+    c.split('two', first, second)
+
+
+def beginning(b):
+    """From the first statement on: `count` and `empty`; then what was passed is taken apart."""
+    j, m, n = b.last, b.locals['m'], b.locals['n']
+    c = Context(['entry'] + cell_names(b))
+    c.step(f'assigns ! (of-opd ! (load ! (from ! (fld ! refl (stop !))) (look-in ! {c.at(f"_{b.list}")} (sub ! 1 refl (whole !))))) {initial(b, c, "len", "(tt, record { fits = gn .0 })")}')
+    c.line()
+    c.step('nothing !', 0, ['true'])
+    c.step('use1 W (raw (Count 𝓤 H A at-mem run .pre to-count)) goes-count', 1, ['asked'])
+    c.line()
+    c.bind(f'calls-at ! fm (Count 𝓤 H A at-mem run) k-count to-count {arguments(b, c, ["len"])} (λ u.')
+    c.line()
+    c.step('use1 W (later (some (λ (r : ℕ). (‵ ftrue ⊛ ‵ (usize .own r (u ∷ []))) ⊛ raw (ensured 𝓤 H A count′.ended (count′.clauses 𝓤 H A at-mem run) tt (length ps, tt) tt r)))) (id⊢ 𝓤 _)', 1, ['got'])
+    c.bind('await ! tt $ pick ! (λ r.')
+    c.line()
+    c.split('got', 'answer', 'ensured')
+    c.move('ensured')
+    c.step('use1 W (raw (fact 𝓤 (r ≡ n))) (count-of 𝓤 H A at-mem run (length ps) r)')
+    c.bind('heard ! (r ≡ n) (λ e.', 1)
+    c.split('answer', 'true', 'own')
+    c.drop('true')
+    c.line()
+    c.bind('peeks ! usize (Is usize) (shows 𝓤 H A usize) r (u ∷ []) (λ is.')
+    c.step(f'land ! {initial(b, c, "n", "(uint-lawful 𝓤 H A W w64 .typed r _ is .0)")}')
+    c.line()
+    c.step(f'rewrite ! {c.at(f"_{n}")} (λ (v : Val). ‵ (fat fullShare (ty {n}) {local(n)} 0 v)) (ap only (is .0) ∙ ap (λ (k : ℕ). vint w64 k) e) refl')
+    c.drop('own')
+    c.line()
+    c.step('nothing !', 0, ['true'])
+    c.step('use1 W (raw (Empty 𝓤 H A at-mem run .pre to-empty)) goes-empty', 1, ['asked'])
+    c.line()
+    c.bind('calls-at ! fm (Empty 𝓤 H A at-mem run) k-empty to-empty (no-more !) (λ w.')
+    c.line()
+    c.step('use1 W (later (some (λ (z : List ℕ). (‵ ftrue ⊛ ‵ (N .own z (w ∷ []))) ⊛ raw (ensured 𝓤 H A empty′.ended (empty′.clauses 𝓤 H A at-mem run) tt tt tt z)))) (id⊢ 𝓤 _)', 1, ['got'])
+    c.bind('await ! tt $ pick ! (λ z.')
+    c.line()
+    c.split('got', 'answer', 'ensured')
+    c.move('ensured')
+    c.step('use1 W (raw (fact 𝓤 (z ≡ blank))) (empty-of 𝓤 H A at-mem run z)')
+    c.bind('heard ! (z ≡ blank) (λ ez.', 1)
+    c.split('answer', 'true', 'own')
+    c.drop('true')
+    c.step('rewrite ! 0 (λ (y : List ℕ). ‵ (N .own y (w ∷ []))) ez refl')
+    c.line()
+    c.bind('peeks ! N (Is N) (shows 𝓤 H A N) blank (w ∷ []) (λ isn.')
+    c.line(f'let wn : Holds (hasTy (ty {m}) w) × WT w = array-lawful 𝓤 H A W u16 (uint-lawful 𝓤 H A W w16) {b.size} .typed blank (w ∷ []) isn .0 in')
+    c.line()
+    c.step(f'land ! {initial(b, c, "blank", "wn")}')
+    c.line()
+    c.step(f'assigns ! (of-opd ! {load_of(b, c, "blank")}) {initial(b, c, "m", "wn")}')
+    c.line()
+    forget(b, c, ['len', 'blank'])
+    c.move(f'_{m}', 'own')
+    c.step(f'use2 W (‵ (Lies blank)) (part-in 𝓤 H A W N refl fullShare blank {local(m)} 0 w)', 2, ['lies'])
+    c.line()
+    # what was passed: the tokens, then what each parameter owns
+    list_row = f'{"MutSlice" if b.saves else "ShrSlice"} (named {j}) {b.kappa(j)} R'
+    rows = items([p.row(b) for p in b.params] + [list_row])
+    tokens = chain([b.token(i) for i in range(b.lives)] + ['‵ ftrue'], '⊛')
+    c.move('entry')
+    c.step(f'use1 W (({tokens}) ⊛ ‵ (owns ({rows}) x at)) (id⊢ 𝓤 _)')
+    c.split('entry', 'tokens', 'owns')
+    for name in b.token_names():
+        c.split('tokens', name, 'tokens')
+    c.line()
+    for p in b.params:
+        c.split('owns', f'give{p.i}', 'owns', rule='fsplit')
+        if p.kind == 'shared':
+            c.move(f'give{p.i}')
+            copied(b, c, p.own(b), b.life(p), p.type, f'x{p.s}', p.machine(), f'give{p.i}', f's{p.i}')
+        elif not p.slice:
+            c.drop(f'give{p.i}')
+    c.split('owns', 'lent', 'owns', rule='fsplit')
+    held = holding(b, 'blank')[1]
+    if not b.saves:
+        copied(b, c, 'Lent', j, 'R', '(rp γ)', 'sp', 'lent', 'lent-load')
+        held = held + ['lent-load']
+    c.line()
+    c.keep(held + cell_names(b, (m,)))
+    c.say('by ! loading')
+    return closed(f'''    -- `count` and `empty`
+    abbrev Ctx-entry : List (Item 𝓤)
+    Ctx-entry = raw (onEntry 𝓤 H A public.signature {b.kappas()} {b.all_shares()} x at) ∷ {' ∷ '.join(cells(b, passed(b)))} ∷ Dies
+
+    beginning : ent 𝓤 (⋆ 𝓤 H A Ctx-entry) (Wp 𝓤 H C Λ En (code.function .body) (atReturn 𝓤 H En Post))
+    beginning =
+        qed W Ctx-entry ∵ exec ! C Λ En (code.function .body) (atRet En Post) $
+        ''' + c.text)
+
+
+def walk(b):
+    """The locals are allocated, the parameters passed, and the body run."""
+    k, q = b.kappas(), b.all_shares()
+    values = items([p.machine() for p in b.params] + ['sp'])
+    c = Context([x for i in reversed(range(b.many)) for x in (f'_{i}', f'dies{i}')] + ['entry'], indent=6)
+    for i in range(b.many):
+        c.say(f'alloc1 ! (λ {local(i)}.')
+    c.step('alloc0 !')
+    c.step('params1 !')
+    c.line()
+    for p in b.params:
+        c.step(f'pass1 ! (init ! {c.at(f"_{p.i}")} refl ({p.passed()}))')
+    c.step(f'pass1 ! (init ! {c.at(f"_{b.list}")} refl (tt, (tt, (record {{ fits = gn .0 }}, tt))))')
+    c.step('pass0 !')
+    c.line()
+    c.keep(['entry'] + cell_names(b))
+    known = ['k' + sub(i + 1) for i in range(len(b.callees()))]
+    c.say(f'by ! (beginning C Λ fm {" ".join(known)} {" ".join(local(i) for i in range(b.many))})')
+    triples = ' → '.join(f'Triple 𝓤 (C #{s.lower()}) ({s} 𝓤 H A at-mem run)' for _, _, s in b.callees())
+    return closed(f'''  walk : (C : Calls 𝓤 H) (Λ : Loops 𝓤 H) → FmC 𝓤 H (W .laws) C → {triples}
+      → ent 𝓤 (onEntry 𝓤 H A public.signature {k} {q} x at) (WpFn 𝓤 H C Λ code.function ({values}) Post)
+  walk C Λ fm {' '.join(known)} =
+      qed W (raw (onEntry 𝓤 H A public.signature {k} {q} x at) ∷ []) ∵ enter ! C Λ code.function ({values}) _ $
+      ''' + c.text)
