@@ -28,7 +28,7 @@ module _ (M R : List Triangle) (a b c : ℕ) (sub : (x y z : ℕ) → In x y z R
   choice-back l i h k = rw (choosePlace, h, k) refl
 
   -- x→c is open where its other side is in M
-  open-enter : (l i x y : ℕ) (s : Site M ls l i c x y) → Links c R x b → OpenAt ls l (s .from) x c
+  pub open-enter : (l i x y : ℕ) (s : Site M ls l i c x y) → Links c R x b → OpenAt ls l (s .from) x c
   open-enter l i x y s w = go (s .enter) (first-link w)
     where
       go : Unused c x M ⊎ OpenAt ls l (s .from) x c → (x ≡ b) ⊎ ((z : ℕ) × In c x z R × Links c R z b) → OpenAt ls l (s .from) x c
@@ -36,7 +36,7 @@ module _ (M R : List Triangle) (a b c : ℕ) (sub : (x y z : ℕ) → In x y z R
       go (inl f) (inl e) = absurd (f a (subst (λ (v : ℕ). In c v a M) (sym e) (in-last tri)))
       go (inl f) (inr v) = absurd (f (v .0) (sub c x (v .0) (v .1)))
 
-  open-leave : (l i x y : ℕ) (s : Site M ls l i c x y) → Links c R a y → OpenAt ls l i c y
+  pub open-leave : (l i x y : ℕ) (s : Site M ls l i c x y) → Links c R a y → OpenAt ls l i c y
   open-leave l i x y s w = go (s .leave) (last-link w)
     where
       go : Unused y c M ⊎ OpenAt ls l i c y → (a ≡ y) ⊎ Last c R a y → OpenAt ls l i c y

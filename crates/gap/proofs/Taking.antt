@@ -12,7 +12,7 @@ use Rattle.gap.proofs.Rings.{rings-map}
 use Rattle.gap.proofs.Turning.{others, others-sub, others-once}
 use Rattle.gap.proofs.Steps.{Keeps}
 
-abbrev tri : ℕ → ℕ → ℕ → Triangle
+abbrev pub tri : ℕ → ℕ → ℕ → Triangle
 tri x y z = record { p = x; q = y; r = z }
 
 -- none of its edges is used by the others
@@ -52,7 +52,7 @@ same (at-r a b c) (at-p a′ b′ c′) = at-q (sym b ∙ a′) (sym c ∙ b′)
 same (at-r a b c) (at-q a′ b′ c′) = at-r (sym c ∙ a′) (sym a ∙ b′) (sym b ∙ c′)
 same (at-r a b c) (at-r a′ b′ c′) = at-p (sym a ∙ a′) (sym b ∙ b′) (sym c ∙ c′)
 
-out : {x y z u v w : ℕ} {ts : List Triangle} (i : In x y z ts) → In u v w ts → In u v w (tri x y z ∷ others i)
+pub out : {x y z u v w : ℕ} {ts : List Triangle} (i : In x y z ts) → In u v w ts → In u v w (tri x y z ∷ others i)
 unfolding others
 out (here r) (here s) = here (same r s)
 out (here r) (there j) = there j

@@ -1,0 +1,222 @@
+-- The joining theorem: what is decided is what the machine's call comes to, and what is then done leads to the machine's next state.
+-- Assumes nothing.
+use Prim.Native.Nat.{ℕ, _+_, _-_, _*_, _≤_, max}
+use native.Mathlib.Omega.{arith}
+use mathlib.Core.Bool.{Bool, true, false, _&&_}
+use mathlib.Core.List.{List, [], _∷_}
+use mathlib.Core.Path.{_≡_, refl, sym, ap, ap₂, _∙_, subst}
+use lib.ListN.{length}
+use lib.Dec.{leb}
+use borrow.Author.Tests.{leb-true, le-leb}
+use Rattle.rules.specs.declared.Triangle.{Triangle}
+use Rattle.rules.specs.declared.Counts.{Counts}
+use Rattle.rules.specs.declared.Operation.{Operation}
+use Rattle.rules.specs.Triangle.{Edge}
+use Rattle.rules.specs.Ring.{Ring, places}
+use Rattle.rules.specs.Table.{Side, glued, fresh, Effect, not-allowed, builds, marks, effect, edgeRule}
+use Rattle.rules.specs.Machine.{Machine, freshSides, afterBuild, afterMark, built, declared, test, within, done, operation}
+use Rattle.book.specs.Consistent.{AllSound, Ranges}
+use Rattle.book.proofs.Counting.{and-left, and-right}
+use Rattle.book.proofs.Effects as effects
+use Rattle.links.specs.Memory.{namedLoops}
+use Rattle.links.proofs.Named.{named-lives}
+use Rattle.memory.specs.declared.Loops.{Loops}
+use Rattle.memory.specs.declared.Front.{Front}
+use Rattle.memory.specs.declared.Plan.{Plan}
+use Rattle.memory.specs.declared.Decided.{Decided}
+use Rattle.memory.specs.declared.Decided.the-variants.{Builds, Marks}
+use Rattle.memory.specs.Layout.{verticesOf}
+use Rattle.memory.specs.Stands.{ringsIn, loopsIn, StandsAt, Stands}
+use Rattle.memory.specs.Moves.{Held, markedHeld}
+use Rattle.memory.specs.Decision.{proposed, newEdges, roomFor, roomBy, decidedBy, decided, sideOf, heldAfter, builtFront, markedFront}
+use Rattle.memory.specs.Keeps.{Keeps, Decides}
+use Rattle.memory.proofs.Standing.{rings-read}
+use Rattle.memory.proofs.Room.{room}
+use Rattle.memory.proofs.Relinked.{Moved, sound-names}
+use Rattle.memory.proofs.Counts.{places-named, places-after, places-sum, leb-same}
+use Rattle.memory.proofs.Proposing.{PlanIs, Proposes}
+use Rattle.memory.proofs.Proposed.{proposes}
+
+-- how many loops and places stand
+pub stands-live : (n : ℕ) (l : Loops) (m : List ℕ) (rs : List Ring) → StandsAt n l m rs → l .live ≡ length rs
+stands-live n l m [] st = st .heads
+stands-live n l m (r ∷ rs) st = st .heads .live
+
+record Stood (n : ℕ) (l : Loops) (m : List ℕ) (ls : List Ring) : Type 0 where
+  stands : Stands n l m
+  loops : ls ≡ loopsIn n l m
+  live : length ls ≡ l .live
+  taken : places ls ≡ n - l .free
+
+stood : (n : ℕ) (l : Loops) (m : List ℕ) (rs ls : List Ring) → StandsAt n l m rs → namedLoops (verticesOf n m) rs ≡ ls → Stood n l m ls
+stood n l m rs ls st e =
+    let r : ringsIn n l m ≡ rs = rings-read n l m rs st in
+    let k : l .free + places ls ≡ n =
+    omega (arith, room n l m rs st, places-named (verticesOf n m) rs, ap places e) in
+    record {
+      stands = rw r st;
+      loops = sym (ap (namedLoops (verticesOf n m)) r ∙ e);
+      live = ap length (sym e) ∙ named-lives (verticesOf n m) rs ∙ sym (stands-live n l m rs st);
+      taken = omega (arith, k);
+    }
+
+record Within (m : Machine) : Type 0 where
+  vertices : m .used ≤ m .stated .vertices
+  triangles : length (m .triangles) ≤ m .stated .triangles
+  places : places (m .loops) ≤ m .stated .places
+  loops : length (m .loops) ≤ m .stated .loops
+
+within-each : (m : Machine) → within m ≡ true → Within m
+within-each m h =
+    let w1 = leb (m .used) (m .stated .vertices) in
+    let w2 = leb (length (m .triangles)) (m .stated .triangles) in
+    let w3 = leb (places (m .loops)) (m .stated .places) in
+    let w4 = leb (length (m .loops)) (m .stated .loops) in
+    let h3 = and-left (w1 && w2 && w3) w4 h in
+    let h2 = and-left (w1 && w2) w3 h3 in
+    record {
+      vertices = leb-true (m .used) (m .stated .vertices) (and-left w1 w2 h2);
+      triangles = leb-true (length (m .triangles)) (m .stated .triangles) (and-right w1 w2 h2);
+      places = leb-true (places (m .loops)) (m .stated .places) (and-right (w1 && w2) w3 h3);
+      loops = leb-true (length (m .loops)) (m .stated .loops) (and-right (w1 && w2 && w3) w4 h);
+    }
+
+each-within : (m : Machine) → Within m → within m ≡ true
+each-within m w =
+    ap₂ _&&_
+    (ap₂ _&&_ (ap₂ _&&_ (le-leb (m .used) (m .stated .vertices) (w .vertices)) (le-leb (length (m .triangles)) (m .stated .triangles) (w .triangles)))
+    (le-leb (places (m .loops)) (m .stated .places) (w .places))) (le-leb (length (m .loops)) (m .stated .loops) (w .loops))
+
+side-back : (s : Side) (k : ℕ) → k ≡ freshSides s → sideOf k ≡ s
+side-back glued k e = rw e
+side-back fresh k e = rw e
+
+module _ (n : ℕ) (s : Front) (m : List ℕ) (M : Machine) (k : Keeps n s m M) where
+  before : Stood n (s .loops) m (M .loops)
+  before = stood n (s .loops) m (ringsIn n (s .loops) m) (M .loops) (k .stands) (sym (k .loops))
+
+  -- 17
+  room-same : (ls : List Ring) (t : Triangle) (x y z : Side) (v a u : ℕ) (p : Plan) → PlanIs p t x y z v a u
+      → effects.Builds (s .used) (M .loops) ls t x y z v a u → roomFor n s p ≡ within (afterBuild M ls t x y z v a u)
+  unfolding roomFor
+  room-same ls t x y z v a u p i b =
+      let c : Counts = M .stated in
+      let c₁ : c .vertices ≡ s .stated .vertices = ap (λ (r : Counts). r .vertices) (k .stated) in
+      let c₂ : c .triangles ≡ s .stated .triangles = ap (λ (r : Counts). r .triangles) (k .stated) in
+      let c₃ : c .places ≡ s .stated .places = ap (λ (r : Counts). r .places) (k .stated) in
+      let c₄ : c .loops ≡ s .stated .loops = ap (λ (r : Counts). r .loops) (k .stated) in
+      let d = places-after (s .used) (M .loops) ls t x y z v a u b in
+      ap₂ _&&_
+      (ap₂ _&&_
+      (ap₂ _&&_
+      (leb-same (s .used + p .vertices) (s .stated .vertices) (M .used + v) (c .vertices) (λ h. omega (arith, h, c₁, k .used, i .vertices))
+      (λ h. omega (arith, h, c₁, k .used, i .vertices)))
+      (leb-same (s .built + 1) (s .stated .triangles) (length (t ∷ M .triangles)) (c .triangles) (λ h. omega (arith, h, c₂, k .triangles))
+      (λ h. omega (arith, h, c₂, k .triangles))))
+      (leb-same (n - s .loops .free + 2 * newEdges p) (s .stated .places + 3) (places ls) (c .places)
+      (λ h. omega (arith, h, c₃, d, before .taken, i .pq, i .qr, i .rp)) (λ h. omega (arith, h, c₃, d, before .taken, i .pq, i .qr, i .rp))))
+      (leb-same (s .loops .live + newEdges p + 2 * p .starts) (s .stated .loops + p .vertices + 1 + 2 * p .unions) (length ls) (c .loops)
+      (λ h. omega (arith, h, c₄, b .lives, before .live, i .pq, i .qr, i .rp, i .vertices, i .starts, i .unions))
+      (λ h. omega (arith, h, c₄, b .lives, before .live, i .pq, i .qr, i .rp, i .vertices, i .starts, i .unions)))
+
+  keeps-built : (ls : List Ring) (t : Triangle) (x y z : Side) (v a u : ℕ) (p : Plan) (h : Held) → PlanIs p t x y z v a u
+      → Moved n (s .loops) m h (builds ls t x y z v a u) → Keeps n (builtFront n s p (h .loops)) (h .memory) (afterBuild M ls t x y z v a u)
+  unfolding builtFront
+  keeps-built ls t x y z v a u p h i d =
+      let r = stood n (h .loops) (h .memory) (d .rings) ls (d .stands) (d .loops) in
+      record {
+        roomy = record { few = k .roomy .few; enough = k .roomy .enough; long = omega (arith, k .roomy .long, d .lengths) };
+        stands = r .stands;
+        loops = r .loops;
+        stated = k .stated;
+        used = omega (arith, k .used, i .vertices);
+        triangles = omega (arith, k .triangles);
+        mostPlaces = ap₂ max (k .mostPlaces) (r .taken);
+        mostLoops = ap₂ max (k .mostLoops) (r .live);
+        edges = omega (arith, k .edges, i .pq, i .qr, i .rp);
+        starts = omega (arith, k .starts, i .starts);
+        unions = omega (arith, k .unions, i .unions);
+        rims = k .rims;
+      }
+
+  keeps-marked : (ls : List Ring) (d : Edge) (rim : ℕ) (h : Held) → effects.Marks (M .loops) ls d rim
+      → Moved n (s .loops) m h (marks ls d rim) → Keeps n (markedFront n s (h .loops)) (h .memory) (afterMark M ls rim)
+  unfolding markedFront
+  keeps-marked ls d rim h b w =
+      let r = stood n (h .loops) (h .memory) (w .rings) ls (w .stands) (w .loops) in
+      record {
+        roomy = record { few = k .roomy .few; enough = k .roomy .enough; long = omega (arith, k .roomy .long, w .lengths) };
+        stands = r .stands;
+        loops = r .loops;
+        stated = k .stated;
+        used = k .used;
+        triangles = k .triangles;
+        mostPlaces = ap₂ max (k .mostPlaces) (r .taken);
+        mostLoops = ap₂ max (k .mostLoops) (r .live);
+        edges = k .edges;
+        starts = k .starts;
+        unions = k .unions;
+        rims = omega (arith, k .rims, b .lives, before .live, r .live);
+      }
+
+  -- marking an edge stays within what is stated
+  mark-within : (ls : List Ring) (d : Edge) (rim : ℕ) → effects.Marks (M .loops) ls d rim → within M ≡ true → within (afterMark M ls rim) ≡ true
+  mark-within ls d rim b h =
+      let w = within-each M h in
+      let o = b .sums (λ x y o. 1) in
+      each-within (afterMark M ls rim)
+      (record {
+        vertices = w .vertices;
+        triangles = w .triangles;
+        places = omega (arith, w .places, o .total, places-sum ls, places-sum (M .loops));
+        loops = omega (arith, w .loops, b .lives);
+      })
+
+  by-room : (o : Operation) (ls : List Ring) (t : Triangle) (x y z : Side) (v a u : ℕ) → operation M o ≡ done M (builds ls t x y z v a u) → (p : Plan)
+      → PlanIs p t x y z v a u
+      → (places ls ≤ n → 5 * n + 2 * length ls ≤ length m → Moved n (s .loops) m (heldAfter n s m o p) (builds ls t x y z v a u)) → (r : Bool)
+      → within (afterBuild M ls t x y z v a u) ≡ r → Decides n s m M o (roomBy r p)
+  unfolding done test
+  by-room o ls t x y z v a u e p i moves true w =
+      let c = within-each (afterBuild M ls t x y z v a u) w in
+      let d =
+      moves (omega (arith, c .places, ap (λ (r : Counts). r .places) (k .stated), k .roomy .enough))
+      (omega (arith, c .loops, ap (λ (r : Counts). r .loops) (k .stated), k .roomy .long)) in
+      record {
+        next = afterBuild M ls t x y z v a u;
+        step =
+            rw (i .triangle, side-back x (p .pq) (i .pq), side-back y (p .qr) (i .qr), side-back z (p .rp) (i .rp))
+            (e ∙ ap (λ (r : Bool). test r 17 (test (edgeRule t x y z (M .triangles)) 18 (built t (afterBuild M ls t x y z v a u)))) w);
+        keeps = keeps-built ls t x y z v a u p (heldAfter n s m o p) i d;
+        unchanged = record { lengths = d .lengths; rest = d .rest };
+      }
+  by-room o ls t x y z v a u e p i moves false w =
+      e ∙ ap (λ (r : Bool). test r 17 (test (edgeRule t x y z (M .triangles)) 18 (built t (afterBuild M ls t x y z v a u)))) w
+
+  decides-by : (o : Operation) (E : Effect) (d : Decided) → operation M o ≡ done M E → within M ≡ true → effects.Law (s .used) (M .loops) E
+      → Proposes n s m o d E → Decides n s m M o (decidedBy n s d)
+  unfolding done test
+  decides-by o not-allowed d e w l p = rw p e
+  decides-by o (builds ls t x y z v a u) d e w l p =
+      let i = p .is in
+      rw (i, room-same ls t x y z v a u (p .plan) (p .same) l)
+      (by-room o ls t x y z v a u e (p .plan) (p .same) (p .moves) (within (afterBuild M ls t x y z v a u)) refl)
+  decides-by o (marks ls x rim) d e w l p =
+      let i = p .is in
+      rw i
+      (record {
+        next = afterMark M ls rim;
+        step = e ∙ ap (λ (r : Bool). test r 17 (declared x (afterMark M ls rim))) (mark-within ls x rim l w);
+        keeps = keeps-marked ls x rim (markedHeld n (s .loops) m) l (p .moves);
+        unchanged = record { lengths = p .moves .lengths; rest = p .moves .rest };
+      })
+
+  -- the theorem
+  pub decides : (o : Operation) → Ranges M → Decides n s m M o (decided n s m o)
+  unfolding decided
+  decides o r =
+      let E : Effect = effect o (s .used) (M .loops) in
+      let sound : AllSound (M .loops) = rw (k .loops) (sound-names (verticesOf n m) (ringsIn n (s .loops) m) (k .stands .sound)) in
+      decides-by o E (proposed n s m o) (ap (λ (u : ℕ). done M (effect o u (M .loops))) (k .used)) (r .counts)
+      (effects.effect-law o (s .used) (M .loops) sound)
+      (subst (λ (ls : List Ring). Proposes n s m o (proposed n s m o) (effect o (s .used) ls)) (sym (k .loops)) (proposes n s m o (ringsIn n (s .loops) m) (k .stands)))

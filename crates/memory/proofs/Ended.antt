@@ -1,0 +1,356 @@
+-- Close and border: the loops after them stand, also where the current loop ends and its places are freed.
+-- Assumes nothing.
+use Prim.Native.Nat.{ℕ, suc, _+_, _-_, _*_, _≤_, _<_}
+use native.Mathlib.Omega.{arith}
+use mathlib.Core.Bool.{true, false}
+use mathlib.Core.List.{List, [], _∷_, _++_, append-assoc}
+use mathlib.Core.Path.{_≡_, refl, sym, ap, _∙_, subst}
+use lib.ListN.{length, getD, length-set, length-append}
+use lib.Seq.{getD-set-other}
+use lib.Dec.{eqb, leb, ltb}
+use borrow.Author.Tests.{le-leb, lt-leb}
+use Rattle.rules.specs.declared.Operation.the-variants.{Border, Close}
+use Rattle.rules.specs.Triangle.{Edge, edge}
+use Rattle.rules.specs.Count.{num, same}
+use Rattle.rules.specs.Ring.{Node, opened, marked, Ring, vertex, isOpen, startOr, onward, places}
+use Rattle.rules.specs.Table.{Effect, marking, atEdge}
+use Rattle.book.specs.Sums.{Weight, pathSum, ringSum, loopsSum}
+use Rattle.book.specs.Consistent.{AllSound}
+use Rattle.book.proofs.Sums.{sum-append, sum-turn, start-append}
+use Rattle.links.specs.Memory.{Memory, Arc, arc, Holds, placed, stored, namedRing, namedLoops}
+use Rattle.links.specs.Stores.{alive, placesAfter, stores, verticesAfter, HasLoops}
+use Rattle.links.proofs.Surgery.{do-mark}
+use Rattle.memory.specs.declared.Loops.{Loops}
+use Rattle.memory.specs.Layout.{at, afterOf, openOf, verticesOf, linksOf, edgesStored, stacked, freed, released, sought}
+use Rattle.memory.specs.Stands.{Waits, StandsAt}
+use Rattle.memory.specs.Moves.{Held, held, endedHeld, turnedBy, markedHeld}
+use Rattle.memory.proofs.Columns.{EdgesStored, edges-stored, links-long, same-vertices, same-links}
+use Rattle.memory.proofs.Standing.{Hop, Trail, trails, trails-by, apart, below}
+use Rattle.memory.proofs.Room.{room}
+use Rattle.memory.proofs.Relinked.{Goes, Moved, effectAt, Relinked, relinked, stacked-same, stacked-freed, waits-same}
+
+-- the links of a run do not change where the records do not
+pub trail-same : (n : ℕ) (m m′ : List ℕ) → ((i : ℕ) → i < 4 * n → at m′ i ≡ at m i) → (b : ℕ) → b < n → (ps : List Node) → Trail n m ps b → Trail n m′ ps b
+trail-same n m m′ h b k [] t = tt
+trail-same n m m′ h b k (p ∷ ps) t = (
+  record {
+    fore = h (4 * vertex p + 2) (omega (arith, t .0 .near)) ∙ t .0 .fore;
+    back = h (4 * startOr b ps + 1) (omega (arith, next ps (t .1))) ∙ t .0 .back;
+    mark = h (4 * vertex p + 3) (omega (arith, t .0 .near)) ∙ t .0 .mark;
+    near = t .0 .near;
+  },
+  trail-same n m m′ h b k ps (t .1),
+)
+  where
+    next : (ps : List Node) → Trail n m ps b → startOr b ps < n
+    next [] t = k
+    next (q ∷ qs) t = t .0 .near
+
+pub trail-append : (n : ℕ) (m : List ℕ) (b : ℕ) (ps qs : List Node) → Trail n m (ps ++ qs) b → Trail n m ps (startOr b qs) × Trail n m qs b
+trail-append n m b [] qs t = (tt, t)
+trail-append n m b (p ∷ ps) qs t =
+    let r = trail-append n m b ps qs (t .1) in
+    ((subst (λ (y : ℕ). Hop n m (vertex p) y (isOpen p)) (start-append b ps qs) (t .0), r .0), r .1)
+
+-- the places of a run put on the stack, which has k
+pub record Released (n : ℕ) (m : List ℕ) (k : ℕ) (ps : List Node) (b : ℕ) (m′ : List ℕ) : Type 0 where
+  pub lengths : length m′ ≡ length m
+  pub records : (i : ℕ) → i < 4 * n + k → at m′ i ≡ at m i
+  pub rest : (i : ℕ) → 5 * n ≤ i → at m′ i ≡ at m i
+  pub all : (x : ℕ) → stacked n m′ (k + length ps) x ≡ pathSum (λ p q o. same x p) ps b + stacked n m k x
+
+released-by : (n : ℕ) (m : List ℕ) (k : ℕ) (ps : List Node) (b c : ℕ) → b < n → Trail n m ps b → c ≡ startOr b ps → k + length ps ≤ n
+    → 5 * n ≤ length m → Released n m k ps b (released n m k (length ps) c)
+unfolding released pathSum
+released-by n m k [] b c bn t ec h l = record {
+  lengths = refl;
+  records = λ i j. refl;
+  rest = λ i j. refl;
+  all = λ x. let e : k + 0 ≡ k = omega arith in rw e (omega arith);
+}
+released-by n m k (p ∷ ps) b c bn t ec h l =
+    let m₁ : List ℕ = freed n m k c in
+    let same-records : (i : ℕ) → i < 4 * n + k → at m₁ i ≡ at m i = λ i j. getD-set-other m (4 * n + k) i c 0 (λ z. omega (arith, z)) in
+    let l₁ : length m₁ ≡ length m = length-set m (4 * n + k) c in
+    let r =
+    released-by n m₁ (k + 1) ps b (afterOf m c) bn (trail-same n m m₁ (λ i j. same-records i (omega arith)) b bn ps (t .1))
+    (ap (afterOf m) ec ∙ t .0 .fore) (omega (arith, h)) (omega (arith, l, l₁)) in
+    let e : k + suc (length ps) ≡ k + 1 + length ps = omega arith in
+    record {
+      lengths = r .lengths ∙ l₁;
+      records = λ i j. r .records i (omega arith) ∙ same-records i j;
+      rest = λ i j. r .rest i j ∙ getD-set-other m (4 * n + k) i c 0 (λ z. omega (arith, z, h));
+      all = λ x. rw e (omega (arith, r .all x, stacked-freed n x m k c (omega (arith, h, l)), ap (same x) ec));
+    }
+
+-- the loop of the places ps, from the current one round to b, has ended, and ws are the others
+pub record Ended (n : ℕ) (h : Held) (m : List ℕ) (ws : List Ring) : Type 0 where
+  pub lengths : length (h .memory) ≡ length m
+  pub rest : (i : ℕ) → 5 * n ≤ i → at (h .memory) i ≡ at m i
+  pub stands : StandsAt n (h .loops) (h .memory) ws
+  pub vertices : verticesOf n (h .memory) ≡ verticesOf n m
+
+module _ (n : ℕ) (s : Loops) (m : List ℕ) (ps : List Node) (b : ℕ) (long : 5 * n + 2 * s .live ≤ length m) (bn : b < n) (t : Trail n m ps b)
+    (ec : s .current ≡ startOr b ps) (es : s .size ≡ length ps) (fits : s .free + length ps ≤ n) where
+  left : List ℕ
+  left = released n m (s .free) (s .size) (s .current)
+
+  gone : Released n m (s .free) ps b left
+  unfolding left
+  gone =
+      subst (λ (k : ℕ). Released n m (s .free) ps b (released n m (s .free) k (s .current))) (sym es)
+      (released-by n m (s .free) ps b (s .current) bn t ec fits (omega arith))
+
+  pub ended : (ws : List Ring) → s .live ≡ suc (length ws) → Waits n m ws → AllSound ws
+      → ((x : ℕ) → pathSum (λ p q o. same x p) ps b + placed x ws + stacked n m (s .free) x ≡ num (ltb x n))
+      → Holds (linksOf n m) ws → Ended n (endedHeld n s m) m ws
+  unfolding endedHeld left
+  ended [] el waiting sound each holds =
+      let f : leb (s .live) 1 ≡ true = le-leb (s .live) 1 (omega (arith, el)) in
+      let e : s .free + s .size ≡ s .free + length ps = omega (arith, es) in
+      rw f
+      (record {
+        lengths = gone .lengths;
+        rest = gone .rest;
+        stands = record {
+          long = omega (arith, gone .lengths);
+          holds =
+              subst (λ (M : Memory). Holds M []) (sym (same-links n m left (λ i j. gone .records i (omega arith)))) holds;
+          each = λ x. rw e (omega (arith, gone .all x, each x));
+          heads = refl;
+          sound = tt;
+        };
+        vertices = same-vertices n m left (λ i j. gone .records i (omega arith));
+      })
+  ended (w ∷ ws) el waiting sound each holds =
+      let f : leb (s .live) 1 ≡ false = lt-leb (s .live) 1 (omega (arith, el)) in
+      let e : s .free + s .size ≡ s .free + length ps = omega (arith, es) in
+      let d : s .live - 2 ≡ length ws = omega (arith, el) in
+      rw f
+      (record {
+        lengths = gone .lengths;
+        rest = gone .rest;
+        stands = record {
+          long = omega (arith, gone .lengths);
+          holds =
+              subst (λ (M : Memory). Holds M (w ∷ ws)) (sym (same-links n m left (λ i j. gone .records i (omega arith)))) holds;
+          each = λ x. rw e (omega (arith, gone .all x, each x));
+          heads = record {
+            live = omega (arith, el);
+            current = ap (λ (k : ℕ). at m (5 * n + 2 * k)) d ∙ waiting .0;
+            size = ap (λ (k : ℕ). at m (5 * n + 2 * k + 1)) d ∙ waiting .1;
+            waiting = waits-same n m left (gone .rest) ws (waiting .2);
+          };
+          sound = sound;
+        };
+        vertices = same-vertices n m left (λ i j. gone .records i (omega arith));
+      })
+
+has-same : (vs vs′ : List ℕ) (rs : List Ring) (E : Effect) → vs ≡ vs′ → HasLoops (namedLoops vs′ rs) E → HasLoops (namedLoops vs rs) E
+has-same vs vs′ rs E e h = subst (λ (v : List ℕ). HasLoops (namedLoops v rs) E) (sym e) h
+
+module _ (n : ℕ) (s : Loops) (m : List ℕ) (u e : ℕ) (f g : Node) (ps : List Node) (ws : List Ring)
+    (st : StandsAt n s m ((opened e ∷ (f ∷ (g ∷ ps))) ∷ ws)) where
+  ring : Trail n m (opened e ∷ (f ∷ (g ∷ ps))) e
+  ring = trails n s m ((opened e ∷ (f ∷ (g ∷ ps))) ∷ ws) st .0
+
+  enough : s .free + length (opened e ∷ (f ∷ (g ∷ ps))) ≤ n
+  unfolding places
+  enough = omega (arith, room n s m ((opened e ∷ (f ∷ (g ∷ ps))) ∷ ws) st)
+
+  whole : (x : ℕ) → pathSum (λ p q o. same x p) (opened e ∷ (f ∷ (g ∷ ps))) e + placed x ws + stacked n m (s .free) x ≡ num (ltb x n)
+  unfolding loopsSum ringSum
+  whole x = omega (arith, st .each x)
+
+  pub moved-close : Goes (effectAt Close u n m e (f ∷ (g ∷ ps)) ws) → Moved n s m (endedHeld n s m) (effectAt Close u n m e (f ∷ (g ∷ ps)) ws)
+  unfolding stores verticesAfter placesAfter stored
+  moved-close goes =
+      let r = relinked Close n s m u 0 e f g ps ws st goes (λ t. absurd t) m refl refl in
+      let d =
+      ended n s m (opened e ∷ (f ∷ (g ∷ ps))) e (st .long) (ring .0 .near) ring (st .heads .current) (st .heads .size) enough ws (st .heads .live)
+      (st .heads .waiting) (r .sound) whole (r .holds) in
+      record {
+        rings = ws;
+        lengths = d .lengths;
+        rest = λ i h. d .rest i (omega arith);
+        stands = d .stands;
+        loops = has-same (verticesOf n (endedHeld n s m .memory)) (verticesOf n m) ws (effectAt Close u n m e (f ∷ (g ∷ ps)) ws) (d .vertices) (r .loops);
+      }
+
+-- where the ring goes on after its first edge is marked
+data Way (m : List ℕ) (b : ℕ) (back ps : List Node) : Type 0 where
+  on : (v : ℕ) (qs : List Node) → onward back ps ≡ opened v ∷ qs → sought m (length ps) (startOr b ps) ≡ v → openOf m v ≡ 1
+      → length (opened v ∷ qs) ≡ length back + length ps → ((w : Weight) → ringSum w (opened v ∷ qs) ≡ ringSum w (back ++ ps)) → Way m b back ps
+  off : onward back ps ≡ [] → sought m (length ps) (startOr b ps) ≡ b → Way m b back ps
+
+sought-open : (m : List ℕ) (k v : ℕ) → openOf m v ≡ 1 → sought m (suc k) v ≡ v
+unfolding sought
+sought-open m k v h = subst (λ (x : ℕ). elim (eqb x 0) [ true ↦ sought m k (afterOf m v) | false ↦ v ] ≡ v) (sym h) refl
+
+sought-marked : (m : List ℕ) (k v : ℕ) → openOf m v ≡ 0 → sought m (suc k) v ≡ sought m k (afterOf m v)
+unfolding sought
+sought-marked m k v h = subst (λ (x : ℕ). elim (eqb x 0) [ true ↦ sought m k (afterOf m v) | false ↦ v ] ≡ sought m k (afterOf m v)) (sym h) refl
+
+way : (n : ℕ) (m : List ℕ) (b : ℕ) (back ps : List Node) → Trail n m ps b → Way m b back ps
+unfolding onward
+way n m b back [] t = off refl (unfold sought in refl)
+way n m b back (opened v ∷ ps) t =
+    on v (ps ++ back) refl (sought-open m (length ps) v (t .0 .mark)) (t .0 .mark) (simp length-append (omega arith)) (λ w. sum-turn w (opened v ∷ ps) back)
+way n m b back (marked v ∷ ps) t = go (way n m b (back ++ (marked v ∷ [])) ps (t .1))
+  where
+    step : sought m (suc (length ps)) v ≡ sought m (length ps) (startOr b ps)
+    step = sought-marked m (length ps) v (t .0 .mark) ∙ ap (sought m (length ps)) (t .0 .fore)
+
+    go : Way m b (back ++ (marked v ∷ [])) ps → Way m b back (marked v ∷ ps)
+    go (on x qs e f o l w) =
+        on x qs e (step ∙ f) o (l ∙ simp length-append (omega arith)) (λ k. w k ∙ ap (ringSum k) (append-assoc back (marked v ∷ []) ps))
+    go (off e f) = off e (step ∙ f)
+
+marking-goes : (r : Ring) (ws : List Ring) (d : Edge) → Goes (marking r ws d)
+marking-goes [] ws d = tt
+marking-goes (p ∷ r) ws d = tt
+
+module _ (n : ℕ) (s : Loops) (m : List ℕ) (u e : ℕ) (f g : Node) (ps : List Node) (ws : List Ring)
+    (st : StandsAt n s m ((opened e ∷ (f ∷ (g ∷ ps))) ∷ ws)) where
+  pub goes-border : Goes (effectAt Border u n m e (f ∷ (g ∷ ps)) ws)
+  unfolding atEdge
+  goes-border =
+      marking-goes (onward [] (namedRing (verticesOf n m) (f ∷ (g ∷ ps)) ++ (marked (getD (verticesOf n m) e 0) ∷ []))) (namedLoops (verticesOf n m) ws)
+      (edge (getD (verticesOf n m) e 0) (startOr (getD (verticesOf n m) e 0) (namedRing (verticesOf n m) (f ∷ (g ∷ ps)))))
+
+  around : List Node
+  around = f ∷ ((g ∷ ps) ++ (marked e ∷ []))
+
+  marking-arcs : List Arc
+  marking-arcs = arc e (vertex f) false ∷ []
+
+  marked-memory : List ℕ
+  marked-memory = edgesStored marking-arcs m
+
+  long₄ : 4 * n ≤ length m
+  long₄ = omega (arith, st .long)
+
+  made : EdgesStored n m marking-arcs
+  unfolding marking-arcs
+  made = edges-stored n m marking-arcs long₄ (ring n s m u e f g ps ws st .0 .near, ring n s m u e f g ps ws st .1 .0 .near, tt)
+
+  around-placed : (x : ℕ) → placed x (around ∷ ws) ≡ placed x ((opened e ∷ (f ∷ (g ∷ ps))) ∷ ws)
+  unfolding around loopsSum ringSum pathSum
+  around-placed x = omega (arith, sum-append (λ p r o. same x p) (f ∷ (g ∷ ps)) (marked e ∷ []) (vertex f))
+
+  around-trail : Trail n marked-memory around (vertex f)
+  unfolding marked-memory marking-arcs around
+  around-trail =
+      trails-by n marked-memory (around ∷ ws) (λ x h. below n s m ((opened e ∷ (f ∷ (g ∷ ps))) ∷ ws) st x (omega (arith, around-placed x)))
+      (subst (λ (M : Memory). Holds M (around ∷ ws)) (sym (made .links))
+      (do-mark n (linksOf n m) (links-long n m) ws e f (g ∷ ps) (apart n s m ((opened e ∷ (f ∷ (g ∷ ps))) ∷ ws) st)
+      (ring n s m u e f g ps ws st .0 .near) (ring n s m u e f g ps ws st .1 .0 .near) (st .holds) .holds)) .0
+
+  linked : Relinked n marked-memory (alive (onward [] around) ws) (effectAt Border u n m e (f ∷ (g ∷ ps)) ws)
+  unfolding marked-memory marking-arcs around stores verticesAfter placesAfter
+  linked = relinked Border n s m u 0 e f g ps ws st goes-border (λ t. absurd t) marked-memory (made .links) (made .vertices)
+
+  around-length : s .size ≡ length around
+  unfolding around
+  around-length = simp length-append (omega (arith, st .heads .size))
+
+  marked-held : markedHeld n s m
+      ≡ turnedBy (eqb (openOf marked-memory (sought marked-memory (length around) (vertex f))) 0) n s marked-memory (sought marked-memory (length around) (vertex f))
+  unfolding markedHeld marked-memory marking-arcs
+  marked-held =
+      let at-edge : ℕ → ℕ → ℕ → Held =
+      λ c x k.
+      turnedBy (eqb (openOf (edgesStored (arc c x false ∷ []) m) (sought (edgesStored (arc c x false ∷ []) m) k x)) 0) n s (edgesStored (arc c x false ∷ []) m)
+      (sought (edgesStored (arc c x false ∷ []) m) k x) in
+      let a : s .current ≡ e = st .heads .current in
+      let b : afterOf m e ≡ vertex f = ring n s m u e f g ps ws st .0 .fore in
+      ap (λ (c : ℕ). at-edge c (afterOf m c) (s .size)) a ∙ ap (λ (x : ℕ). at-edge e x (s .size)) b ∙ ap (at-edge e (vertex f)) around-length
+
+  above : (i : ℕ) → 4 * n ≤ i → at marked-memory i ≡ at m i
+  unfolding marked-memory
+  above i h = made .above i h
+
+  same-long : length marked-memory ≡ length m
+  unfolding marked-memory
+  same-long = made .lengths
+
+  goes-on : (v : ℕ) (qs : List Node) → onward [] around ≡ opened v ∷ qs → length (opened v ∷ qs) ≡ length around
+      → ((w : Weight) → ringSum w (opened v ∷ qs) ≡ ringSum w around)
+      → Moved n s m (held (s .live) v (s .size) (s .free) marked-memory) (effectAt Border u n m e (f ∷ (g ∷ ps)) ws)
+  unfolding loopsSum
+  goes-on v qs eo el sums =
+      let l = subst (λ (r : Ring). Relinked n marked-memory (alive r ws) (effectAt Border u n m e (f ∷ (g ∷ ps)) ws)) eo linked in
+      record {
+        rings = (opened v ∷ qs) ∷ ws;
+        lengths = same-long;
+        rest = λ i h. above i (omega arith);
+        stands = record {
+          long = omega (arith, st .long, same-long);
+          holds = l .holds;
+          each = λ x.
+              omega (
+                arith,
+                st .each x,
+                around-placed x,
+                sums (λ p q o. same x p),
+                stacked-same n x m marked-memory (s .free) (λ i h. above (4 * n + i) (omega arith)),
+              );
+          heads = record {
+            live = st .heads .live;
+            current = refl;
+            size = around-length ∙ sym el;
+            waiting = waits-same n m marked-memory (λ i h. above i (omega arith)) ws (st .heads .waiting);
+          };
+          sound = l .sound;
+        };
+        loops = l .loops;
+      }
+
+  turned-trail : Trail n marked-memory (marked e ∷ (f ∷ (g ∷ ps))) e
+  unfolding around
+  turned-trail =
+      let r = trail-append n marked-memory (vertex f) (f ∷ (g ∷ ps)) (marked e ∷ []) around-trail in
+      (r .1 .0, r .0)
+
+  goes-off : onward [] around ≡ [] → Moved n s m (endedHeld n s marked-memory) (effectAt Border u n m e (f ∷ (g ∷ ps)) ws)
+  unfolding pathSum
+  goes-off eo =
+      let l = subst (λ (r : Ring). Relinked n marked-memory (alive r ws) (effectAt Border u n m e (f ∷ (g ∷ ps)) ws)) eo linked in
+      let d =
+      ended n s marked-memory (marked e ∷ (f ∷ (g ∷ ps))) e (omega (arith, st .long, same-long)) (ring n s m u e f g ps ws st .0 .near) turned-trail
+      (st .heads .current) (st .heads .size) (enough n s m u e f g ps ws st) ws (st .heads .live)
+      (waits-same n m marked-memory (λ i h. above i (omega arith)) ws (st .heads .waiting)) (l .sound)
+      (λ x. omega (arith, whole n s m u e f g ps ws st x, stacked-same n x m marked-memory (s .free) (λ i h. above (4 * n + i) (omega arith)))) (l .holds) in
+      record {
+        rings = ws;
+        lengths = d .lengths ∙ same-long;
+        rest = λ i h. d .rest i (omega arith) ∙ above i (omega arith);
+        stands = d .stands;
+        loops =
+            has-same (verticesOf n (endedHeld n s marked-memory .memory)) (verticesOf n marked-memory) ws (effectAt Border u n m e (f ∷ (g ∷ ps)) ws) (d .vertices) (l .loops);
+      }
+
+  f-marked : onward [] around ≡ [] → openOf marked-memory (vertex f) ≡ 0
+  unfolding around
+  f-marked eo = around-trail .0 .mark ∙ ap num (closed f eo)
+    where
+      closed : (p : Node) → onward [] (p ∷ ((g ∷ ps) ++ (marked e ∷ []))) ≡ [] → isOpen p ≡ false
+      closed (marked v) h = refl
+      closed (opened v) h = absurd (unfold onward in omega (arith, ap {B = ℕ} length h))
+
+  turns : Way marked-memory (vertex f) [] around
+      → Moved n s m (turnedBy (eqb (openOf marked-memory (sought marked-memory (length around) (vertex f))) 0) n s marked-memory (sought marked-memory (length around) (vertex f)))
+      (effectAt Border u n m e (f ∷ (g ∷ ps)) ws)
+  unfolding around
+  turns (on v qs eo es ov el sums) =
+      subst (λ (p : ℕ). Moved n s m (turnedBy (eqb (openOf marked-memory p) 0) n s marked-memory p) (effectAt Border u n m e (f ∷ (g ∷ ps)) ws)) (sym es)
+      (subst (λ (t : ℕ). Moved n s m (turnedBy (eqb t 0) n s marked-memory v) (effectAt Border u n m e (f ∷ (g ∷ ps)) ws)) (sym ov)
+      (goes-on v qs eo (omega (arith, el)) sums))
+  turns (off eo es) =
+      subst (λ (p : ℕ). Moved n s m (turnedBy (eqb (openOf marked-memory p) 0) n s marked-memory p) (effectAt Border u n m e (f ∷ (g ∷ ps)) ws)) (sym es)
+      (subst (λ (t : ℕ). Moved n s m (turnedBy (eqb t 0) n s marked-memory (vertex f)) (effectAt Border u n m e (f ∷ (g ∷ ps)) ws)) (sym (f-marked eo)) (goes-off eo))
+
+  pub moved-border : Moved n s m (markedHeld n s m) (effectAt Border u n m e (f ∷ (g ∷ ps)) ws)
+  moved-border =
+      subst (λ (h : Held). Moved n s m h (effectAt Border u n m e (f ∷ (g ∷ ps)) ws)) (sym marked-held)
+      (turns (way n marked-memory (vertex f) [] around around-trail))

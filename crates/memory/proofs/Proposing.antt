@@ -1,0 +1,236 @@
+-- What is proposed is what the table of operations says, and the plan leads to the table's loops.
+-- Assumes nothing.
+use Prim.Native.Nat.{ℕ, suc, _+_, _*_, _≤_, _<_}
+use native.Mathlib.Omega.{arith}
+use mathlib.Core.Bool.{Bool, true, false, _&&_, false≢true}
+use mathlib.Core.List.{List, [], _∷_, _++_}
+use mathlib.Core.Path.{_≡_, refl, sym, ap, ap₂, _∙_}
+use lib.ListN.{length, getD}
+use lib.Dec.{eqb, leb}
+use Rattle.rules.specs.declared.Triangle.{Triangle}
+use Rattle.rules.specs.declared.Operation.{Operation}
+use Rattle.rules.specs.declared.Operation.the-variants.{New, Forward, Backward, Border}
+use Rattle.rules.specs.Triangle.{tri, Edge, edge}
+use Rattle.rules.specs.Count.{num}
+use Rattle.rules.specs.Ring.{Node, opened, marked, Ring, vertex, isOpen, firstOpen, allOpen, startOr, vertexAt, lastOpen, lastVertex, onward, places}
+use Rattle.rules.specs.Table.{Side, glued, fresh, Effect, not-allowed, builds, marks, allowed, marking, atEdge}
+use Rattle.rules.specs.Machine.{freshSides}
+use Rattle.book.proofs.Effects as effects
+use Rattle.links.specs.Memory.{namedRing, namedLoops}
+use Rattle.links.proofs.Named.{named-length, named-start, named-at, named-last, named-lastOpen, named-firstOpen}
+use Rattle.memory.specs.declared.Loops.{Loops}
+use Rattle.memory.specs.declared.Front.{Front}
+use Rattle.memory.specs.declared.Plan.{Plan}
+use Rattle.memory.specs.declared.Decided.{Decided}
+use Rattle.memory.specs.declared.Decided.the-variants.{Refused, Builds, Marks}
+use Rattle.memory.specs.Layout.{at, vertexOf, beforeOf, afterOf, verticesOf}
+use Rattle.memory.specs.Stands.{StandsAt}
+use Rattle.memory.specs.Moves.{Held, markedHeld}
+use Rattle.memory.specs.Decision.{isOpenAt, allowedIf, planAt, newPlan, forwardPlan, backwardPlan, borderPlan, heldAfter}
+use Rattle.memory.proofs.Columns.{column-at}
+use Rattle.memory.proofs.Standing.{Trail, trails, last-trail}
+use Rattle.memory.proofs.Room.{room}
+use Rattle.memory.proofs.Relinked.{Goes, Moved, effectAt, law}
+use Rattle.memory.proofs.Simple.{moved-new, moved-forward, moved-backward}
+use Rattle.memory.proofs.Ended.{moved-border}
+use Rattle.memory.proofs.Counts.{places-named, places-after}
+
+-- a plan's numbers are an effect's
+pub record PlanIs (p : Plan) (t : Triangle) (x y z : Side) (v a k : ℕ) : Type 0 where
+  pub triangle : p .triangle ≡ t
+  pub pq : p .pq ≡ freshSides x
+  pub qr : p .qr ≡ freshSides y
+  pub rp : p .rp ≡ freshSides z
+  pub vertices : p .vertices ≡ v
+  pub starts : p .starts ≡ a
+  pub unions : p .unions ≡ k
+
+pub record Proposal (n : ℕ) (s : Front) (m : List ℕ) (o : Operation) (d : Decided) (ls : List Ring) (t : Triangle) (pq qr rp : Side) (v a k : ℕ) : Type 0 where
+  pub plan : Plan
+  pub is : d ≡ Builds plan
+  pub same : PlanIs plan t pq qr rp v a k
+  pub moves : places ls ≤ n → 5 * n + 2 * length ls ≤ length m → Moved n (s .loops) m (heldAfter n s m o plan) (builds ls t pq qr rp v a k)
+
+pub record MarkProposal (n : ℕ) (s : Front) (m : List ℕ) (d : Decided) (ls : List Ring) (x : Edge) (rim : ℕ) : Type 0 where
+  pub is : d ≡ Marks (x .from) (x .to)
+  pub moves : Moved n (s .loops) m (markedHeld n (s .loops) m) (marks ls x rim)
+
+abbrev pub Proposes : ℕ → Front → List ℕ → Operation → Decided → Effect → Type 0
+Proposes n s m o d not-allowed = d ≡ Refused 16
+Proposes n s m o d (builds ls t pq qr rp v a k) = Proposal n s m o d ls t pq qr rp v a k
+Proposes n s m o d (marks ls x rim) = MarkProposal n s m d ls x rim
+
+-- an operation that is allowed under a test
+pub allowed-proposes : (n : ℕ) (s : Front) (m : List ℕ) (o : Operation) (t t′ : Bool) (d : Decided) (E : Effect) → t′ ≡ t
+    → (t ≡ true → Proposes n s m o d E) → Proposes n s m o (allowedIf t′ d) (allowed t E)
+unfolding allowed allowedIf
+allowed-proposes n s m o true t′ d E e f = rw e (f refl)
+allowed-proposes n s m o false t′ d E e f = rw e
+
+pub two-tests : (a b : Bool) (d : Decided) → allowedIf a (allowedIf b d) ≡ allowedIf (a && b) d
+unfolding allowedIf
+two-tests true b d = refl
+two-tests false b d = refl
+
+pub allowed-moved : (n : ℕ) (l : Loops) (m : List ℕ) (h : Held) (t : Bool) (B : Effect) → t ≡ true → Goes B → (Goes (allowed t B) → Moved n l m h (allowed t B))
+    → Moved n l m h B
+unfolding allowed
+allowed-moved n l m h true B e g f = f g
+allowed-moved n l m h false B e g f = absurd (false≢true e)
+
+pub allowed-law : (u : ℕ) (before : List Ring) (t : Bool) (B : Effect) → t ≡ true → effects.Law u before (allowed t B) → effects.Law u before B
+unfolding allowed
+allowed-law u before true B e l = l
+allowed-law u before false B e l = absurd (false≢true e)
+
+pub one-open : (b : Bool) → eqb (num b) 1 ≡ b
+one-open true = refl
+one-open false = refl
+
+module _ (n : ℕ) (s : Front) (m : List ℕ) (e : ℕ) (f g : Node) (ps : List Node) (ws : List Ring)
+    (st : StandsAt n (s .loops) m ((opened e ∷ (f ∷ (g ∷ ps))) ∷ ws)) where
+  vs : List ℕ
+  vs = verticesOf n m
+
+  pub ring : Trail n m (opened e ∷ (f ∷ (g ∷ ps))) e
+  ring = trails n (s .loops) m ((opened e ∷ (f ∷ (g ∷ ps))) ∷ ws) st .0
+
+  pub name : (x : ℕ) → x < n → vertexOf m x ≡ getD (verticesOf n m) x 0
+  name x h = let z : 4 * x ≡ 4 * x + 0 = omega arith in ap (at m) z ∙ sym (column-at m 0 n x h)
+
+  pub at-e : s .loops .current ≡ e
+  at-e = st .heads .current
+
+  pub at-f : afterOf m (s .loops .current) ≡ vertex f
+  at-f = ap (afterOf m) at-e ∙ ring .0 .fore
+
+  pub at-g : afterOf m (afterOf m (s .loops .current)) ≡ vertex g
+  at-g = ap (afterOf m) at-f ∙ ring .1 .0 .fore
+
+  name-a : vertexOf m (s .loops .current) ≡ getD (verticesOf n m) e 0
+  name-a = ap (vertexOf m) at-e ∙ name e (ring .0 .near)
+
+  name-b : vertexOf m (afterOf m (s .loops .current)) ≡ startOr (getD (verticesOf n m) e 0) (namedRing (verticesOf n m) (f ∷ (g ∷ ps)))
+  name-b = ap (vertexOf m) at-f ∙ name (vertex f) (ring .1 .0 .near) ∙ sym (named-start (verticesOf n m) e (f ∷ (g ∷ ps)))
+
+  pub size-is : s .loops .size ≡ suc (length (namedRing (verticesOf n m) (f ∷ (g ∷ ps))))
+  size-is = st .heads .size ∙ ap suc (sym (named-length (verticesOf n m) (f ∷ (g ∷ ps))))
+
+  -- the triangle b a c
+  pub corners : (c c′ : ℕ) → c ≡ c′
+      → tri (vertexOf m (afterOf m (s .loops .current))) (vertexOf m (s .loops .current)) c
+      ≡ tri (startOr (getD (verticesOf n m) e 0) (namedRing (verticesOf n m) (f ∷ (g ∷ ps)))) (getD (verticesOf n m) e 0) c′
+  corners c c′ h = rw (name-b, name-a, h)
+
+  -- an operation with two new edges finds a free place
+  pub some-free : (u : ℕ) (ls : List Ring) (t : Triangle) (v a k : ℕ)
+      → effects.Builds u (namedLoops (verticesOf n m) ((opened e ∷ (f ∷ (g ∷ ps))) ∷ ws)) ls t glued fresh fresh v a k → places ls ≤ n → 1 ≤ s .loops .free
+  some-free u ls t v a k b h =
+      omega (
+        arith,
+        h,
+        places-after u (namedLoops (verticesOf n m) ((opened e ∷ (f ∷ (g ∷ ps))) ∷ ws)) ls t glued fresh fresh v a k b,
+        places-named (verticesOf n m) ((opened e ∷ (f ∷ (g ∷ ps))) ∷ ws),
+        room n (s .loops) m ((opened e ∷ (f ∷ (g ∷ ps))) ∷ ws) st,
+      )
+
+  pub propose-new : Proposes n s m New (newPlan (s .loops) m (s .used)) (effectAt New (s .used) n m e (f ∷ (g ∷ ps)) ws)
+  unfolding newPlan atEdge
+  propose-new = record {
+    plan = planAt (s .loops) m (s .used) 1 1 1 0 0;
+    is = refl;
+    same = record { triangle = corners (s .used) (s .used) refl; pq = refl; qr = refl; rp = refl; vertices = refl; starts = refl; unions = refl };
+    moves = λ h k.
+        moved-new n (s .loops) m (s .used) e f g ps ws st tt (some-free (s .used) _ _ 1 0 0 (law New n (s .loops) m (s .used) 0 e f g ps ws st tt) h);
+  }
+
+  pub open-f : isOpenAt m (afterOf m (s .loops .current)) ≡ firstOpen (namedRing (verticesOf n m) (f ∷ (g ∷ ps)))
+  open-f =
+      ap (isOpenAt m) at-f ∙ ap (λ (x : ℕ). eqb x 1) (ring .1 .0 .mark) ∙ one-open (isOpen f) ∙ sym (named-firstOpen (verticesOf n m) (f ∷ (g ∷ ps)))
+
+  pub name-c : vertexOf m (afterOf m (afterOf m (s .loops .current))) ≡ vertexAt (namedRing (verticesOf n m) (f ∷ (g ∷ ps))) 1
+  unfolding vertexAt
+  name-c = ap (vertexOf m) at-g ∙ name (vertex g) (ring .1 .1 .0 .near) ∙ sym (named-at (verticesOf n m) (f ∷ (g ∷ ps)) 1 (omega arith))
+
+  pub propose-forward : Proposes n s m Forward (forwardPlan (s .loops) m) (effectAt Forward (s .used) n m e (f ∷ (g ∷ ps)) ws)
+  unfolding forwardPlan atEdge
+  propose-forward =
+      let p : Plan = planAt (s .loops) m (vertexOf m (afterOf m (afterOf m (s .loops .current)))) 1 0 0 0 0 in
+      let t : Bool = leb 4 (suc (length (namedRing (verticesOf n m) (f ∷ (g ∷ ps))))) && firstOpen (namedRing (verticesOf n m) (f ∷ (g ∷ ps))) in
+      let t′ : Bool = leb 4 (s .loops .size) && isOpenAt m (afterOf m (s .loops .current)) in
+      rw (two-tests (leb 4 (s .loops .size)) (isOpenAt m (afterOf m (s .loops .current))) (Builds p))
+      (allowed-proposes n s m Forward t t′ (Builds p) _ (ap₂ _&&_ (ap (leb 4) size-is) open-f)
+      (λ h. record {
+        plan = p;
+        is = refl;
+        same = record { triangle = corners _ _ name-c; pq = refl; qr = refl; rp = refl; vertices = refl; starts = refl; unions = refl };
+        moves = λ i k.
+            allowed-moved n (s .loops) m (heldAfter n s m Forward p) t _ h tt (moved-forward n (s .loops) m (s .used) e f g ps ws st);
+      }))
+
+  at-last : beforeOf m (s .loops .current) ≡ lastVertex (f ∷ (g ∷ ps))
+  at-last = ap (beforeOf m) at-e ∙ last-trail n m e f (g ∷ ps) (ring .1) .back
+
+  open-last : isOpenAt m (beforeOf m (s .loops .current)) ≡ lastOpen (namedRing (verticesOf n m) (f ∷ (g ∷ ps)))
+  open-last =
+      ap (isOpenAt m) at-last ∙ ap (λ (x : ℕ). eqb x 1) (last-trail n m e f (g ∷ ps) (ring .1) .mark) ∙ one-open (lastOpen (f ∷ (g ∷ ps)))
+      ∙ sym (named-lastOpen (verticesOf n m) (f ∷ (g ∷ ps)))
+
+  name-last : vertexOf m (beforeOf m (s .loops .current)) ≡ lastVertex (namedRing (verticesOf n m) (f ∷ (g ∷ ps)))
+  name-last =
+      ap (vertexOf m) at-last ∙ name (lastVertex (f ∷ (g ∷ ps))) (last-trail n m e f (g ∷ ps) (ring .1) .near)
+      ∙ sym (named-last (verticesOf n m) f (g ∷ ps))
+
+  pub propose-backward : Proposes n s m Backward (backwardPlan (s .loops) m) (effectAt Backward (s .used) n m e (f ∷ (g ∷ ps)) ws)
+  unfolding backwardPlan atEdge
+  propose-backward =
+      let p : Plan = planAt (s .loops) m (vertexOf m (beforeOf m (s .loops .current))) 0 1 0 0 0 in
+      let t : Bool = leb 4 (suc (length (namedRing (verticesOf n m) (f ∷ (g ∷ ps))))) && lastOpen (namedRing (verticesOf n m) (f ∷ (g ∷ ps))) in
+      let t′ : Bool = leb 4 (s .loops .size) && isOpenAt m (beforeOf m (s .loops .current)) in
+      rw (two-tests (leb 4 (s .loops .size)) (isOpenAt m (beforeOf m (s .loops .current))) (Builds p))
+      (allowed-proposes n s m Backward t t′ (Builds p) _ (ap₂ _&&_ (ap (leb 4) size-is) open-last)
+      (λ h. record {
+        plan = p;
+        is = refl;
+        same = record { triangle = corners _ _ name-last; pq = refl; qr = refl; rp = refl; vertices = refl; starts = refl; unions = refl };
+        moves = λ i k.
+            allowed-moved n (s .loops) m (heldAfter n s m Backward p) t _ h tt (moved-backward n (s .loops) m (s .used) e f g ps ws st);
+      }))
+
+  marking-proposes : (r : Ring) (rs : List Ring) (x : Edge) (d : Decided) → d ≡ Marks (x .from) (x .to)
+      → Moved n (s .loops) m (markedHeld n (s .loops) m) (marking r rs x) → Proposes n s m Border d (marking r rs x)
+  marking-proposes [] rs x d i h = record { is = i; moves = h }
+  marking-proposes (p ∷ r) rs x d i h = record { is = i; moves = h }
+
+  pub propose-border : Proposes n s m Border (borderPlan (s .loops) m) (effectAt Border (s .used) n m e (f ∷ (g ∷ ps)) ws)
+  unfolding borderPlan atEdge
+  propose-border =
+      marking-proposes (onward [] (namedRing (verticesOf n m) (f ∷ (g ∷ ps)) ++ (marked (getD (verticesOf n m) e 0) ∷ []))) (namedLoops (verticesOf n m) ws)
+      (edge (getD (verticesOf n m) e 0) (startOr (getD (verticesOf n m) e 0) (namedRing (verticesOf n m) (f ∷ (g ∷ ps)))))
+      (Marks (vertexOf m (s .loops .current)) (vertexOf m (afterOf m (s .loops .current)))) (ap₂ Marks name-a name-b)
+      (moved-border n (s .loops) m (s .used) e f g ps ws st)
+
+pub three-tests : (a b c : Bool) (d : Decided) → allowedIf a (allowedIf b (allowedIf c d)) ≡ allowedIf (a && b && c) d
+unfolding allowedIf
+three-tests true true c d = refl
+three-tests true false c d = refl
+three-tests false b c d = refl
+
+pub and-cong : (a b a′ b′ : Bool) → a ≡ a′ → (a′ ≡ true → b ≡ b′) → a && b ≡ a′ && b′
+and-cong a b true b′ e f = ap₂ _&&_ e (f refl)
+and-cong a b false b′ e f = rw e
+
+pub both-open : (f g : Node) → isOpen f && isOpen g ≡ allOpen (f ∷ (g ∷ []))
+unfolding allOpen
+both-open (opened x) (opened y) = refl
+both-open (opened x) (marked y) = refl
+both-open (marked x) g = refl
+
+pub start-any : (b c : ℕ) (w : Ring) → 1 ≤ length w → startOr b w ≡ startOr c w
+start-any b c [] h = absurd (omega arith)
+start-any b c (p ∷ w) h = refl
+
+pub allowed-goes : (t : Bool) (B : Effect) → t ≡ true → Goes B → Goes (allowed t B)
+unfolding allowed
+allowed-goes true B e g = g
+allowed-goes false B e g = absurd (false≢true e)

@@ -1,0 +1,68 @@
+-- What a state that is ready gives each function of the core.
+-- Assumes nothing.
+use Prim.Native.Nat.{ℕ, _≤_}
+use native.Mathlib.Omega.{arith}
+use mathlib.Core.Bool.{true, _&&_}
+use mathlib.Core.List.{List}
+use mathlib.Core.Path.{_≡_, ap}
+use lib.ListN.{length}
+use lib.Dec.{leb}
+use borrow.Author.Tests.{leb-true}
+use Rattle.rules.specs.declared.Counts.{Counts}
+use Rattle.rules.specs.Limits.{inRange, vertexRange, between, minVertices, maxVertices, minPlaces, maxPlaces, maxTriangles, maxLoops}
+use Rattle.rules.specs.Machine.{Machine}
+use Rattle.book.specs.Consistent.{Ranges}
+use Rattle.book.proofs.Counting.{and-left, and-right}
+use Rattle.memory.specs.declared.Front.{Front}
+use Rattle.memory.specs.Stands.{ringsIn}
+use Rattle.memory.specs.Near.{Near}
+use Rattle.memory.specs.Keeps.{Keeps, Ready}
+use Rattle.memory.proofs.Room.{room}
+use Rattle.memory.proofs.Near.{near}
+
+pub ready-near : (n : ℕ) (s : Front) (m : List ℕ) → Ready n s m → (s .loops .live ≡ 0 → ⊥) → Near n (s .loops) m
+ready-near n s m r h = near n (s .loops) m (r .roomy .few) (ringsIn n (s .loops) m) (r .stands) (omega (arith, h))
+
+pub ready-free : (n : ℕ) (s : Front) (m : List ℕ) → Ready n s m → (s .loops .free ≤ n) × (n ≤ 1024)
+ready-free n s m r = (omega (arith, room n (s .loops) m (ringsIn n (s .loops) m) (r .stands)), r .roomy .few)
+
+-- the counts stated are in range
+record InRange (s : Counts) : Type 0 where
+  vertices : s .vertices ≤ 4096
+  triangles : s .triangles ≤ 8192
+  loops : s .loops ≤ 100
+
+in-range : (s : Counts) → inRange s ≡ true → InRange s
+in-range s h =
+    let r1 = vertexRange (s .vertices) in
+    let r2 = between 1 (s .triangles) maxTriangles in
+    let r3 = between minPlaces (s .places) maxPlaces in
+    let h3 = and-left (r1 && r2 && r3) _ h in
+    let h2 = and-left (r1 && r2) r3 h3 in
+    record {
+      vertices = leb-true (s .vertices) maxVertices (and-right (leb minVertices (s .vertices)) _ (and-left r1 r2 h2));
+      triangles = leb-true (s .triangles) maxTriangles (and-right (leb 1 (s .triangles)) _ (and-right r1 r2 h2));
+      loops = leb-true (s .loops) maxLoops (and-right (leb 1 (s .loops)) _ (and-right (r1 && r2 && r3) _ h));
+    }
+
+-- a state that keeps a machine within 21's bounds is ready
+pub ready : (n : ℕ) (s : Front) (m : List ℕ) (M : Machine) → Keeps n s m M → Ranges M → Ready n s m
+ready n s m M k r =
+    let c = in-range (M .stated) (r .stated) in
+    let w12 = leb (M .used) (M .stated .vertices) && leb (length (M .triangles)) (M .stated .triangles) in
+    let h2 : w12 ≡ true = and-left w12 _ (and-left (w12 && _) _ (r .counts)) in
+    let v = leb-true (M .used) (M .stated .vertices) (and-left (leb (M .used) (M .stated .vertices)) _ h2) in
+    let t = leb-true (length (M .triangles)) (M .stated .triangles) (and-right (leb (M .used) (M .stated .vertices)) _ h2) in
+    record {
+      roomy = k .roomy;
+      stands = k .stands;
+      vertices = omega (arith, c .vertices, ap (λ (x : Counts). x .vertices) (k .stated));
+      triangles = omega (arith, c .triangles, ap (λ (x : Counts). x .triangles) (k .stated));
+      loops = omega (arith, c .loops, ap (λ (x : Counts). x .loops) (k .stated));
+      used = omega (arith, v, c .vertices, k .used);
+      built = omega (arith, t, c .triangles, k .triangles);
+      edges = omega (arith, r .edges, c .triangles, k .edges);
+      starts = omega (arith, r .starts, c .triangles, k .starts);
+      unions = omega (arith, r .unions, c .triangles, k .unions);
+      rims = omega (arith, r .rims, c .triangles, k .rims);
+    }

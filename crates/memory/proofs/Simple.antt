@@ -1,0 +1,231 @@
+-- New, forward and backward: the loops after them stand.
+-- Assumes nothing.
+use Prim.Native.Nat.{ℕ, _+_, _-_, _*_, _≤_, _<_}
+use native.Mathlib.Omega.{arith}
+use mathlib.Core.Bool.{true}
+use mathlib.Core.List.{List, [], _∷_}
+use mathlib.Core.Path.{_≡_, refl, sym, ap, _∙_, subst}
+use lib.ListN.{length, set, length-set, length-append}
+use lib.Seq.{getD-set-other}
+use Rattle.rules.specs.declared.Operation.{Operation}
+use Rattle.rules.specs.declared.Operation.the-variants.{New, Forward, Backward}
+use Rattle.rules.specs.Count.{same}
+use Rattle.rules.specs.Ring.{Node, opened, Ring, vertex, startOr, vertexAt, lastOpen, lastVertex, front, places}
+use Rattle.book.specs.Sums.{pathSum, ringSum, loopsSum}
+use Rattle.book.proofs.Sums.{sum-append, front-last, length-front}
+use Rattle.links.specs.Memory.{Arc, arc, placed, stored}
+use Rattle.links.specs.Stores.{placesAfter, stores, verticesAfter, Takes}
+use Rattle.memory.specs.declared.Loops.{Loops}
+use Rattle.memory.specs.Layout.{at, beforeOf, afterOf, verticesOf, edgesStored, freed}
+use Rattle.memory.specs.Stands.{StandsAt}
+use Rattle.memory.specs.Moves.{Held, held, topFree, newHeld, forwardHeld, backwardHeld}
+use Rattle.memory.proofs.Columns.{Near, EdgesStored, edges-stored, named-vertices, named-links, named-above, same-vertices, same-links}
+use Rattle.memory.proofs.Standing.{Trail, trails, last-trail, top-free}
+use Rattle.memory.proofs.Room.{room}
+use Rattle.memory.proofs.Relinked.{Goes, Moved, effectAt, Relinked, fit, relinked, stacked-same, stacked-top, stacked-freed, waits-same}
+
+module _ (n : ℕ) (s : Loops) (m : List ℕ) (u e : ℕ) (f g : Node) (ps : List Node) (ws : List Ring)
+    (st : StandsAt n s m ((opened e ∷ (f ∷ (g ∷ ps))) ∷ ws)) where
+  old : List Ring
+  old = (opened e ∷ (f ∷ (g ∷ ps))) ∷ ws
+
+  pub ring : Trail n m (opened e ∷ (f ∷ (g ∷ ps))) e
+  ring = trails n s m ((opened e ∷ (f ∷ (g ∷ ps))) ∷ ws) st .0
+
+  long : 4 * n ≤ length m
+  long = omega (arith, st .long)
+
+  placed-new : (q x : ℕ) → placed x (placesAfter New q e (f ∷ (g ∷ ps)) ws) ≡ placed x ((opened e ∷ (f ∷ (g ∷ ps))) ∷ ws) + same x q
+  unfolding placesAfter loopsSum ringSum pathSum
+  placed-new q x = omega (arith, sum-append (λ p r o. same x p) (f ∷ (g ∷ ps)) (opened e ∷ []) q)
+
+  placed-forward : (q x : ℕ) → placed x (placesAfter Forward q e (f ∷ (g ∷ ps)) ws) + same x (vertex f) ≡ placed x ((opened e ∷ (f ∷ (g ∷ ps))) ∷ ws)
+  unfolding placesAfter loopsSum ringSum pathSum
+  placed-forward q x = omega arith
+
+  placed-backward : (q x : ℕ) → lastOpen (g ∷ ps) ≡ true
+      → placed x (placesAfter Backward q e (f ∷ (g ∷ ps)) ws) + same x e ≡ placed x ((opened e ∷ (f ∷ (g ∷ ps))) ∷ ws)
+  unfolding placesAfter loopsSum ringSum pathSum lastVertex front
+  placed-backward q x k =
+      let l : ℕ = lastVertex (g ∷ ps) in
+      omega (
+        arith,
+        sum-append (λ p r o. same x p) (f ∷ front (g ∷ ps)) (opened l ∷ []) e,
+        ap (λ (y : List Node). pathSum (λ p r o. same x p) (f ∷ y) e) (front-last g ps k),
+      )
+
+  -- the place before e
+  before-e : beforeOf m e ≡ lastVertex (f ∷ (g ∷ ps))
+  before-e = last-trail n m e f (g ∷ ps) (ring .1) .back
+
+  last-near : lastVertex (f ∷ (g ∷ ps)) < n
+  last-near = last-trail n m e f (g ∷ ps) (ring .1) .near
+
+  forward-stores : forwardHeld n s m
+      ≡ held (s .live) (s .current) (s .size - 1) (s .free + 1) (freed n (edgesStored (stores Forward 0 e (f ∷ (g ∷ ps)) ws) m) (s .free) (vertex f))
+  unfolding forwardHeld stores vertexAt
+  forward-stores =
+      let a : s .current ≡ e = st .heads .current in
+      let b : afterOf m e ≡ vertex f = ring .0 .fore in
+      let c : afterOf m (vertex f) ≡ vertex g = ring .1 .0 .fore in
+      rw (a, b, c)
+
+  backward-stores : backwardHeld n s m
+      ≡ held (s .live) (lastVertex (f ∷ (g ∷ ps))) (s .size - 1) (s .free + 1) (freed n (edgesStored (stores Backward 0 e (f ∷ (g ∷ ps)) ws) m) (s .free) e)
+  unfolding backwardHeld stores
+  backward-stores =
+      let a : s .current ≡ e = st .heads .current in
+      let b : afterOf m e ≡ vertex f = ring .0 .fore in
+      rw (a, b, before-e)
+
+  -- a place between e and f
+  module _ (goes : Goes (effectAt New u n m e (f ∷ (g ∷ ps)) ws)) (some : 1 ≤ s .free) where
+    q : ℕ
+    q = topFree n s m
+
+    free : (placed q ((opened e ∷ (f ∷ (g ∷ ps))) ∷ ws) ≡ 0) × (q < n)
+    unfolding q
+    free = top-free n s m ((opened e ∷ (f ∷ (g ∷ ps))) ∷ ws) st some
+
+    arcs : List Arc
+    arcs = arc e q true ∷ (arc q (vertex f) true ∷ [])
+
+    after : List ℕ
+    after = edgesStored arcs (set m (4 * q) u)
+
+    made : EdgesStored n (set m (4 * q) u) arcs
+    unfolding arcs
+    made = edges-stored n (set m (4 * q) u) arcs (simp length-set long) (ring .0 .near, free .1, (free .1, ring .1 .0 .near, tt))
+
+    above : (i : ℕ) → 4 * n ≤ i → at after i ≡ at m i
+    unfolding after
+    above i h = made .above i h ∙ named-above n m q u long (free .1) i h
+
+    same-long : length after ≡ length m
+    unfolding after
+    same-long = made .lengths ∙ length-set m (4 * q) u
+
+    linked : Relinked n after (placesAfter New q e (f ∷ (g ∷ ps)) ws) (effectAt New u n m e (f ∷ (g ∷ ps)) ws)
+    unfolding after arcs stores verticesAfter
+    linked =
+        relinked New n s m u q e f g ps ws st goes (λ t. free) after (made .links ∙ ap (stored arcs) (named-links n m q u long (free .1)))
+        (made .vertices ∙ named-vertices n m q u long (free .1))
+
+    stands : StandsAt n (record { live = s .live; current = q; size = s .size + 1; free = s .free - 1 }) after (placesAfter New q e (f ∷ (g ∷ ps)) ws)
+    unfolding q after placesAfter
+    stands = record {
+      long = omega (arith, st .long, made .lengths, length-set m (4 * q) u);
+      holds = linked .holds;
+      each = λ x.
+          omega (
+            arith,
+            st .each x,
+            placed-new q x,
+            stacked-top n x m (s .free) some,
+            stacked-same n x m after (s .free - 1) (λ i l. above (4 * n + i) (omega arith)),
+          );
+      heads = record {
+        live = st .heads .live;
+        current = refl;
+        size = simp length-append (omega (arith, st .heads .size));
+        waiting = waits-same n m after (λ i l. above i (omega arith)) ws (st .heads .waiting);
+      };
+      sound = linked .sound;
+    }
+
+    new-held : newHeld n s m u ≡ held (s .live) q (s .size + 1) (s .free - 1) after
+    unfolding newHeld after arcs q
+    new-held =
+        let a : s .current ≡ e = st .heads .current in
+        let b : afterOf m e ≡ vertex f = ring .0 .fore in
+        rw (a, b)
+
+    pub moved-new : Moved n s m (newHeld n s m u) (effectAt New u n m e (f ∷ (g ∷ ps)) ws)
+    moved-new =
+        subst (λ (h : Held). Moved n s m h (effectAt New u n m e (f ∷ (g ∷ ps)) ws)) (sym new-held)
+        (record {
+          rings = placesAfter New q e (f ∷ (g ∷ ps)) ws;
+          lengths = same-long;
+          rest = λ i h. above i (omega arith);
+          stands = stands;
+          loops = linked .loops;
+        })
+
+  -- the loops have a place, so there is room on the stack
+  pub used-some : s .free < n
+  unfolding places
+  used-some = omega (arith, room n s m ((opened e ∷ (f ∷ (g ∷ ps))) ∷ ws) st)
+
+  -- an operation that frees the place x and takes none
+  module _ (o : Operation) (takes : Takes o → ⊥) (goes : Goes (effectAt o u n m e (f ∷ (g ∷ ps)) ws)) (l : Ring) (x : ℕ)
+      (near : Near n (stores o 0 e (f ∷ (g ∷ ps)) ws)) (vertices : verticesAfter o u 0 (verticesOf n m) (f ∷ (g ∷ ps)) ws ≡ verticesOf n m)
+      (rings : placesAfter o 0 e (f ∷ (g ∷ ps)) ws ≡ l ∷ ws)
+      (fewer : (y : ℕ) → placed y (placesAfter o 0 e (f ∷ (g ∷ ps)) ws) + same y x ≡ placed y ((opened e ∷ (f ∷ (g ∷ ps))) ∷ ws)) where
+    links-done : List ℕ
+    links-done = edgesStored (stores o 0 e (f ∷ (g ∷ ps)) ws) m
+
+    links-made : EdgesStored n m (stores o 0 e (f ∷ (g ∷ ps)) ws)
+    links-made = edges-stored n m (stores o 0 e (f ∷ (g ∷ ps)) ws) long near
+
+    left : List ℕ
+    left = freed n links-done (s .free) x
+
+    records : (i : ℕ) → i < 4 * n → at left i ≡ at links-done i
+    unfolding left
+    records i h = getD-set-other links-done (4 * n + s .free) i x 0 (λ z. omega (arith, z))
+
+    waiting-stays : (i : ℕ) → 5 * n ≤ i → at left i ≡ at m i
+    unfolding left links-done
+    waiting-stays i h = getD-set-other links-done (4 * n + s .free) i x 0 (λ z. omega (arith, z, used-some)) ∙ links-made .above i (omega arith)
+
+    again : Relinked n left (placesAfter o 0 e (f ∷ (g ∷ ps)) ws) (effectAt o u n m e (f ∷ (g ∷ ps)) ws)
+    unfolding links-done
+    again =
+        relinked o n s m u 0 e f g ps ws st goes (λ t. absurd (takes t)) left (same-links n links-done left records ∙ links-made .links)
+        (same-vertices n links-done left records ∙ links-made .vertices ∙ sym vertices)
+
+    pub freeing : (c k : ℕ) → c ≡ startOr 0 l → k ≡ length l
+        → Moved n s m (held (s .live) c k (s .free + 1) (freed n (edgesStored (stores o 0 e (f ∷ (g ∷ ps)) ws) m) (s .free) x)) (effectAt o u n m e (f ∷ (g ∷ ps)) ws)
+    unfolding left links-done
+    freeing c k ec ek = record {
+      rings = placesAfter o 0 e (f ∷ (g ∷ ps)) ws;
+      lengths = length-set links-done (4 * n + s .free) x ∙ links-made .lengths;
+      rest = λ i h. waiting-stays i (omega arith);
+      stands = record {
+        long = omega (arith, st .long, links-made .lengths, length-set links-done (4 * n + s .free) x);
+        holds = again .holds;
+        each = λ y.
+            omega (
+              arith,
+              st .each y,
+              fewer y,
+              stacked-freed n y links-done (s .free) x (omega (arith, st .long, links-made .lengths, used-some)),
+              stacked-same n y m links-done (s .free) (λ i h. links-made .above (4 * n + i) (omega arith)),
+            );
+        heads = rw rings
+            (record {
+              live = st .heads .live;
+              current = ec;
+              size = ek;
+              waiting = waits-same n m left waiting-stays ws (st .heads .waiting);
+            });
+        sound = again .sound;
+      };
+      loops = again .loops;
+    }
+
+  pub moved-forward : Goes (effectAt Forward u n m e (f ∷ (g ∷ ps)) ws) → Moved n s m (forwardHeld n s m) (effectAt Forward u n m e (f ∷ (g ∷ ps)) ws)
+  unfolding stores vertexAt verticesAfter placesAfter
+  moved-forward goes =
+      subst (λ (h : Held). Moved n s m h (effectAt Forward u n m e (f ∷ (g ∷ ps)) ws)) (sym forward-stores)
+      (freeing Forward (λ t. t) goes (opened e ∷ (g ∷ ps)) (vertex f) (ring .0 .near, ring .1 .1 .0 .near, tt) refl refl (placed-forward 0) (s .current) (s .size - 1) (st .heads .current)
+      (omega (arith, st .heads .size)))
+
+  pub moved-backward : Goes (effectAt Backward u n m e (f ∷ (g ∷ ps)) ws) → Moved n s m (backwardHeld n s m) (effectAt Backward u n m e (f ∷ (g ∷ ps)) ws)
+  unfolding stores verticesAfter placesAfter lastOpen
+  moved-backward goes =
+      let o : lastOpen (f ∷ (g ∷ ps)) ≡ true = fit Backward n s m u 0 e f g ps ws st goes in
+      let l : ℕ = lastVertex (f ∷ (g ∷ ps)) in
+      subst (λ (h : Held). Moved n s m h (effectAt Backward u n m e (f ∷ (g ∷ ps)) ws)) (sym backward-stores)
+      (freeing Backward (λ t. t) goes (opened l ∷ front (f ∷ (g ∷ ps))) e (last-near, ring .1 .0 .near, tt) refl refl (λ y. placed-backward 0 y o) l (s .size - 1) refl
+      (omega (arith, st .heads .size, length-front f (g ∷ ps))))

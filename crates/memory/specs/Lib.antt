@@ -1,0 +1,7 @@
+pub mod Layout
+pub mod Stands
+pub mod Moves
+pub mod Decision
+pub mod Keeps
+pub mod Near
+pub mod Performs

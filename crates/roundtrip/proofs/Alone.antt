@@ -1,0 +1,97 @@
+-- Claim 4: what a packing depends on, and what its pack states.
+-- Assumes nothing.
+use Prim.Native.Nat.{ℕ, _*_, _≤_}
+use native.Mathlib.Omega.{arith}
+use mathlib.Core.Bool.{Bool, true, false, _&&_}
+use mathlib.Core.List.{List}
+use mathlib.Core.Path.{_≡_, refl, sym, ap, ap₂, _∙_}
+use lib.ListN.{length, take, drop}
+use lib.Seq.{take-at}
+use lib.Dec.{leb}
+use Rattle.rules.specs.declared.Triangle.{Triangle}
+use Rattle.rules.specs.declared.Place.{Place}
+use Rattle.rules.specs.declared.Counts.{Counts}
+use Rattle.rules.specs.declared.Operation.{Operation}
+use Rattle.rules.specs.declared.Checked.{Checked}
+use Rattle.rules.specs.declared.Checked.the-variants.{Accepted, Refused}
+use Rattle.rules.specs.Limits.{maxPlaces}
+use Rattle.rules.specs.Triangle.{trianglesOf}
+use Rattle.rules.specs.Check.{check}
+use Rattle.rules.specs.Ring.{places}
+use Rattle.rules.specs.Answer.{Answer, refusal, packed}
+use Rattle.rules.specs.Bits.{bytesOf}
+use Rattle.rules.specs.Code.{operationsBits}
+use Rattle.rules.specs.Fields.{fields, fieldsOf}
+use Rattle.rules.specs.Choice.{Packing}
+use Rattle.rules.specs.Pack.{Chosen, stopped, chosen, most, chosenFor, packOf, newNumbers, PackBuffers, PackResult, packDone, packRefused, packStored, packChosen, packRooms, packChecked, pack}
+use Rattle.rules.specs.Pack as P
+use Rattle.roundtrip.specs.Run.{runLoops, peakOf}
+use Rattle.roundtrip.specs.Claims.{SameInAllBuffers, SameAnswerInAllBuffers, StatedPeaksAreTrue}
+use Rattle.roundtrip.proofs.Numbers.{length-new}
+use Rattle.roundtrip.proofs.Limits.{run-of, chosen-same}
+use Rattle.roundtrip.proofs.Results.{PackedBy, packed-by}
+use Rattle.roundtrip.proofs.Forth.{found}
+use Rattle.roundtrip.proofs.Each.{front-bytes}
+
+front-numbers : (v : ℕ) (xs : List ℕ) (r : PackBuffers) (n : ℕ) (p : PackedBy most v xs r n) → take v (pack v xs r .buffers .numbering) ≡ newNumbers v (p .last .numbered)
+front-numbers v xs r n p =
+    let ns = newNumbers v (p .last .numbered) in
+    ap (λ (x : PackResult). take v (x .buffers .numbering)) (p .result) ∙ take-at ns (drop (length ns) (r .numbering)) v (length-new v (p .last .numbered))
+
+pub same-in-all-buffers : SameInAllBuffers
+same-in-all-buffers v xs r r′ n n′ e e′ =
+    let p = packed-by most v xs r n e in
+    let p′ = packed-by most v xs r′ n′ e′ in
+    let c : chosen (p .operations) (p .last) ≡ chosen (p′ .operations) (p′ .last) = sym (p .chose) ∙ p′ .chose in
+    let o : p .operations ≡ p′ .operations = cc in
+    let s : p .last ≡ p′ .last = cc in
+    let b : packOf v (trianglesOf xs) (p .operations) (p .last) ≡ packOf v (trianglesOf xs) (p′ .operations) (p′ .last) =
+    ap₂ (packOf v (trianglesOf xs)) o s in (
+      p .long ∙ (ap length b ∙ sym (p′ .long)),
+      front-bytes v xs r n p ∙ (b ∙ sym (front-bytes v xs r′ n′ p′)),
+      front-numbers v xs r n p ∙ (ap (λ (k : Packing). newNumbers v (k .numbered)) s ∙ sym (front-numbers v xs r′ n′ p′)),
+    )
+
+-- the answer looks at the buffers' lengths only
+abbrev answer : PackResult → Answer
+answer p = p .answer
+
+stored-answer : (v : ℕ) (ns bytes : List ℕ) (r r′ : PackBuffers) → length (r .pack) ≡ length (r′ .pack) → packStored v ns bytes r .answer ≡ packStored v ns bytes r′ .answer
+stored-answer v ns bytes r r′ e = by r (leb (length bytes) (length (r .pack))) ∙ (ap (λ (k : ℕ). elim (leb (length bytes) k) [ true ↦ packed (length bytes) | false ↦ refusal 11 ]) e ∙ sym (by r′ (leb (length bytes) (length (r′ .pack)))))
+  where
+    by : (q : PackBuffers) (t : Bool) → answer (elim t [ true ↦ packDone ns bytes q | false ↦ packRefused 11 v q ]) ≡ elim t [ true ↦ packed (length bytes) | false ↦ refusal 11 ]
+    by q true = refl
+    by q false = refl
+
+chosen-answer : (v : ℕ) (ts : List Triangle) (r r′ : PackBuffers) (c : Chosen) → length (r .pack) ≡ length (r′ .pack) → packChosen v ts r c .answer ≡ packChosen v ts r′ c .answer
+unfolding packChosen
+chosen-answer v ts r r′ (stopped n) e = refl
+chosen-answer v ts r r′ (chosen os s) e = stored-answer v (newNumbers v (s .numbered)) (packOf v ts os s) r r′ e
+
+checked-answer : (v : ℕ) (ts : List Triangle) (r r′ : PackBuffers) (c : Checked) → packRooms v r ≡ packRooms v r′ → length (r .pack) ≡ length (r′ .pack)
+    → packChecked most v ts r c .answer ≡ packChecked most v ts r′ c .answer
+unfolding packChecked
+checked-answer v ts r r′ (Refused n) k e = refl
+checked-answer v ts r r′ Accepted k e =
+    same (packRooms v r) ∙ ap (λ (w : Bool). answer (elim w [ true ↦ packChosen v ts r′ (chosenFor most ts) | false ↦ P.turnedDown 8 r′ ])) k
+  where
+    same : (t : Bool) → answer (elim t [ true ↦ packChosen v ts r (chosenFor most ts) | false ↦ P.turnedDown 8 r ]) ≡ answer (elim t [ true ↦ packChosen v ts r′ (chosenFor most ts) | false ↦ P.turnedDown 8 r′ ])
+    same true = chosen-answer v ts r r′ (chosenFor most ts) e
+    same false = refl
+
+pub same-answer-in-all-buffers : SameAnswerInAllBuffers
+same-answer-in-all-buffers v xs r r′ a b c =
+    checked-answer v (trianglesOf xs) r r′ (check v xs) (ap₂ (λ (k l : ℕ). leb v k && leb maxPlaces l) a b) c
+
+pub stated-peaks-are-true : StatedPeaksAreTrue
+stated-peaks-are-true v xs r n e =
+    let p = packed-by most v xs r n e in
+    let ts = trianglesOf xs in
+    let k = chosen-same most ts (p .operations) (p .last) (p .chose) in
+    let a : p .last .mostPlaces ≡ peakOf places 0 (runLoops ts) = ap (λ (x : Packing). x .mostPlaces) (k .2) ∙ run-of ts .places in
+    let b : p .last .mostLoops ≡ peakOf length 0 (runLoops ts) = ap (λ (x : Packing). x .mostLoops) (k .2) ∙ run-of ts .loops in (
+      bytesOf (operationsBits (p .operations)),
+      ap fieldsOf (front-bytes v xs r n p)
+          ∙ (found v xs (p .operations) (p .last) (p .accepted) (p .chose)
+          ∙ ap₂ (λ (x y : ℕ). fields (record { vertices = v; triangles = length ts; places = x; loops = y }) (bytesOf (operationsBits (p .operations)))) a b),
+    )

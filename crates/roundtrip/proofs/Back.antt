@@ -1,0 +1,212 @@
+-- Claim 3: every accepted pack is the pack of its list.
+-- Assumes nothing.
+use Prim.Native.Nat.{ℕ, zero, suc, _+_, _*_, _≤_, _<_}
+use native.Mathlib.Omega.{arith}
+use mathlib.Core.Bool.{Bool, true, false, _&&_, false≢true}
+use mathlib.Core.List.{List, [], _∷_, _++_, append-assoc}
+use mathlib.Core.Path.{_≡_, refl, sym, ap, ap₂, _∙_, subst}
+use lib.ListN.{length, take, drop, getD, replicate, length-append}
+use lib.Seq.{take-at}
+use lib.Dec.{eqb, ltb, leb}
+use borrow.Author.Tests.{eqb-true, ltb-true, le-leb}
+use Rattle.rules.specs.declared.Triangle.{Triangle}
+use Rattle.rules.specs.declared.Counts.{Counts}
+use Rattle.rules.specs.declared.Model.{Model}
+use Rattle.rules.specs.declared.Operation.{Operation}
+use Rattle.rules.specs.declared.Checked.the-variants.{Accepted}
+use Rattle.rules.specs.Triangle.{trianglesOf}
+use Rattle.rules.specs.Fan.{oneFanEach}
+use Rattle.rules.specs.Check.{check}
+use Rattle.rules.specs.Ring.{Ring}
+use Rattle.rules.specs.Machine.{Machine, empty, complete, asStated}
+use Rattle.rules.specs.Answer.{packed, unpacked}
+use Rattle.rules.specs.Bits.{bitsOfBytes, bytesOf, allZero}
+use Rattle.rules.specs.Code.{operationBits, operationsBits}
+use Rattle.rules.specs.Fields.{packBytes}
+use Rattle.rules.specs.Choice.{Packing}
+use Rattle.rules.specs.Pack.{Chosen, stopped, chosen, most, chosenFor, packOf, indexOf, newNumbers, PackBuffers, PackResult, packDone, packChosen, packRooms, pack}
+use Rattle.rules.specs.Buffer.{Buffers}
+use Rattle.rules.specs.Unpack.{runOf, restFits, numbersOf, UnpackResult, unpack}
+use Rattle.gap.specs.Works.{Works, Reads, none-read, one-read}
+use Rattle.gap.proofs.Bools.{and-true}
+use Rattle.gap.proofs.Tracking.{upTo}
+use Rattle.gap.proofs.Working.{works-stated}
+use Rattle.gap.proofs.Repacking.{Repacked}
+use Rattle.gap.proofs.RoundBack.{Done, packs-back, checks-back}
+use Rattle.gap.proofs.Running.{Held, held-of}
+use Rattle.codes.specs.Shape.{Bits, Bytes}
+use Rattle.codes.specs.Header.{headerOf}
+use Rattle.codes.proofs.Lists.{below-rest}
+use Rattle.codes.proofs.Bytes.{fill, length-bits-of-bytes, bits-of-bytes-are, bytes-of-bits, bytes-filled}
+use Rattle.codes.proofs.Operations.{OperationRead, operation-read, operations-bits-are}
+use Rattle.codes.proofs.Fields.{pack-header, PackFound, pack-found}
+use Rattle.roundtrip.specs.Claims.{newNumber, PackOf, listIn, EveryAcceptedPackIsThePackOfItsList, NoTwoPacksOfOneList}
+use Rattle.roundtrip.proofs.Numbers.{getD-front, length-new, new-at, index-up}
+use Rattle.roundtrip.proofs.Results.{within-checked, stored-done, UnpackedBy, unpacked-by}
+use Rattle.roundtrip.proofs.Fitting.{accepted-count}
+
+no-loops : (ls : List Ring) → length ls ≡ 0 → ls ≡ []
+no-loops [] h = refl
+no-loops (l ∷ ls) h = absurd (omega arith)
+
+-- a machine that passes 15, 19 and 20 is done
+done-by : (m : Machine) → complete m ≡ true → asStated m ≡ true → oneFanEach (m .used) (m .triangles) ≡ true → Done m
+done-by m a b f =
+    let h = and-true (eqb (length (m .triangles)) (m .stated .triangles)) (eqb (length (m .loops)) 0) a in
+    let k = and-true (eqb (m .used) (m .stated .vertices) && eqb (m .mostPlaces) (m .stated .places)) (eqb (m .mostLoops) (m .stated .loops)) b in
+    let l = and-true (eqb (m .used) (m .stated .vertices)) (eqb (m .mostPlaces) (m .stated .places)) (k .0) in
+    record {
+      all-built = eqb-true _ _ (h .0);
+      no-loop = no-loops (m .loops) (eqb-true _ _ (h .1));
+      vertices = eqb-true _ _ (l .0);
+      places = eqb-true _ _ (l .1);
+      loops = eqb-true _ _ (k .1);
+      fans = f;
+    }
+
+-- operations that are read were written
+reads-from : {xs ys : List ℕ} {os : List Operation} → Reads xs os ys → Bits xs → xs ≡ operationsBits os ++ ys
+unfolding operationsBits
+reads-from none-read h = refl
+reads-from {xs} {ys} (one-read {ys = zs} {o = o} {os = os} e r) h =
+    let w = operation-read o xs zs h e in
+    let hz : Bits zs = below-rest 2 (operationBits o) zs (subst (λ (us : List ℕ). Bits us) (w .from) h) in
+    w .from ∙ (ap (λ (us : List ℕ). operationBits o ++ us) (reads-from r hz) ∙ sym (append-assoc (operationBits o) (operationsBits os) ys))
+
+all-zeros : (xs : List ℕ) → allZero xs ≡ true → xs ≡ replicate (length xs) 0
+unfolding allZero
+all-zeros [] h = refl
+all-zeros (x ∷ xs) h =
+    let k = and-true (eqb x 0) (allZero xs) h in
+    ap₂ (λ (y : ℕ) (ys : List ℕ). y ∷ ys) (eqb-true x 0 (k .0)) (all-zeros xs (k .1))
+
+length-numbers : (ts : List Triangle) → length (numbersOf ts) ≡ 3 * length ts
+unfolding numbersOf
+length-numbers [] = refl
+length-numbers (t ∷ ts) = omega (arith, length-append (numbersOf ts) (t .p ∷ (t .q ∷ (t .r ∷ []))), length-numbers ts)
+
+-- the bytes are those of the operations, filled with zero bits
+filled-bytes : (ops xs ys : List ℕ) → Bytes ops → Bits xs → bitsOfBytes ops ≡ xs ++ ys → length ys < 8 → allZero ys ≡ true → ops ≡ bytesOf xs
+filled-bytes ops xs ys h k e l z =
+    let n : length ys ≡ fill (length xs) = omega (arith, ap length e, length-append xs ys, length-bits-of-bytes ops) in
+    let f : ys ≡ replicate (fill (length xs)) 0 = all-zeros ys z ∙ ap (λ (i : ℕ). replicate i 0) n in
+    sym (bytes-of-bits ops h) ∙ (ap bytesOf (e ∙ ap (λ (us : List ℕ). xs ++ us) f) ∙ bytes-filled xs k)
+
+module _ (bytes : List ℕ) (r : Buffers) (m : Model) (u : UnpackedBy bytes r m) where
+  abbrev st : Counts
+  st = u .counts
+
+  abbrev end : Machine
+  end = u .end
+
+  pub held : Held (empty (u .counts)) (bitsOfBytes (u .ops)) (u .end) (u .left)
+  held = held-of (suc (length (bitsOfBytes (u .ops)))) (empty st) (bitsOfBytes (u .ops)) end (u .left) (u .ran)
+
+  abbrev os : List Operation
+  os = held .operations
+
+  pub done : Done (u .end)
+  done = done-by end (held .whole) (u .stated) (u .fans)
+
+  pub back : Repacked most (held .operations) (u .end)
+  back = packs-back st os end (held .works) (u .range) done
+
+  pub same-counts : u .end .stated ≡ u .counts
+  same-counts = works-stated (held .works)
+
+  pub used-is : u .end .used ≡ m .vertices
+  used-is = done .vertices ∙ (ap (λ (k : Counts). k .vertices) same-counts ∙ sym (ap (λ (k : Model). k .vertices) (u .model)))
+
+  pub triangles-are : length (u .end .triangles) ≡ m .triangles
+  triangles-are = done .all-built ∙ (ap (λ (k : Counts). k .triangles) same-counts ∙ sym (ap (λ (k : Model). k .triangles) (u .model)))
+
+  pub list-is : listIn m (unpack bytes r) ≡ numbersOf (u .end .triangles)
+  list-is =
+      let l = numbersOf (end .triangles) in
+      ap (λ (x : UnpackResult). take (3 * m .triangles) (x .buffers .triangles)) (u .result)
+      ∙ take-at l (drop (length l) (r .triangles)) (3 * m .triangles) (length-numbers (end .triangles) ∙ ap (λ (k : ℕ). 3 * k) triangles-are)
+
+  pub checks : check (m .vertices) (listIn m (unpack bytes r)) ≡ Accepted
+  checks =
+      subst (λ (l : List ℕ). check (m .vertices) l ≡ Accepted) (sym list-is)
+      (subst (λ (v : ℕ). check v (numbersOf (end .triangles)) ≡ Accepted) used-is (checks-back st os end (held .works) (u .range) done))
+
+  pub count-is : length (trianglesOf (listIn m (unpack bytes r))) ≡ m .triangles
+  count-is =
+      let c = accepted-count (m .vertices) (listIn m (unpack bytes r)) checks .0 in
+      omega (arith, ap length list-is, length-numbers (end .triangles), triangles-are)
+
+  pub chose : chosenFor most (trianglesOf (listIn m (unpack bytes r))) ≡ chosen (held .operations) (back .last)
+  chose = ap (λ (l : List ℕ). chosenFor most (trianglesOf l)) list-is ∙ back .packs
+
+-- the bytes
+module _ (bytes : List ℕ) (hb : Bytes bytes) (r : Buffers) (m : Model) (u : UnpackedBy bytes r m) where
+  found : PackFound bytes (u .counts) (u .ops)
+  found = pack-found bytes (u .counts) (u .ops) hb (u .found)
+
+  ops-are : u .ops ≡ bytesOf (operationsBits (held bytes r m u .operations))
+  ops-are =
+      let h : Bytes (headerOf (u .counts) (length (u .ops)) ++ u .ops) = subst (λ (bs : List ℕ). Bytes bs) (found .from ∙ pack-header (u .counts) (u .ops)) hb in
+      let z = and-true (ltb (length (u .left)) 8) (allZero (u .left)) (u .rest) in
+      filled-bytes (u .ops) (operationsBits (held bytes r m u .operations)) (u .left) (below-rest 256 (headerOf (u .counts) (length (u .ops))) (u .ops) h) (operations-bits-are (held bytes r m u .operations))
+      (reads-from (held bytes r m u .reads) (bits-of-bytes-are (u .ops))) (ltb-true (length (u .left)) 8 (z .0)) (z .1)
+
+  counts-are : record { vertices = m .vertices; triangles = length (trianglesOf (listIn m (unpack bytes r))); places = back bytes r m u .last .mostPlaces; loops = back bytes r m u .last .mostLoops } ≡ u .counts
+  counts-are = λ i. record {
+    vertices = ap (λ (k : Model). k .vertices) (u .model) i;
+    triangles = (count-is bytes r m u ∙ ap (λ (k : Model). k .triangles) (u .model)) i;
+    places = (back bytes r m u .most-places ∙ (done bytes r m u .places ∙ ap (λ (k : Counts). k .places) (same-counts bytes r m u))) i;
+    loops = (back bytes r m u .most-loops ∙ (done bytes r m u .loops ∙ ap (λ (k : Counts). k .loops) (same-counts bytes r m u))) i;
+  }
+
+  -- its bytes
+  pub pack-is : packOf (m .vertices) (trianglesOf (listIn m (unpack bytes r))) (held bytes r m u .operations) (back bytes r m u .last) ≡ bytes
+  pack-is = ap₂ packBytes counts-are (sym ops-are) ∙ sym (found .from)
+
+  module _ (r′ : PackBuffers) (rooms : packRooms (m .vertices) r′ ≡ true) (long : length bytes ≤ length (r′ .pack)) where
+    packs : pack (m .vertices) (listIn m (unpack bytes r)) r′ ≡ packDone (newNumbers (m .vertices) (back bytes r m u .last .numbered)) bytes r′
+    unfolding packChosen
+    packs =
+        let l = listIn m (unpack bytes r) in
+        let bs = packOf (m .vertices) (trianglesOf l) (held bytes r m u .operations) (back bytes r m u .last) in
+        within-checked most (m .vertices) l r′ (checks bytes r m u) rooms
+        ∙ (ap (packChosen (m .vertices) (trianglesOf l) r′) (chose bytes r m u)
+        ∙ (stored-done (m .vertices) (newNumbers (m .vertices) (back bytes r m u .last .numbered)) bs r′ (le-leb (length bs) (length (r′ .pack)) (omega (arith, ap length pack-is)))
+        ∙ ap (λ (x : List ℕ). packDone (newNumbers (m .vertices) (back bytes r m u .last .numbered)) x r′) pack-is))
+
+    numbers-same : (x : ℕ) → x < m .vertices → newNumber (pack (m .vertices) (listIn m (unpack bytes r)) r′) x ≡ x
+    numbers-same x h =
+        let ns = newNumbers (m .vertices) (back bytes r m u .last .numbered) in
+        ap (λ (k : PackResult). getD (k .buffers .numbering) x 0) packs
+        ∙ (getD-front ns (drop (length ns) (r′ .numbering)) x (omega (arith, length-new (m .vertices) (back bytes r m u .last .numbered)))
+        ∙ (new-at (m .vertices) x (back bytes r m u .last .numbered) h
+        ∙ (ap (indexOf x) (back bytes r m u .numbers) ∙ index-up (u .end .used) x (omega (arith, used-is bytes r m u)))))
+
+  pub pack-of : PackOf bytes m (listIn m (unpack bytes r))
+  pack-of = record {
+    accepted = checks bytes r m u;
+    count = count-is bytes r m u;
+    same-length = λ r′ k l. ap (λ (p : PackResult). p .answer) (packs r′ k l);
+    same-bytes = λ r′ k l. ap (λ (p : PackResult). take (length bytes) (p .buffers .pack)) (packs r′ k l)
+        ∙ take-at bytes (drop (length bytes) (r′ .pack)) (length bytes) refl;
+    same-numbers = numbers-same;
+  }
+
+pub every-accepted-pack-is-the-pack-of-its-list : EveryAcceptedPackIsThePackOfItsList
+every-accepted-pack-is-the-pack-of-its-list bytes hb r m e = pack-of bytes hb r m (unpacked-by bytes r m e)
+
+-- the pack of a list, as bytes
+abbrev bytesFor : ℕ → List ℕ → Chosen → List ℕ
+bytesFor v xs (stopped n) = []
+bytesFor v xs (chosen os s) = packOf v (trianglesOf xs) os s
+
+bytes-are : (bytes : List ℕ) (hb : Bytes bytes) (r : Buffers) (m : Model) → unpack bytes r .answer ≡ unpacked m
+    → bytes ≡ bytesFor (m .vertices) (listIn m (unpack bytes r)) (chosenFor most (trianglesOf (listIn m (unpack bytes r))))
+bytes-are bytes hb r m e =
+    let u = unpacked-by bytes r m e in
+    sym (pack-is bytes hb r m u) ∙ ap (bytesFor (m .vertices) (listIn m (unpack bytes r))) (sym (chose bytes r m u))
+
+pub no-two-packs-of-one-list : NoTwoPacksOfOneList
+no-two-packs-of-one-list bytes bytes′ hb hb′ r r′ m m′ e e′ v l =
+    bytes-are bytes hb r m e
+    ∙ (ap₂ (λ (k : ℕ) (xs : List ℕ). bytesFor k xs (chosenFor most (trianglesOf xs))) v l ∙ sym (bytes-are bytes′ hb′ r′ m′ e′))

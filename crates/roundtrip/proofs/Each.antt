@@ -1,0 +1,179 @@
+-- Claim 2: unpacking the pack of a list gives each of its triangles once, under a numbering that is one to one.
+-- Assumes nothing.
+use Prim.Native.Nat.{ℕ, suc, _+_, _*_, _≤_, _<_}
+use native.Mathlib.Omega.{arith}
+use mathlib.Core.Bool.{true}
+use mathlib.Core.List.{List, [], _∷_, _++_}
+use mathlib.Core.Path.{_≡_, refl, sym, ap, ap₂, _∙_, subst}
+use mathlib.Core.Logic.{_⊎_, inl, inr}
+use lib.ListN.{length, take, drop, getD}
+use lib.Seq.{take-at}
+use Rattle.rules.specs.declared.Triangle.{Triangle}
+use Rattle.rules.specs.declared.Place.{Place}
+use Rattle.rules.specs.declared.Operation.{Operation}
+use Rattle.rules.specs.Limits.{maxPlaces}
+use Rattle.rules.specs.Triangle.{tri, trianglesOf}
+use Rattle.rules.specs.Machine.{totals}
+use Rattle.rules.specs.Answer.{packed}
+use Rattle.rules.specs.Choice.{Packing, has}
+use Rattle.rules.specs.Pack.{most, nothingBuilt, packOf, indexOf, newNumbers, PackBuffers, PackResult, pack}
+use Rattle.rules.specs.Buffer.{Buffers}
+use Rattle.rules.specs.Unpack.{numbersOf, UnpackResult, unpackDone, unpack}
+use Rattle.gap.specs.Turn.{at-p, at-q, at-r, In, here, there, Once}
+use Rattle.gap.proofs.Links.{in-next, in-last}
+use Rattle.gap.proofs.Numbering.{Met}
+use Rattle.gap.proofs.Runs.{Facts, facts}
+use Rattle.gap.proofs.Whole.{Complete, complete-all, complete-only}
+use Rattle.gap.proofs.Accepted.{Packable}
+use Rattle.gap.proofs.Renaming.{triangles, length-triangles}
+use Rattle.gap.proofs.RoundTrip.{numbered-all, numbers-tell}
+use Rattle.gap.proofs.RoundTrip as T
+use Rattle.gap.proofs.Repacking.{onto, in-onto, run-onto, numbersIn, triangles-in, numbers-onto, works-facts, works-order}
+use Rattle.roundtrip.specs.Claims.{renumbered, Rearranged, OneToOne, written, newNumber, EachOnce, EachTriangleOnce}
+use Rattle.roundtrip.proofs.Numbers.{getD-front, length-new, new-at, index-below, has-at, index-at}
+use Rattle.roundtrip.proofs.Results.{PackedBy, packed-by}
+use Rattle.roundtrip.proofs.Forth.{whole, ok, reached, unpacks-done}
+
+-- the bytes at the front of the pack buffer
+pub front-bytes : (v : ℕ) (xs : List ℕ) (r : PackBuffers) (n : ℕ) (p : PackedBy most v xs r n)
+    → take n (pack v xs r .buffers .pack) ≡ packOf v (trianglesOf xs) (p .operations) (p .last)
+front-bytes v xs r n p =
+    let bytes = packOf v (trianglesOf xs) (p .operations) (p .last) in
+    ap (λ (x : PackResult). take n (x .buffers .pack)) (p .result) ∙ take-at bytes (drop (length bytes) (r .pack)) n (sym (p .long))
+
+pub length-numbers : (ts : List Triangle) → length (numbersIn ts) ≡ 3 * length ts
+length-numbers [] = refl
+length-numbers (t ∷ ts) = omega (arith, length-numbers ts)
+
+named-onto : (f : ℕ → ℕ) (R B : List Triangle) → triangles f (onto R B) ≡ onto (triangles f R) (triangles f B)
+named-onto f [] B = refl
+named-onto f (t ∷ R) B = named-onto f R (t ∷ B)
+
+-- a numbering that agrees on the vertices
+named-same : (f g : ℕ → ℕ) (ts : List Triangle) → ((x y z : ℕ) → In x y z ts → f x ≡ g x) → triangles f ts ≡ renumbered g ts
+named-same f g [] h = refl
+named-same f g (t ∷ ts) h =
+    let p = h (t .p) (t .q) (t .r) (here (at-p refl refl refl)) in
+    let q = h (t .q) (t .r) (t .p) (here (at-q refl refl refl)) in
+    let r = h (t .r) (t .p) (t .q) (here (at-r refl refl refl)) in
+    ap₂ (λ (x : Triangle) (xs : List Triangle). x ∷ xs) (ap₂ (λ (a : ℕ) (k : Triangle). tri a (k .q) (k .r)) p (ap₂ (λ (b c : ℕ). tri (f (t .p)) b c) q r))
+    (named-same f g ts (λ x y z i. h x y z (there i)))
+
+module _ (v : ℕ) (xs : List ℕ) (r : PackBuffers) (n : ℕ) (p : PackedBy most v xs r n) where
+  abbrev ts : List Triangle
+  ts = trianglesOf xs
+
+  abbrev os : List Operation
+  os = p .operations
+
+  abbrev s : Packing
+  s = p .last
+
+  c : Complete (nothingBuilt most (trianglesOf xs)) [] [] (p .operations) (p .last)
+  c = whole v xs os s (p .accepted) (p .chose)
+
+  good : Packable v (trianglesOf xs)
+  good = ok v xs os s (p .accepted) (p .chose)
+
+  all : (x y z : ℕ) → In x y z (trianglesOf xs) → In x y z (c .built)
+  all = complete-all most ts os s c
+
+  only : (x y z : ℕ) → In x y z (c .built) → In x y z (trianglesOf xs)
+  only = complete-only most ts os s c
+
+  met : (x : ℕ) → x < v → Met x (c .built)
+  met x l = let m = good .met x l in (m .0, m .1, all x (m .0) (m .1) (m .2))
+
+  numbered : (x : ℕ) → x < v → has x (p .last .numbered) ≡ true
+  numbered x l = c .fits .numbers .numbered x (met x l)
+
+  count : length (p .last .numbered) ≡ v
+  count = numbered-all most v ts good os s c
+
+  number-is : (x : ℕ) → x < v → newNumber (pack v xs r) x ≡ indexOf x (p .last .numbered)
+  number-is x l =
+      let ns = newNumbers v (s .numbered) in
+      ap (λ (k : PackResult). getD (k .buffers .numbering) x 0) (p .result)
+      ∙ (getD-front ns (drop (length ns) (r .numbering)) x (omega (arith, length-new v (s .numbered))) ∙ new-at v x (s .numbered) l)
+
+  one-to-one : OneToOne v (newNumber (pack v xs r))
+  one-to-one = record {
+    below = λ x l. omega (arith, number-is x l, index-below x (s .numbered) (numbered x l), count);
+    tells = λ x y l k e. numbers-tell most v ts good os s c x y (met x l) (sym (number-is x l) ∙ (e ∙ number-is y k));
+    onto = at;
+  }
+    where
+      at : (k : ℕ) → k < v → (x : ℕ) × (x < v) × (newNumber (pack v xs r) x ≡ k)
+      at k l =
+          let x = getD (s .numbered) k 0 in
+          let b : k < length (s .numbered) = omega (arith, count) in
+          let m = c .fits .numbers .met x (has-at k (s .numbered) b) in
+          let j : x < v = good .below x (m .0) (m .1) (only x (m .0) (m .1) (m .2)) in
+          (x, j, number-is x j ∙ index-at k (s .numbered) (c .fits .distinct) b)
+
+  run-facts : Facts (c .built) (c .runs .order) []
+  run-facts = facts (c .runs .run) (λ x y. inl refl) tt
+
+  in-order : (x y z : ℕ) → In x y z (trianglesOf xs) → In x y z (c .runs .order)
+  in-order x y z i = go (in-onto (c .runs .order) [] x y z (subst (In x y z) (run-onto (c .runs .run)) (all x y z i)))
+    where
+      go : In x y z (c .runs .order) ⊎ In x y z [] → In x y z (c .runs .order)
+      go (inl j) = j
+      go (inr j) = elim j [ ]
+
+  rearranged : Rearranged (trianglesOf xs) (c .runs .order)
+  rearranged = record {
+    count = c .runs .count;
+    all = λ x y z. (in-order x y z, λ i. only x y z (run-facts .subR x y z i));
+    once = run-facts .once;
+  }
+
+  -- the list that is written
+  abbrev named : List Triangle
+  named = triangles (T.newNumber s) (c .runs .order)
+
+  numbers-written : numbersOf (reached v xs os s (p .accepted) (p .chose) .end .triangles) ≡ numbersIn named
+  unfolding c numbersOf
+  numbers-written =
+      ap numbersOf
+      (reached v xs os s (p .accepted) (p .chose) .all-built
+      ∙ (ap (triangles (T.newNumber s)) (run-onto (c .runs .run)) ∙ named-onto (T.newNumber s) (c .runs .order) []))
+      ∙ numbers-onto named []
+
+  named-is : named ≡ renumbered (newNumber (pack v xs r)) (c .runs .order)
+  named-is =
+      named-same (T.newNumber s) (newNumber (pack v xs r)) (c .runs .order)
+      (λ x y z i. sym (number-is x (good .below x y z (only x y z (run-facts .subR x y z i)))))
+
+  module _ (r′ : Buffers) (long : 3 * length (trianglesOf xs) ≤ length (r′ .triangles)) (many : maxPlaces ≤ length {A = Place} (r′ .places)) where
+    done : unpack (take n (pack v xs r .buffers .pack)) r′
+        ≡ unpackDone (T.statedBy v (trianglesOf xs) (p .last)) (totals (reached v xs (p .operations) (p .last) (p .accepted) (p .chose) .end))
+        (reached v xs (p .operations) (p .last) (p .accepted) (p .chose) .end .triangles) r′
+    done =
+        ap (λ (bs : List ℕ). unpack bs r′) (front-bytes v xs r n p) ∙ unpacks-done v xs os s (p .accepted) (p .chose) r′ long many
+
+    list-is : take (3 * length (trianglesOf xs)) (unpack (take n (pack v xs r .buffers .pack)) r′ .buffers .triangles)
+        ≡ numbersOf (reached v xs (p .operations) (p .last) (p .accepted) (p .chose) .end .triangles)
+    list-is =
+        let l = numbersOf (reached v xs os s (p .accepted) (p .chose) .end .triangles) in
+        ap (λ (u : UnpackResult). take (3 * length ts) (u .buffers .triangles)) done
+        ∙ take-at l (drop (length l) (r′ .triangles)) (3 * length ts)
+        (ap length numbers-written
+        ∙ (length-numbers named ∙ ap (λ (k : ℕ). 3 * k) (length-triangles (T.newNumber s) (c .runs .order) ∙ c .runs .count)))
+
+    pub each-once : EachOnce v xs (pack v xs r) (unpack (take n (pack v xs r .buffers .pack)) r′)
+    each-once = record {
+      totals = totals (reached v xs os s (p .accepted) (p .chose) .end);
+      accepted = ap (λ (u : UnpackResult). u .answer) done;
+      numbering = one-to-one;
+      order = c .runs .order;
+      rearranged = rearranged;
+      unpacked = ap trianglesOf (list-is ∙ numbers-written) ∙ (triangles-in named ∙ named-is);
+      once =
+          let w = reached v xs os s (p .accepted) (p .chose) in
+          subst Once (sym (ap trianglesOf list-is ∙ works-order (T.statedBy v ts s) os (w .end) (w .works) (w .no-loop)))
+          (works-facts (T.statedBy v ts s) os (w .end) (w .works) (w .no-loop) .once);
+    }
+
+pub each-triangle-once : EachTriangleOnce
+each-triangle-once v xs r n e r′ long many = each-once v xs r n (packed-by most v xs r n e) r′ long many

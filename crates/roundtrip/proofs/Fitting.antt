@@ -1,0 +1,174 @@
+-- A complete packing within the limits: its counts are in range, its indices fit their widths, and its pack is short enough.
+-- Assumes nothing.
+use Prim.Native.Nat.{ℕ, suc, _+_, _*_, _/_, _%_, _≤_, _<_}
+use native.Mathlib.Omega.{arith}
+use mathlib.Core.Bool.{Bool, true, false, _&&_}
+use mathlib.Core.List.{List, [], _∷_, _++_, append-assoc}
+use mathlib.Core.Path.{_≡_, refl, sym, ap, _∙_, subst}
+use lib.ListN.{length, length-append}
+use lib.Dec.{leb, eqb}
+use borrow.Author.Tests.{le-leb, leb-true, eqb-true}
+use Rattle.rules.specs.declared.Triangle.{Triangle}
+use Rattle.rules.specs.declared.Counts.{Counts}
+use Rattle.rules.specs.declared.Operation.{Operation}
+use Rattle.rules.specs.declared.Operation.the-variants.{New, Forward, Backward, Border, Split, Close, Union, Start}
+use Rattle.rules.specs.declared.Checked.the-variants.{Accepted}
+use Rattle.rules.specs.Limits.{maxNumbers, minVertices, maxVertices, maxTriangles, minPlaces, maxPlaces, maxLoops, between, vertexRange, inRange}
+use Rattle.rules.specs.Triangle.{trianglesOf}
+use Rattle.rules.specs.Check.{sizeFits, check}
+use Rattle.rules.specs.Ring.{Node, Ring, places}
+use Rattle.rules.specs.Code.{operationBits, operationsBits, read, readOperation}
+use Rattle.rules.specs.Bits.{bytesOf}
+use Rattle.rules.specs.Choice.{Packing}
+use Rattle.rules.specs.Pack.{chosen, Most, most, nothingBuilt, chosenFor}
+use Rattle.gap.specs.Surgery.{Surgery, on-new, on-forward, on-backward, on-close, on-split, on-union}
+use Rattle.gap.specs.Tally.{allOpenEdges}
+use Rattle.gap.specs.Works.{Reads, none-read, one-read}
+use Rattle.gap.proofs.Bools.{and-true, and-both}
+use Rattle.gap.proofs.Falling.{build-opens, border-opens}
+use Rattle.gap.proofs.Runs.{Run, r-done, r-start, r-build, r-border}
+use Rattle.gap.proofs.Tracking.{peak, Within, peak-within}
+use Rattle.gap.proofs.Whole.{Complete}
+use Rattle.gap.proofs.RoundTrip.{statedBy}
+use Rattle.fans.specs.Passing.{Passes}
+use Rattle.fans.proofs.Checks.{check-accepted}
+use Rattle.codes.specs.Shape.{Fits, AllFit}
+use Rattle.codes.specs.Header.{CountsFit}
+use Rattle.codes.specs.Whole.{widthOf}
+use Rattle.codes.proofs.Bytes.{length-bytes}
+use Rattle.codes.proofs.Operations.{length-operation, width-least, width-most, read-operation}
+use Rattle.roundtrip.specs.Run.{runLoops, NoFault}
+use Rattle.roundtrip.proofs.Limits.{run-of, chosen-same, peaks-kept}
+
+places-append : (us vs : List Ring) → places (us ++ vs) ≡ places us + places vs
+unfolding places
+places-append [] vs = omega arith
+places-append (u ∷ us) vs = omega (arith, places-append us vs)
+
+-- an index of the table fits its width
+surgery-fits : (e f : Node) (ps : List Node) (ws ls : List Ring) (c : ℕ) (o : Operation) → Surgery e f ps ws ls c o → places ((e ∷ (f ∷ ps)) ∷ ws) ≤ maxPlaces
+    → length ((e ∷ (f ∷ ps)) ∷ ws) ≤ maxLoops → Fits o
+unfolding places
+surgery-fits e f ps ws ls c New (on-new q) p l = tt
+surgery-fits e f ps ws ls c Forward (on-forward a b bs sh k op m) p l = tt
+surgery-fits e f ps ws ls c Backward (on-backward b bs a sh k op m) p l = tt
+surgery-fits e f ps ws ls c Close (on-close a sh k op op′ m) p l = tt
+surgery-fits e f ps ws ls c (Split i) (on-split us a vs sh n lu lv k m) p l = omega (arith, ap length sh, length-append us (a ∷ vs))
+surgery-fits e f ps ws ls c (Union w j) (on-union before us a vs behind sh n i k m) p l = (
+  omega (arith, ap length sh, length-append before ((us ++ (a ∷ vs)) ∷ behind)),
+  omega (arith, ap places sh, places-append before ((us ++ (a ∷ vs)) ∷ behind), length-append us (a ∷ vs)),
+)
+
+run-fits : {M B : List Triangle} {rims ls : List Ring} {os : List Operation} {R : List Triangle} (run : Run M B rims ls os R) → places ls ≤ maxPlaces
+    → length ls ≤ maxLoops → Within places maxPlaces run → Within length maxLoops run → AllFit os
+run-fits r-done p l u w = tt
+run-fits (r-start np nq nr d run) p l u w = (tt, run-fits run (u .0) (w .0) (u .1) (w .1))
+run-fits (r-build {ws = ws} {ls = ls} {e = e} {f = f} {ps = ps} {c = c} {o = o} v s ra rb d new run) p l u w =
+    (surgery-fits e f ps ws ls c o s p l, run-fits run (u .0) (w .0) (u .1) (w .1))
+run-fits (r-border v run) p l u w = (tt, run-fits run (u .0) (w .0) (u .1) (w .1))
+
+length-more : (o : Operation) (os : List Operation) → length (operationsBits (o ∷ os)) ≡ widthOf o + length (operationsBits os)
+unfolding operationsBits
+length-more o os = omega (arith, length-append (operationBits o) (operationsBits os), length-operation o)
+
+-- and at least as many bits as operations
+pub few-operations : (os : List Operation) → length os ≤ length (operationsBits os)
+unfolding operationsBits
+few-operations [] = omega arith
+few-operations (o ∷ os) = omega (arith, length-more o os, width-least o, few-operations os)
+
+-- an operation that builds has at most 20 bits, border 3
+run-bits : {M B : List Triangle} {rims ls : List Ring} {os : List Operation} {R : List Triangle} → Run M B rims ls os R
+    → length (operationsBits os) ≤ 26 * length R + 3 * allOpenEdges ls
+unfolding operationsBits
+run-bits r-done = omega arith
+run-bits (r-start {os = os} np nq nr d run) = omega (arith, run-bits run, length-more Start os)
+run-bits (r-build {ws = ws} {ls = ls} {e = e} {f = f} {ps = ps} {c = c} {o = o} {os = os} v s ra rb d new run) =
+    omega (arith, run-bits run, build-opens e f ps ws ls c o s, length-more o os, width-most o)
+run-bits (r-border {ws = ws} {e = e} {f = f} {ps = ps} {os = os} v run) =
+    omega (arith, run-bits run, border-opens e f ps ws v, length-more Border os)
+
+-- the first operation of a run that builds something is a start
+run-first : {M : List Triangle} {rims : List Ring} {os : List Operation} {R : List Triangle} (run : Run M [] rims [] os R) → 1 ≤ length R → (k l : ℕ)
+    → Within places k run → Within length l run → (minPlaces ≤ k) × (1 ≤ l)
+unfolding places
+run-first r-done h k l p w = absurd (omega arith)
+run-first (r-start np nq nr d run) h k l p w = (p .0, w .0)
+
+-- operations that fit are read back
+pub reads-of : (os : List Operation) (zs : List ℕ) → AllFit os → Reads (operationsBits os ++ zs) os zs
+unfolding operationsBits
+reads-of [] zs h = none-read
+reads-of (o ∷ os) zs h =
+    one-read (ap readOperation (append-assoc (operationBits o) (operationsBits os) zs) ∙ read-operation o (operationsBits os ++ zs) (h .0)) (reads-of os zs (h .1))
+
+pub triangles-thirds : (xs : List ℕ) → length xs % 3 ≡ 0 → 3 * length (trianglesOf xs) ≡ length xs
+unfolding trianglesOf
+triangles-thirds [] h = refl
+triangles-thirds (x ∷ []) h = absurd (omega arith)
+triangles-thirds (x ∷ (y ∷ [])) h = absurd (omega arith)
+triangles-thirds (x ∷ (y ∷ (z ∷ xs))) h = let k = triangles-thirds xs (omega arith) in omega arith
+
+pub between-of : (a n b : ℕ) → a ≤ n → n ≤ b → between a n b ≡ true
+between-of a n b h k = and-both (leb a n) (leb n b) (le-leb a n h) (le-leb n b k)
+
+pub of-between : (a n b : ℕ) → between a n b ≡ true → (a ≤ n) × (n ≤ b)
+of-between a n b h = let r = and-true (leb a n) (leb n b) h in (leb-true a n (r .0), leb-true n b (r .1))
+
+-- how many triangles an accepted list has
+pub accepted-count : (v : ℕ) (xs : List ℕ) → check v xs ≡ Accepted → (3 * length (trianglesOf xs) ≡ length xs) × (1 ≤ length (trianglesOf xs)) × (length (trianglesOf xs) ≤ maxTriangles)
+accepted-count v xs a =
+    let p = check-accepted v xs .0 a in
+    let s = and-true (between 1 (length xs) maxNumbers) (eqb (length xs % 3) 0) (p .size) in
+    let b = of-between 1 (length xs) maxNumbers (s .0) in
+    let t = triangles-thirds xs (eqb-true (length xs % 3) 0 (s .1)) in
+    (t, omega (arith, b .0), omega (arith, b .1))
+
+-- a complete packing of an accepted list
+module _ (v : ℕ) (xs : List ℕ) (os : List Operation) (s : Packing) (a : check v xs ≡ Accepted) (e : chosenFor most (trianglesOf xs) ≡ chosen os s)
+    (c : Complete (nothingBuilt most (trianglesOf xs)) [] [] os s) where
+  kept : (s .mostPlaces ≤ maxPlaces) × (s .mostLoops ≤ maxLoops)
+  kept =
+      let k = chosen-same most (trianglesOf xs) os s e in
+      let p = peaks-kept most (trianglesOf xs) (k .0) in
+      (omega (arith, p .0, ap (λ (x : Packing). x .mostPlaces) (k .2)), omega (arith, p .1, ap (λ (x : Packing). x .mostLoops) (k .2)))
+
+  in-places : (k : ℕ) → s .mostPlaces ≤ k → Within places k (c .runs .run)
+  in-places k h = peak-within places 0 k (c .runs .run) (omega (arith, c .runs .most-places))
+
+  in-loops : (k : ℕ) → s .mostLoops ≤ k → Within length k (c .runs .run)
+  in-loops k h = peak-within length 0 k (c .runs .run) (omega (arith, c .runs .most-loops))
+
+  pub all-fit : AllFit os
+  unfolding places
+  all-fit = run-fits (c .runs .run) (omega arith) (omega arith) (in-places maxPlaces (kept .0)) (in-loops maxLoops (kept .1))
+
+  pub short-enough : length (bytesOf (operationsBits os)) < 65536
+  short-enough =
+      omega (arith, run-bits (c .runs .run), c .runs .count, accepted-count v xs a .2, length-bytes (operationsBits os))
+
+  at-least : (minPlaces ≤ s .mostPlaces) × (1 ≤ s .mostLoops)
+  at-least =
+      run-first (c .runs .run) (omega (arith, c .runs .count, accepted-count v xs a .1)) (s .mostPlaces) (s .mostLoops)
+      (in-places (s .mostPlaces) (omega arith)) (in-loops (s .mostLoops) (omega arith))
+
+  in-vertices : (minVertices ≤ v) × (v ≤ maxVertices)
+  in-vertices = of-between minVertices v maxVertices (check-accepted v xs .0 a .range)
+
+  pub counts-fit : CountsFit (statedBy v (trianglesOf xs) s)
+  counts-fit = record {
+    vertices = omega (arith, in-vertices .1);
+    triangles = omega (arith, accepted-count v xs a .2);
+    places = omega (arith, kept .0);
+    loops = omega (arith, kept .1);
+  }
+
+  pub in-range : inRange (statedBy v (trianglesOf xs) s) ≡ true
+  in-range =
+      let t = length (trianglesOf xs) in
+      and-both (vertexRange v && between 1 t maxTriangles && between minPlaces (s .mostPlaces) maxPlaces) (between 1 (s .mostLoops) maxLoops)
+      (and-both (vertexRange v && between 1 t maxTriangles) (between minPlaces (s .mostPlaces) maxPlaces)
+      (and-both (vertexRange v) (between 1 t maxTriangles) (check-accepted v xs .0 a .range)
+      (between-of 1 t maxTriangles (accepted-count v xs a .1) (accepted-count v xs a .2)))
+      (between-of minPlaces (s .mostPlaces) maxPlaces (at-least .0) (kept .0)))
+      (between-of 1 (s .mostLoops) maxLoops (at-least .1) (kept .1))

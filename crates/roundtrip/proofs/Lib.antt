@@ -1,0 +1,13 @@
+pub mod Wanting
+pub mod Limits
+pub mod Results
+pub mod Stuck
+pub mod Places
+pub mod Right
+pub mod Fitting
+pub mod Forth
+pub mod Numbers
+pub mod Each
+pub mod Back
+pub mod Unpacked
+pub mod Alone

@@ -1,0 +1,225 @@
+-- Claim 1 of the packer's choice: at each step one place is right, and the operation for it is chosen, allowed and within the edge rule.
+-- Assumes nothing.
+use Prim.Native.Nat.{ℕ, suc, _≤_}
+use native.Mathlib.Omega.{arith}
+use mathlib.Core.Bool.{Bool, true, false}
+use mathlib.Core.List.{List, [], _∷_}
+use mathlib.Core.Path.{_≡_, refl, sym, ap, _∙_, subst}
+use mathlib.Core.Logic.{_⊎_, inl, inr, _↔_}
+use lib.ListN.{length}
+use lib.Dec.{leb}
+use Rattle.rules.specs.declared.Triangle.{Triangle}
+use Rattle.rules.specs.declared.Operation.{Operation}
+use Rattle.rules.specs.declared.Operation.the-variants.{New}
+use Rattle.rules.specs.declared.Across.the-variants.{Found, Nothing}
+use Rattle.rules.specs.declared.Checked.the-variants.{Accepted}
+use Rattle.rules.specs.Triangle.{tri, trianglesOf}
+use Rattle.rules.specs.Across.{across}
+use Rattle.rules.specs.Check.{check}
+use Rattle.rules.specs.Ring.{Node, Ring, vertex, isOpen, startOr, places, loopAt}
+use Rattle.rules.specs.Table.{Side, glued, builds, effect, edgeRule}
+use Rattle.rules.specs.Choice.{Packing, Next, refuses, takes, has, dropTriangle, operationFor, sizeOf, choosePlace, packingAfter, limited, choose}
+use Rattle.rules.specs.Pack.{Most, nothingBuilt}
+use Rattle.gap.specs.Turn.{at-p, In, here, there, Unused, Once, FanAt}
+use Rattle.gap.specs.Trace.{triangleAt}
+use Rattle.gap.specs.Tally.{gluesA, gluesB, sideOf, newNumbers, unionsOf}
+use Rattle.gap.proofs.Links.{once-func}
+use Rattle.gap.proofs.Turning.{others, others-sub, Finds, across-some, across-none, look}
+use Rattle.gap.proofs.Dropping.{drop-others}
+use Rattle.gap.proofs.Exists.{PlaceOf}
+use Rattle.gap.proofs.Allowing.{Allowed}
+use Rattle.gap.proofs.Packing.{Packs, choice-place, place, place-allowed}
+use Rattle.gap.proofs.Rules.{Rules, rule-of}
+use Rattle.gap.proofs.Steps.{Keeps, packs, Packed, pack-old}
+use Rattle.gap.proofs.Bordering.{border-free}
+use Rattle.gap.proofs.Taking.{out, corners, keeps-take}
+use Rattle.gap.proofs.Progress.{AllGood}
+use Rattle.gap.proofs.Effects.{allows, allows-any}
+use Rattle.gap.proofs.Choosing.{Fits, GoesOn, choose-old, no-new, choose-step}
+use Rattle.gap.proofs.Whole.{choose-ended, fits-begin}
+use Rattle.gap.proofs.Accepted.{Packable, accepted-packable}
+use Rattle.roundtrip.specs.Run.{Reached, begins, goes-on}
+use Rattle.roundtrip.specs.Right.{RightPlace, by-entering, by-leaving}
+use Rattle.roundtrip.specs.Claims.{Built, RightChoice, OnePlaceIsRight}
+use Rattle.roundtrip.proofs.Places.{links-map, place-right, only-right}
+
+-- an operation that is taken is the one that the packer goes on with
+taken-is : (o o′ : Operation) (s s′ : Packing) → limited o s ≡ takes o′ s′ → s′ ≡ s
+unfolding limited
+taken-is o o′ s s′ = go (leb (places (s .loops)) (s .limitPlaces)) (leb (length (s .loops)) (s .limitLoops))
+  where
+    go : (u v : Bool) → _≡_ {A = Next} (elim u [ true ↦ elim v [ true ↦ takes o s | false ↦ refuses 10 ] | false ↦ refuses 9 ]) (takes o′ s′) → s′ ≡ s
+    go true true e = cc
+    go true false e = let z : _≡_ {A = ℕ} 0 1 = cc in absurd (omega arith)
+    go false v e = let z : _≡_ {A = ℕ} 0 1 = cc in absurd (omega arith)
+
+-- what packing keeps holds of each packing that is reached
+pub record Holds (ts : List Triangle) (s : Packing) : Type 0 where
+  pub built : List Triangle
+  pub rims : List Ring
+  pub fits : Fits s built rims
+  pub mesh : s .mesh ≡ ts
+
+holds-next : (ts : List Triangle) (s s′ : Packing) (o : Operation) → ((c : ℕ) → FanAt ts c) → Holds ts s → choose s ≡ takes o s′ → Holds ts s′
+holds-next ts s s′ o fan k e =
+    go (choose-step s (k .built) (k .rims) (k .fits) (subst (λ (M : List Triangle). (c : ℕ) → FanAt M c) (sym (k .mesh)) fan))
+  where
+    go : ((s .loops ≡ []) × (s .left ≡ [])) ⊎ GoesOn s (k .built) (k .rims) → Holds ts s′
+    go (inl h) = let f = sym (choose-ended s (h .0) (h .1)) ∙ e in let z : _≡_ {A = ℕ} 0 1 = cc in absurd (omega arith)
+    go (inr g) =
+        let q : s′ ≡ g .after = taken-is (g .o) o (g .after) s′ (sym (g .chooses) ∙ e) in
+        subst (Holds ts) (sym q) (record { built = g .built-after; rims = g .rims-after; fits = g .fits; mesh = g .mesh ∙ k .mesh })
+
+pub holds : (h : Most) (ts : List Triangle) (s : Packing) → Once ts → ((c : ℕ) → FanAt ts c) → Reached h ts s → Holds ts s
+holds h ts s o fan begins = record { built = []; rims = []; fits = fits-begin h ts o; mesh = refl }
+holds h ts s o fan (goes-on {s = s₀} {o = op} r e) = holds-next ts s₀ s op fan (holds h ts s₀ o fan r) e
+
+right-map : {a b c l i : ℕ} {ls : List Ring} {ts us : List Triangle} → ((v w : ℕ) → In c v w ts → In c v w us) → RightPlace ts ls a b c l i → RightPlace us ls a b c l i
+right-map g (by-entering x j o q w) = by-entering x j o q (links-map g w)
+right-map g (by-leaving y o w) = by-leaving y o (links-map g w)
+
+-- the operation for a place never gives a number
+module _ (s : Packing) (B : List Triangle) (rims : List Ring) (fit : Fits s B rims) (fan : (c : ℕ) → FanAt (s .mesh) c) (e f : Node) (ps : List Node) (ws : List Ring)
+    (at : s .loops ≡ (e ∷ (f ∷ ps)) ∷ ws) (c m k : ℕ) (found : across (vertex f) (vertex e) (s .mesh) ≡ Found m k c) (old : has c (s .numbered) ≡ true) where
+  abbrev a : ℕ
+  a = vertex e
+
+  abbrev b : ℕ
+  b = vertex f
+
+  abbrev ls : List Ring
+  ls = (e ∷ (f ∷ ps)) ∷ ws
+
+  keeps : Keeps (s .mesh) (s .left) B ((e ∷ (f ∷ ps)) ∷ ws) rims
+  keeps = subst (λ (l : List Ring). Keeps (s .mesh) (s .left) B l rims) at (fit .keeps)
+
+  good : AllGood ((e ∷ (f ∷ ps)) ∷ ws)
+  good = subst AllGood at (fit .good)
+
+  in-mesh : In (vertex f) (vertex e) c (s .mesh)
+  in-mesh = go (look b a (s .mesh))
+    where
+      go : ((z : ℕ) × In (vertex f) (vertex e) z (s .mesh)) ⊎ Unused (vertex f) (vertex e) (s .mesh) → In (vertex f) (vertex e) c (s .mesh)
+      go (inl i) =
+          let w = across-some b a (i .0) (s .mesh) (fit .keeps .onceM) (i .1) in
+          let q = sym (w .found) ∙ found in
+          let z : i .0 ≡ c = cc in
+          subst (λ (v : ℕ). In (vertex f) (vertex e) v (s .mesh)) z (i .1)
+      go (inr u) = let q = sym (across-none b a (s .mesh) u) ∙ found in let z : _≡_ {A = ℕ} 0 1 = cc in absurd (omega arith)
+
+  i : In (vertex f) (vertex e) c (s .left)
+  i = go (look b a (s .left))
+    where
+      go : ((z : ℕ) × In (vertex f) (vertex e) z (s .left)) ⊎ Unused (vertex f) (vertex e) (s .left) → In (vertex f) (vertex e) c (s .left)
+      go (inl j) =
+          subst (λ (v : ℕ). In (vertex f) (vertex e) v (s .left)) (once-func (s .mesh) (fit .keeps .onceM) (fit .keeps .subR _ _ _ (j .1)) in-mesh) (j .1)
+      go (inr u) = absurd (border-free (s .mesh) (s .left) B e f ps ws rims keeps u c in-mesh)
+
+  abbrev R : List Triangle
+  R = others i
+
+  kept : Keeps (s .mesh) (triangleAt e f c ∷ R) B ((e ∷ (f ∷ ps)) ∷ ws) rims
+  kept = keeps-take (s .mesh) (s .left) B ls rims b a c i keeps
+
+  pk : Packs (s .mesh) (triangleAt e f c ∷ R) B ((e ∷ (f ∷ ps)) ∷ ws)
+  pk = packs (s .mesh) (triangleAt e f c ∷ R) B ls rims kept
+
+  met : (x : ℕ) × (y : ℕ) × In c x y B
+  met = fit .numbers .met c old
+
+  pl : PlaceOf (s .mesh) R ((e ∷ (f ∷ ps)) ∷ ws) (vertex e) (vertex f) c
+  pl = place (s .mesh) R B e f ps ws c pk (fan c) (met .0) (met .1) (met .2)
+
+  al : Allowed e f ps ws c (pl .ring) (pl .at) (pl .x) (pl .y)
+  al = place-allowed (s .mesh) R B e f ps ws c pk (fan c) pl
+
+  chosen : choosePlace (vertex e) (vertex f) c R ((e ∷ (f ∷ ps)) ∷ ws) ≡ al .o
+  chosen = choice-place (s .mesh) R B e f ps ws c pk (fan c) pl ∙ al .names
+
+  named : operationFor (sizeOf (s .loops) 0) (pl .ring) (pl .at) ≡ al .o
+  unfolding loopAt
+  named = ap (λ (l : List Ring). operationFor (sizeOf l 0) (pl .ring) (pl .at)) at ∙ al .names
+
+  never-new : al .o ≡ New → ⊥
+  never-new q =
+      let z : newNumbers (al .o) ≡ 0 = ap newNumbers (sym chosen) ∙ no-new a b c R ls in
+      let y : newNumbers (al .o) ≡ 1 = ap newNumbers q in
+      omega arith
+
+  no-numbers : newNumbers (al .o) ≡ 0
+  no-numbers = ap newNumbers (sym chosen) ∙ no-new a b c R ls
+
+  packed : Packed (s .mesh) R B e f ps ws rims c
+  packed = pack-old (s .mesh) R B e f ps ws rims c kept (fan c) (good .0 .0) (let h = good .0 .1 in omega arith) (met .0) (met .1) (met .2) .0
+
+  same-o : packed .o ≡ al .o
+  unfolding packed
+  same-o = sym (pack-old (s .mesh) R B e f ps ws rims c kept (fan c) (good .0 .0) (let h = good .0 .1 in omega arith) (met .0) (met .1) (met .2) .1) ∙ chosen
+
+  -- the edge rule, of any list of what is built
+  rules : (C : List Triangle) → Built s C → edgeRule (tri (vertex f) (vertex e) c) glued (sideOf (gluesA (al .o))) (sideOf (gluesB (al .o))) C ≡ true
+  rules C h =
+      rule-of (tri b a c) (gluesA (al .o)) (gluesB (al .o)) C
+      (record {
+        apart = kept .once .1;
+        ruleA = λ g. (let r = packed .ruleA (ap gluesA same-o ∙ g) in (none a c (r .0), none c a (r .1)));
+        ruleB = λ g. (let r = packed .ruleB (ap gluesB same-o ∙ g) in (none c b (r .0), none b c (r .1)));
+      })
+    where
+      none : (x y : ℕ) → Unused x y B → Unused x y C
+      none x y u z j = let w = h x y z .0 j in go (fit .keeps .part x y z (w .0)) (w .1)
+        where
+          go : In x y z (s .left) ⊎ In x y z B → (In x y z (s .left) → ⊥) → ⊥
+          go (inl l) n = n l
+          go (inr l) n = u z l
+
+  abbrev after : Packing
+  after = packingAfter s R (s .numbered) (al .ls)
+
+  chooses : choose s ≡ limited (operationFor (sizeOf (s .loops) 0) (pl .ring) (pl .at)) after
+  chooses =
+      choose-old s e f ps ws (al .ls) R (al .o) c m k at found (drop-others b a c (s .left) i (fit .keeps .once)) old chosen
+      (allows (al .o) e f ps ws (al .ls) c (al .does))
+      ∙ ap (λ (o : Operation). limited o after) (sym named)
+
+  allowed : (u : ℕ) → effect (operationFor (sizeOf (s .loops) 0) (pl .ring) (pl .at)) u (s .loops)
+      ≡ builds (al .ls) (tri (vertex f) (vertex e) c) glued (sideOf (gluesA (al .o))) (sideOf (gluesB (al .o))) 0 0 (unionsOf (al .o))
+  unfolding effect
+  allowed u =
+      ap (λ (o : Operation). effect o u (s .loops)) named
+      ∙ (ap (effect (al .o) u) at
+      ∙ (allows-any (al .o) u e f ps ws (al .ls) c (al .does) (λ q. absurd (never-new q))
+      ∙ ap (λ (j : ℕ). builds (al .ls) (tri b a c) glued (sideOf (gluesA (al .o))) (sideOf (gluesB (al .o))) j 0 (unionsOf (al .o))) no-numbers))
+
+  pub right-choice : RightChoice s (vertex e) (vertex f) c
+  right-choice = record {
+    loop = pl .ring;
+    place = pl .at;
+    right =
+        subst (λ (l : List Ring). RightPlace (s .left) l a b c (pl .ring) (pl .at)) (sym at)
+        (right-map (λ v w j. others-sub i j) (place-right (s .mesh) R B e f ps ws c pk (fan c) pl));
+    no-other = λ l j w. only-right (s .mesh) R B e f ps ws c pk (fan c) pl l j
+        (right-map (λ v x h. out i h) (subst (λ (q : List Ring). RightPlace (s .left) q a b c l j) at w));
+    after = after;
+    chooses = chooses;
+    q-r = sideOf (gluesA (al .o));
+    r-p = sideOf (gluesB (al .o));
+    unions = unionsOf (al .o);
+    allowed = allowed;
+    edge-rule = rules;
+  }
+
+pub one-place-is-right : OnePlaceIsRight
+one-place-is-right h v xs acc s r e ps ws l n k c found old = go ps l found
+  where
+    ok : Packable v (trianglesOf xs)
+    ok = accepted-packable v xs acc
+
+    w : Holds (trianglesOf xs) s
+    w = holds h (trianglesOf xs) s (ok .once) (ok .fans) r
+
+    go : (qs : List Node) → s .loops ≡ (e ∷ qs) ∷ ws → across (startOr (vertex e) qs) (vertex e) (s .mesh) ≡ Found n k c
+        → RightChoice s (vertex e) (startOr (vertex e) qs) c
+    go [] q g = let z = subst AllGood q (w .fits .good) .0 .1 in absurd (omega arith)
+    go (f ∷ qs) q g =
+        right-choice s (w .built) (w .rims) (w .fits) (subst (λ (M : List Triangle). (x : ℕ) → FanAt M x) (sym (w .mesh)) (ok .fans)) e f qs ws q c n k g old

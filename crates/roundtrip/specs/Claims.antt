@@ -1,0 +1,190 @@
+-- Demand 2: packing is never stuck, each triangle is unpacked once, every accepted pack is the pack of its list.
+-- Assumes nothing.
+use Prim.Native.Nat.{ℕ, suc, _*_, _≤_, _<_}
+use mathlib.Core.Bool.{true}
+use mathlib.Core.List.{List, [], _∷_}
+use mathlib.Core.Path.{_≡_}
+use mathlib.Core.Logic.{_⊎_, _↔_}
+use lib.ListN.{length, take, getD}
+use Rattle.rules.specs.declared.Triangle.{Triangle}
+use Rattle.rules.specs.declared.Operation.{Operation}
+use Rattle.rules.specs.declared.Counts.{Counts}
+use Rattle.rules.specs.declared.Model.{Model}
+use Rattle.rules.specs.declared.Totals.{Totals}
+use Rattle.rules.specs.declared.Across.the-variants.{Found}
+use Rattle.rules.specs.declared.Place.{Place}
+use Rattle.rules.specs.declared.Checked.the-variants.{Accepted}
+use Rattle.rules.specs.Limits.{maxPlaces}
+use Rattle.rules.specs.Triangle.{tri, Edge, trianglesOf, corners}
+use Rattle.rules.specs.Count.{different}
+use Rattle.rules.specs.Across.{across}
+use Rattle.rules.specs.Check.{check}
+use Rattle.rules.specs.Ring.{Node, Ring, vertex, startOr, places}
+use Rattle.rules.specs.Table.{Side, glued, builds, effect, edgeRule}
+use Rattle.rules.specs.Answer.{Answer, refusal, packed, unpacked}
+use Rattle.rules.specs.Fields.{fields, fieldsOf}
+use Rattle.rules.specs.Choice.{Packing, has, operationFor, sizeOf, limited, choose}
+use Rattle.rules.specs.Pack.{chosen, Most, most, chosenFor, packOf, PackBuffers, PackResult, packRooms, packWithin, pack}
+use Rattle.rules.specs.Buffer.{Buffers}
+use Rattle.rules.specs.Machine.{Machine, empty, totals}
+use Rattle.rules.specs.Book.{recounted}
+use Rattle.rules.specs.Bits.{bitsOfBytes}
+use Rattle.rules.specs.Unpack.{numbersOf, UnpackResult, unpack}
+use Rattle.book.specs.Consistent.{Consistent}
+use Rattle.gap.specs.Works.{Works, Reads}
+use Rattle.gap.specs.Turn.{In, Once}
+use Rattle.codes.specs.Shape.{Bytes}
+use Rattle.roundtrip.specs.Run.{unlimited, runLoops, NoFault, FirstFault, peakOf, Reached}
+use Rattle.roundtrip.specs.Right.{RightPlace}
+
+-- 1. Never stuck. Without limits the packer comes to the end of an accepted list; what limits change is told by 9 and 10, and
+-- by nothing else but 11.
+pub record NeverStuck (h : Most) (v : ℕ) (xs : List ℕ) (r : PackBuffers) (operations : List Operation) (last : Packing) : Type 0 where
+  pub run : chosenFor (unlimited (trianglesOf xs)) (trianglesOf xs) ≡ chosen operations last
+  pub none-left : last .left ≡ []
+  pub no-loop : last .loops ≡ []
+  pub nine : (packWithin h v xs r .answer ≡ refusal 9) ↔ FirstFault h 9 (runLoops (trianglesOf xs))
+  pub ten : (packWithin h v xs r .answer ≡ refusal 10) ↔ FirstFault h 10 (runLoops (trianglesOf xs))
+  pub eleven : (packWithin h v xs r .answer ≡ refusal 11)
+      ↔ (NoFault h (runLoops (trianglesOf xs)) × (length (r .pack) < length (packOf v (trianglesOf xs) operations last)))
+  pub packs : (packWithin h v xs r .answer ≡ packed (length (packOf v (trianglesOf xs) operations last)))
+      ↔ (NoFault h (runLoops (trianglesOf xs)) × (length (packOf v (trianglesOf xs) operations last) ≤ length (r .pack)))
+  pub no-other : (packWithin h v xs r .answer ≡ packed (length (packOf v (trianglesOf xs) operations last)))
+      ⊎ ((packWithin h v xs r .answer ≡ refusal 9) ⊎ ((packWithin h v xs r .answer ≡ refusal 10) ⊎ (packWithin h v xs r .answer ≡ refusal 11)))
+
+-- on every list that passes 1 to 7 and all buffers that pass 8
+abbrev pub PackingIsNeverStuck : Type 0
+PackingIsNeverStuck = (h : Most) (v : ℕ) (xs : List ℕ) (r : PackBuffers) → check v xs ≡ Accepted → packRooms v r ≡ true
+    → (operations : List Operation) × (last : Packing) × NeverStuck h v xs r operations last
+
+-- B are the triangles that a packing has built: those of its list that are not left
+abbrev pub Built : Packing → List Triangle → Type 0
+Built s B = (x y z : ℕ) → In x y z B ↔ (In x y z (s .mesh) × (In x y z (s .left) → ⊥))
+
+-- The packer's choice at the current edge a→b, where the triangle b a c is across it and c has a number: one place of c is right,
+-- the operation for it is chosen, the table allows it, and the edge rule holds.
+pub record RightChoice (s : Packing) (a b c : ℕ) : Type 0 where
+  pub loop : ℕ
+  pub place : ℕ
+  pub right : RightPlace (s .left) (s .loops) a b c loop place
+  pub no-other : (l i : ℕ) → RightPlace (s .left) (s .loops) a b c l i → (l ≡ loop) × (i ≡ place)
+  pub after : Packing
+  pub chooses : choose s ≡ limited (operationFor (sizeOf (s .loops) 0) loop place) after
+  pub q-r : Side
+  pub r-p : Side
+  pub unions : ℕ
+  pub allowed : (u : ℕ) → effect (operationFor (sizeOf (s .loops) 0) loop place) u (s .loops)
+      ≡ builds (after .loops) (tri b a c) glued q-r r-p 0 0 unions
+  pub edge-rule : (B : List Triangle) → Built s B → edgeRule (tri b a c) glued q-r r-p B ≡ true
+
+-- at each step of packing an accepted list
+abbrev pub OnePlaceIsRight : Type 0
+OnePlaceIsRight = (h : Most) (v : ℕ) (xs : List ℕ) → check v xs ≡ Accepted → (s : Packing) → Reached h (trianglesOf xs) s
+    → (e : Node) (ps : List Node) (ws : List Ring) → s .loops ≡ (e ∷ ps) ∷ ws → (n k c : ℕ)
+    → across (startOr (vertex e) ps) (vertex e) (s .mesh) ≡ Found n k c → has c (s .numbered) ≡ true
+    → RightChoice s (vertex e) (startOr (vertex e) ps) c
+
+-- 2. Each triangle once. The triangles under a numbering of their vertices
+abbrev pub renumbered : (ℕ → ℕ) → List Triangle → List Triangle
+renumbered f [] = []
+renumbered f (t ∷ ts) = tri (f (t .p)) (f (t .q)) (f (t .r)) ∷ renumbered f ts
+
+-- the same triangles, each once, in some order and each from any of its corners on
+pub record Rearranged (ts us : List Triangle) : Type 0 where
+  pub count : length us ≡ length ts
+  pub all : (x y z : ℕ) → In x y z ts ↔ In x y z us
+  pub once : Once us
+
+-- one to one from 0 .. v-1 onto 0 .. v-1
+pub record OneToOne (v : ℕ) (f : ℕ → ℕ) : Type 0 where
+  pub below : (x : ℕ) → x < v → f x < v
+  pub tells : (x y : ℕ) → x < v → y < v → f x ≡ f y → x ≡ y
+  pub onto : (n : ℕ) → n < v → (x : ℕ) × (x < v) × (f x ≡ n)
+
+-- the triangles that an unpacking has written
+abbrev pub written : ℕ → UnpackResult → List Triangle
+written n u = trianglesOf (take (3 * n) (u .buffers .triangles))
+
+-- the new number of an old vertex
+abbrev pub newNumber : PackResult → ℕ → ℕ
+newNumber p x = getD (p .buffers .numbering) x 0
+
+-- p is what the packing did, u what the unpacking of its pack did
+pub record EachOnce (v : ℕ) (xs : List ℕ) (p : PackResult) (u : UnpackResult) : Type 0 where
+  pub totals : Totals
+  pub accepted : u .answer ≡ unpacked (record { vertices = v; triangles = length (trianglesOf xs); totals = totals })
+  pub numbering : OneToOne v (newNumber p)
+  -- the list's triangles in the order in which they are built
+  pub order : List Triangle
+  pub rearranged : Rearranged (trianglesOf xs) order
+  pub unpacked : written (length (trianglesOf xs)) u ≡ renumbered (newNumber p) order
+  -- and so the same of the triangles unpacked
+  pub once : Once (written (length (trianglesOf xs)) u)
+
+abbrev pub EachTriangleOnce : Type 0
+EachTriangleOnce = (v : ℕ) (xs : List ℕ) (r : PackBuffers) (n : ℕ) → pack v xs r .answer ≡ packed n
+    → (r′ : Buffers) → 3 * length (trianglesOf xs) ≤ length (r′ .triangles) → maxPlaces ≤ length {A = Place} (r′ .places)
+    → EachOnce v xs (pack v xs r) (unpack (take n (pack v xs r .buffers .pack)) r′)
+
+-- 3. Every accepted pack is the pack of its list: m is the answer, xs the list that is written
+pub record PackOf (bytes : List ℕ) (m : Model) (xs : List ℕ) : Type 0 where
+  pub accepted : check (m .vertices) xs ≡ Accepted
+  pub count : length (trianglesOf xs) ≡ m .triangles
+  pub same-length : (r : PackBuffers) → packRooms (m .vertices) r ≡ true → length bytes ≤ length (r .pack)
+      → pack (m .vertices) xs r .answer ≡ packed (length bytes)
+  pub same-bytes : (r : PackBuffers) → packRooms (m .vertices) r ≡ true → length bytes ≤ length (r .pack)
+      → take (length bytes) (pack (m .vertices) xs r .buffers .pack) ≡ bytes
+  pub same-numbers : (r : PackBuffers) → packRooms (m .vertices) r ≡ true → length bytes ≤ length (r .pack)
+      → (x : ℕ) → x < m .vertices → newNumber (pack (m .vertices) xs r) x ≡ x
+
+abbrev pub listIn : Model → UnpackResult → List ℕ
+listIn m u = take (3 * m .triangles) (u .buffers .triangles)
+
+abbrev pub EveryAcceptedPackIsThePackOfItsList : Type 0
+EveryAcceptedPackIsThePackOfItsList = (bytes : List ℕ) → Bytes bytes → (r : Buffers) (m : Model) → unpack bytes r .answer ≡ unpacked m
+    → PackOf bytes m (listIn m (unpack bytes r))
+
+-- no two accepted packs unpack to one list
+abbrev pub NoTwoPacksOfOneList : Type 0
+NoTwoPacksOfOneList = (bytes bytes′ : List ℕ) → Bytes bytes → Bytes bytes′ → (r r′ : Buffers) (m m′ : Model)
+    → unpack bytes r .answer ≡ unpacked m → unpack bytes′ r′ .answer ≡ unpacked m′
+    → m .vertices ≡ m′ .vertices → listIn m (unpack bytes r) ≡ listIn m′ (unpack bytes′ r′) → bytes ≡ bytes′
+
+-- 4. Packing depends on v and the list alone, not on what the buffers hold: of their lengths only on whether they are long enough
+abbrev pub SameInAllBuffers : Type 0
+SameInAllBuffers = (v : ℕ) (xs : List ℕ) (r r′ : PackBuffers) (n n′ : ℕ) → pack v xs r .answer ≡ packed n → pack v xs r′ .answer ≡ packed n′
+    → (n ≡ n′) × (take n (pack v xs r .buffers .pack) ≡ take n′ (pack v xs r′ .buffers .pack))
+    × (take v (pack v xs r .buffers .numbering) ≡ take v (pack v xs r′ .buffers .numbering))
+
+-- in buffers of the same lengths the answer is the same
+abbrev pub SameAnswerInAllBuffers : Type 0
+SameAnswerInAllBuffers = (v : ℕ) (xs : List ℕ) (r r′ : PackBuffers) → length (r .numbering) ≡ length (r′ .numbering)
+    → length {A = Place} (r .places) ≡ length {A = Place} (r′ .places) → length (r .pack) ≡ length (r′ .pack)
+    → pack v xs r .answer ≡ pack v xs r′ .answer
+
+-- the counts that a pack states are V, T and the peaks of its own run
+abbrev pub StatedPeaksAreTrue : Type 0
+StatedPeaksAreTrue = (v : ℕ) (xs : List ℕ) (r : PackBuffers) (n : ℕ) → pack v xs r .answer ≡ packed n
+    → (ops : List ℕ) × (fieldsOf (take n (pack v xs r .buffers .pack))
+    ≡ fields (record { vertices = v; triangles = length (trianglesOf xs); places = peakOf places 0 (runLoops (trianglesOf xs)); loops = peakOf length 0 (runLoops (trianglesOf xs)) }) ops)
+
+-- An accepted unpacking is the machine's run over the operations that are read; its answer is counted anew from its triangles
+pub record AcceptedRun (bytes : List ℕ) (r : Buffers) (m : Model) : Type 0 where
+  pub counts : Counts
+  pub ops : List ℕ
+  pub left : List ℕ
+  pub fields : fieldsOf bytes ≡ fields counts ops
+  pub operations : List Operation
+  pub reads : Reads (bitsOfBytes ops) operations left
+  pub end : Machine
+  pub works : Works (empty counts) operations end
+  -- all that holds of the builder's book
+  pub borders : List Edge
+  pub consistent : Consistent (record { machine = end; borders = borders })
+  pub list : listIn m (unpack bytes r) ≡ numbersOf (end .triangles)
+  pub vertices : m .vertices ≡ different (corners (end .triangles))
+  pub triangles : m .triangles ≡ length (end .triangles)
+  pub totals : m .totals ≡ totals (recounted end)
+
+abbrev pub AcceptedUnpackingIsARun : Type 0
+AcceptedUnpackingIsARun = (bytes : List ℕ) (r : Buffers) (m : Model) → unpack bytes r .answer ≡ unpacked m → AcceptedRun bytes r m

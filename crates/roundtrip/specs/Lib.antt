@@ -1,0 +1,3 @@
+pub mod Run
+pub mod Right
+pub mod Claims
