@@ -2,11 +2,13 @@
 //!
 //!     definitions table                 the table of the rules, crates/rules/proofs/Models.antt
 //!     definitions cases SEED COUNT      a module of random cases, each a theorem of its own
+//!     definitions edit FILE FOLDER      applies a must-fail edit to a crate's folder
 //!
 //! Every expected value comes from the second program.
 
 mod antt;
 mod cases;
+mod edit;
 mod prelude;
 mod second;
 mod table;
@@ -20,11 +22,17 @@ fn main() {
             (Ok(seed), Ok(count)) => print!("{}", cases::module(seed, count)),
             _ => usage(),
         },
+        ["edit", file, folder] => {
+            if let Err(e) = edit::apply(file, folder) {
+                eprintln!("{e}");
+                std::process::exit(1);
+            }
+        }
         _ => usage(),
     }
 }
 
 fn usage() {
-    eprintln!("usage: definitions table\n       definitions cases SEED COUNT");
+    eprintln!("usage: definitions table\n       definitions cases SEED COUNT\n       definitions edit FILE FOLDER");
     std::process::exit(2);
 }

@@ -1,0 +1,19 @@
+-- `border::decide` meets its contract.
+-- Assumes nothing.
+use Rattle.memory.proofs.Ready.{ready-free}
+use Rattle.border.proofs.Deciding.{decided-by}
+use borrow.Author.Needs.{needs}
+use Rattle.border.proofs.decide.Statement.{statement}
+use Rattle.border.proofs.decide.Tie as tie
+
+propose-requires : tie.Need-propose-requires
+propose-requires c κs = search needs
+
+test-room-requires : tie.Need-test-room-requires
+test-room-requires c κs = ready-free _ _ _ (c .before .before .pre)
+
+returns : tie.Need-returns
+returns c = decided-by _ _ _ _ _ _ (c .before .propose .ensures) (c .test-room .ensures)
+
+pub decide-spec : {M : Type 1} → statement M
+decide-spec = tie.close (tie.spec propose-requires test-room-requires returns)

@@ -1,0 +1,44 @@
+-- `border::plan::forward_plan` meets its contract.
+-- Assumes nothing.
+use native.Mathlib.Omega.{arith}
+use Rattle.memory.proofs.Near.{near-e, near-f, near-next}
+use Rattle.border.proofs.Planning.{plan-near, forward-small, forward-marked, forward-builds}
+use Rattle.border.proofs.plan.forward_plan.Statement.{statement}
+use Rattle.border.proofs.plan.forward_plan.Tie as tie
+
+returns : tie.Need-returns
+returns c = forward-small _ _ (c .if1 .taken)
+
+after-of-requires : tie.Need-after-of-requires
+after-of-requires c κs = omega (arith, near-e _ _ _ (c .before .before .pre))
+
+is-open-requires : tie.Need-is-open-requires
+is-open-requires c κs = omega (arith, c .after-of .ensures, near-f _ _ _ (c .before .before .before .pre))
+
+after-of-requires-2 : tie.Need-after-of-requires-2
+after-of-requires-2 c κs = omega (arith, c .before .before .after-of .ensures, near-f _ _ _ (c .before .before .before .before .before .pre))
+
+vertex-of-requires : tie.Need-vertex-of-requires
+vertex-of-requires c κs = omega (arith, near-next _ _ _ (c .before .before .before .before .before .before .pre) _ _ (c .before .before .before .after-of .ensures) (c .after-of2 .ensures))
+
+plan-at-requires : tie.Need-plan-at-requires
+plan-at-requires c κs = plan-near _ _ _ (c .before .before .before .before .before .before .before .pre)
+
+returns-2 : tie.Need-returns-2
+returns-2 c = forward-builds _ _ _ _ _ _ _ (c .before .before .before .before .before .before .if1 .left) (c .before .before .before .before .before .after-of .ensures) (c .before .before .before .before .is-open .ensures) (c .before .before .before .if2 .taken) (c .before .before .after-of2 .ensures) (c .before .vertex-of .ensures) (c .plan-at .ensures)
+
+returns-3 : tie.Need-returns-3
+returns-3 c = forward-marked _ _ _ _ (c .before .before .before .if1 .left) (c .before .before .after-of .ensures) (c .before .is-open .ensures) (c .if2 .left)
+
+pub forward-plan-spec : {M : Type 1} → statement M
+forward-plan-spec =
+    tie.close
+    (tie.spec
+    returns
+    after-of-requires
+    is-open-requires
+    after-of-requires-2
+    vertex-of-requires
+    plan-at-requires
+    returns-2
+    returns-3)

@@ -1,0 +1,52 @@
+// The cut-border in memory, and the eight operations on it: an operation is decided, which changes nothing, the edge rule is tested by
+// the caller, and then it is done. The contracts cite the crate memory, whose theorem `decides` joins them to the machine of the rules.
+mod alter;
+mod count;
+mod plan;
+mod verdict;
+
+use crate::alter::alter;
+use crate::count::count_built;
+use crate::count::count_marked;
+use crate::verdict::propose;
+use crate::verdict::test_room;
+use memory::Decided;
+use memory::Front;
+use memory::Plan;
+use rings::surgery::mark_edge;
+use rules::Operation;
+ghost use mathlib.Core.Path.{_≡_};
+ghost use Rattle.memory.specs.declared.Decided.the-variants.{Builds};
+ghost use Rattle.memory.specs.Moves.{markedHeld};
+ghost use Rattle.memory.specs.Decision.{decided, heldAfter, builtFront, markedFront};
+ghost use Rattle.memory.specs.Keeps.{Ready};
+
+// What the operation o would do: 16, then 17, or the plan of a triangle, or the edge to be marked as border.
+pub fn decide(m: &[u16], n: usize, s: Front, o: Operation) -> Decided
+    requires { ⌜ Ready n s (now m) ⌝ }
+    ensures { λ r. ⌜ r ≡ decided n s (now (m .entry)) o ⌝ }
+{
+    let d = propose(m, n, s, o);
+    test_room(n, s, d)
+}
+
+// The planned operation o is done: the state after it. The memory past the waiting loops is unchanged.
+pub fn build(m: &mut [u16], n: usize, s: Front, o: Operation, p: Plan) -> Front
+    requires { ⌜ Ready n s (now m) × (decided n s (now m) o ≡ Builds p) ⌝ }
+    ensures state { λ r. ⌜ r ≡ builtFront n s p (heldAfter n s (now (m .entry)) o p .loops) ⌝ }
+    ensures memory { λ _. ⌜ now (m .exit) ≡ heldAfter n s (now (m .entry)) o p .memory ⌝ }
+{
+    let l = alter(m, n, s, o, p);
+    count_built(n, s, p, l)
+}
+
+// The current edge is marked as border: the state after it.
+pub fn mark(m: &mut [u16], n: usize, s: Front) -> Front
+    requires { ⌜ Ready n s (now m) × (s .loops .live ≡ 0 → ⊥) ⌝ }
+    ensures state { λ r. ⌜ r ≡ markedFront n s (markedHeld n (s .loops) (now (m .entry)) .loops) ⌝ }
+    ensures memory { λ _. ⌜ now (m .exit) ≡ markedHeld n (s .loops) (now (m .entry)) .memory ⌝ }
+{
+    let old = s.loops;
+    let l = mark_edge(m, n, old);
+    count_marked(n, s, l)
+}

@@ -1,0 +1,175 @@
+// What each operation would do at the current edge: 16, a plan, or the edge to be marked. Nothing is changed.
+use memory::Decided;
+use memory::Loops;
+use memory::Plan;
+use rings::place::after_of;
+use rings::place::before_of;
+use rings::place::is_open;
+use rings::place::vertex_of;
+use rings::place::walk;
+use rings::stack::place_at;
+use rings::stack::size_at;
+use rules::Triangle;
+ghost use mathlib.Core.Path.{_≡_};
+ghost use Prim.Native.Nat.{_+_, _*_, _-_, _≤_, _<_};
+ghost use lib.ListN.{length};
+ghost use Rattle.memory.specs.Layout.{at};
+ghost use Rattle.memory.specs.Decision.{planAt, newPlan, forwardPlan, backwardPlan, borderPlan, splitPlan, closePlan, unionPlan, startPlan};
+ghost use Rattle.memory.specs.Near.{Near};
+
+// The triangle b a c at the current edge, from a to b, and its numbers.
+fn plan_at(m: &[u16], l: Loops, c: u16, qr: u16, rp: u16, v: u16, k: u16, p: u16) -> Plan
+    requires { ⌜ (4 * l .current + 3 < length (now m)) × (4 * at (now m) (4 * l .current + 2) + 3 < length (now m)) ⌝ }
+    ensures { λ r. ⌜ r ≡ planAt l (now (m .entry)) c qr rp v k p ⌝ }
+{
+    let e = l.current;
+    let f = after_of(m, e);
+    let b = vertex_of(m, f);
+    let a = vertex_of(m, e);
+    let t = Triangle { p: b, q: a, r: c };
+    Plan {
+        triangle: t,
+        pq: 0,
+        qr,
+        rp,
+        vertices: v,
+        starts: 0,
+        unions: k,
+        place: p,
+    }
+}
+
+pub(crate) fn new_plan(m: &[u16], n: usize, l: Loops, u: u16) -> Decided
+    requires { ⌜ Near n l (now m) ⌝ }
+    ensures { λ r. ⌜ r ≡ newPlan l (now (m .entry)) u ⌝ }
+{
+    Decided::Builds(plan_at(m, l, u, 1, 1, 1, 0, 0))
+}
+
+pub(crate) fn forward_plan(m: &[u16], n: usize, l: Loops) -> Decided
+    requires { ⌜ Near n l (now m) ⌝ }
+    ensures { λ r. ⌜ r ≡ forwardPlan l (now (m .entry)) ⌝ }
+{
+    let e = l.current;
+    let size = l.size;
+    if size < 4 {
+        return Decided::Refused(16);
+    }
+    let f = after_of(m, e);
+    if is_open(m, f) {
+        let c = after_of(m, f);
+        let v = vertex_of(m, c);
+        return Decided::Builds(plan_at(m, l, v, 1, 0, 0, 0, 0));
+    }
+    Decided::Refused(16)
+}
+
+pub(crate) fn backward_plan(m: &[u16], n: usize, l: Loops) -> Decided
+    requires { ⌜ Near n l (now m) ⌝ }
+    ensures { λ r. ⌜ r ≡ backwardPlan l (now (m .entry)) ⌝ }
+{
+    let e = l.current;
+    let size = l.size;
+    if size < 4 {
+        return Decided::Refused(16);
+    }
+    let c = before_of(m, e);
+    if is_open(m, c) {
+        let v = vertex_of(m, c);
+        return Decided::Builds(plan_at(m, l, v, 0, 1, 0, 0, 0));
+    }
+    Decided::Refused(16)
+}
+
+pub(crate) fn border_plan(m: &[u16], n: usize, l: Loops) -> Decided
+    requires { ⌜ Near n l (now m) ⌝ }
+    ensures { λ r. ⌜ r ≡ borderPlan l (now (m .entry)) ⌝ }
+{
+    let e = l.current;
+    let f = after_of(m, e);
+    let a = vertex_of(m, e);
+    let b = vertex_of(m, f);
+    Decided::Marks(a, b)
+}
+
+pub(crate) fn split_plan(m: &[u16], n: usize, l: Loops, i: u16) -> Decided
+    requires { ⌜ Near n l (now m) ⌝ }
+    ensures { λ r. ⌜ r ≡ splitPlan l (now (m .entry)) i ⌝ }
+{
+    let e = l.current;
+    let size = l.size;
+    if i < 2 {
+        return Decided::Refused(16);
+    }
+    if (size as usize) < (i as usize) + 3 {
+        return Decided::Refused(16);
+    }
+    let f = after_of(m, e);
+    let c = walk(m, i, f);
+    let v = vertex_of(m, c);
+    Decided::Builds(plan_at(m, l, v, 1, 1, 0, 0, c))
+}
+
+pub(crate) fn close_plan(m: &[u16], n: usize, l: Loops) -> Decided
+    requires { ⌜ Near n l (now m) ⌝ }
+    ensures { λ r. ⌜ r ≡ closePlan l (now (m .entry)) ⌝ }
+{
+    let e = l.current;
+    let size = l.size;
+    if size != 3 {
+        return Decided::Refused(16);
+    }
+    let f = after_of(m, e);
+    let c = after_of(m, f);
+    if is_open(m, f) {
+        if is_open(m, c) {
+            let v = vertex_of(m, c);
+            return Decided::Builds(plan_at(m, l, v, 0, 0, 0, 0, 0));
+        }
+        return Decided::Refused(16);
+    }
+    Decided::Refused(16)
+}
+
+pub(crate) fn union_plan(m: &[u16], n: usize, l: Loops, p: u16, j: u16) -> Decided
+    requires { ⌜ Near n l (now m) ⌝ }
+    ensures { λ r. ⌜ r ≡ unionPlan n l (now (m .entry)) p j ⌝ }
+{
+    let waiting = l.live - 1;
+    if p < 1 {
+        return Decided::Refused(16);
+    }
+    if waiting < p {
+        return Decided::Refused(16);
+    }
+    let w = waiting - p;
+    let k = size_at(m, n, w);
+    if j < k {
+        let s = place_at(m, n, w);
+        let c = walk(m, j, s);
+        let v = vertex_of(m, c);
+        return Decided::Builds(plan_at(m, l, v, 1, 1, 0, 1, c));
+    }
+    Decided::Refused(16)
+}
+
+pub(crate) fn start_plan(u: u16) -> Decided
+    requires { ⌜ u ≤ 4096 ⌝ }
+    ensures { λ r. ⌜ r ≡ startPlan u ⌝ }
+{
+    let t = Triangle {
+        p: u,
+        q: u + 1,
+        r: u + 2,
+    };
+    Decided::Builds(Plan {
+        triangle: t,
+        pq: 1,
+        qr: 1,
+        rp: 1,
+        vertices: 3,
+        starts: 1,
+        unions: 0,
+        place: 0,
+    })
+}

@@ -1,0 +1,45 @@
+-- `rings::surgery::cut_next` meets its contract.
+-- Assumes nothing.
+use native.Mathlib.Omega.{arith}
+use Rattle.memory.proofs.Near.{near-e, near-f, near-next}
+use Rattle.rings.proofs.Storing.{forward-memory, forward-loops}
+use borrow.Author.Needs.{needs}
+use Rattle.rings.proofs.surgery.cut_next.Statement.{statement}
+use Rattle.rings.proofs.surgery.cut_next.Tie as tie
+
+after-of-requires : tie.Need-after-of-requires
+after-of-requires c κs = omega (arith, near-e _ _ _ (c .before .before .pre))
+
+after-of-requires-2 : tie.Need-after-of-requires-2
+after-of-requires-2 c κs = omega (arith, c .before .after-of .ensures, near-f _ _ _ (c .before .before .before .before .pre))
+
+store-edge-requires : tie.Need-store-edge-requires
+store-edge-requires c κs = (omega (arith, near-e _ _ _ (c .before .before .before .before .before .before .pre)), omega (arith, c .before .before .before .after-of .ensures, near-f _ _ _ (c .before .before .before .before .before .before .pre), near-next _ _ _ (c .before .before .before .before .before .before .pre) _ _ (c .before .before .before .after-of .ensures) (c .before .after-of2 .ensures)))
+
+free-place-requires : tie.Need-free-place-requires
+free-place-requires c κs = search needs
+
+sub-t17 : tie.Need-sub-t17
+sub-t17 c = search needs
+
+add-t18 : tie.Need-add-t18
+add-t18 c = search needs
+
+same-length : tie.Need-same-length
+same-length c = search needs
+
+returns : tie.Need-returns
+returns c = (forward-loops _ _ _, forward-memory _ _ _ _ _ _ _ (c .before .before .before .before .before .before .before .before .before .before .before .after-of .ensures) (c .before .before .before .before .before .before .before .before .before .after-of2 .ensures) (c .before .before .before .before .before .before .before .store-edge .ensures) (c .before .before .before .free-place .ensures))
+
+pub cut-next-spec : {M : Type 1} → statement M
+cut-next-spec =
+    tie.close
+    (tie.spec
+    after-of-requires
+    after-of-requires-2
+    store-edge-requires
+    free-place-requires
+    sub-t17
+    add-t18
+    same-length
+    returns)

@@ -1,0 +1,5 @@
+// Linked places in one memory: their records, the stacks of free places and of waiting loops, and the surgery that each of the
+// eight operations does on them. The contracts cite the crate memory.
+pub mod place;
+pub mod stack;
+pub mod surgery;
