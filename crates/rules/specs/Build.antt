@@ -46,6 +46,10 @@ begunBuilder s = record {
   sizes = replicate maxLoops 0;
 }
 
+-- the builder that was never begun
+abbrev pub emptyBuilder : Builder
+emptyBuilder = begunBuilder (record { vertices = 0; triangles = 0; places = 0; loops = 0 })
+
 -- an accepted beginning leaves the first 1,024 place records zero and the triangle buffer untouched
 abbrev pub begunBuffers : Buffers → Buffers
 begunBuffers r = record { triangles = r .triangles; places = cleared (r .places) }

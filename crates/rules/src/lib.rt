@@ -1,4 +1,6 @@
 // The types of the service: what its calls take, hold and answer. Their meaning stands in specs/.
+ghost use mathlib.Core.Path.{_≡_};
+ghost use Rattle.rules.specs.Build.{emptyBuilder};
 
 // A triangle p q r has the directed edges p→q, q→r and r→p.
 pub struct Triangle {
@@ -54,8 +56,44 @@ pub struct Builder {
     pub unions: u16,
     pub rims: u16,
     pub live: u16,
-    pub current: [u16; 100],
-    pub sizes: [u16; 100],
+    pub current: [u16; Builder::MAX_LOOPS],
+    pub sizes: [u16; Builder::MAX_LOOPS],
+}
+
+impl Builder {
+    // All loops together have at most so many places.
+    pub const MAX_PLACES: usize = 1024;
+    // At most so many loops are live, the current one included.
+    pub const MAX_LOOPS: usize = 100;
+
+    // The builder that was never begun: it holds nothing, and 21 refuses it.
+    pub fn empty() -> Builder
+        ensures { λ r. ⌜ r ≡ emptyBuilder ⌝ }
+    {
+        let stated = Counts {
+            vertices: 0,
+            triangles: 0,
+            places: 0,
+            loops: 0,
+        };
+        let peaks = Peaks {
+            places: 0,
+            loops: 0,
+        };
+        Builder {
+            stated,
+            used: 0,
+            built: 0,
+            peaks,
+            edges: 0,
+            starts: 0,
+            unions: 0,
+            rims: 0,
+            live: 0,
+            current: [0; Builder::MAX_LOOPS],
+            sizes: [0; Builder::MAX_LOOPS],
+        }
+    }
 }
 
 // What a finish gives.

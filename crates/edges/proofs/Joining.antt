@@ -1,0 +1,219 @@
+-- The search of the buffer is the edge rule's test; and laws that the functions' proofs cite.
+-- Assumes nothing.
+use Prim.Native.Nat.{ℕ, zero, suc, _+_, _-_, _*_, _≤_, _<_}
+use native.Mathlib.Omega.{arith}
+use mathlib.Core.Bool.{Bool, true, false, _&&_, _||_, not}
+use mathlib.Core.List.{List, _∷_}
+use mathlib.Core.Path.{_≡_, refl, sym, ap, ap₂, _∙_, subst}
+use lib.ListN.{getD}
+use lib.Dec.{eqb}
+use borrow.Author.Tests.{eq-eqb, ne-eqb}
+use Rattle.rules.specs.declared.Triangle.{Triangle}
+use Rattle.rules.specs.Triangle.{Edge, edge, edgesOf}
+use Rattle.rules.specs.Count.{num, hit, count, unjoined}
+use Rattle.rules.specs.Table.{Side, sideRule, edgeRule}
+use Rattle.rules.specs.View.{trianglesBuilt}
+use Rattle.memory.specs.declared.Plan.{Plan}
+use Rattle.memory.specs.Decision.{sideOf}
+use Rattle.edges.specs.Joined.{isEdge, isPair, joinsAt, noneJoins}
+
+-- one edge more
+add-hit : (a : Bool) (c : ℕ) → eqb (num a + c) 0 ≡ not a && eqb c 0
+add-hit true c = ne-eqb (1 + c) 0 (λ e. omega (arith, e))
+add-hit false c = let e : 0 + c ≡ c = omega arith in ap (λ (x : ℕ). eqb x 0) e
+
+both : (a b e f : Bool) → (not a && e) && (not b && f) ≡ elim (a || b) [ true ↦ false | false ↦ e && f ]
+both true b e f = refl
+both false true true f = refl
+both false true false f = refl
+both false false e f = refl
+
+unjoined-more : (p q x y : ℕ) (ds : List Edge) → unjoined x y (edge p q ∷ ds) ≡ elim (isPair p q x y) [ true ↦ false | false ↦ unjoined x y ds ]
+unfolding count hit isPair isEdge
+unjoined-more p q x y ds =
+    ap₂ _&&_ (add-hit (eqb x p && eqb y q) (count x y ds)) (add-hit (eqb y p && eqb x q) (count y x ds))
+    ∙ both (eqb x p && eqb y q) (eqb y p && eqb x q) (eqb (count x y ds) 0) (eqb (count y x ds) 0)
+
+three : (a b c z : Bool)
+    → _≡_ {A = Bool} (elim (a || (b || c)) [ true ↦ false | false ↦ z ])
+    (elim a [ true ↦ false | false ↦ elim b [ true ↦ false | false ↦ elim c [ true ↦ false | false ↦ z ] ] ])
+three true b c z = refl
+three false true c z = refl
+three false false c z = refl
+
+-- the search is the definition's count
+pub none-unjoined : (xs : List ℕ) (n x y : ℕ) → noneJoins xs n x y ≡ unjoined x y (edgesOf (trianglesBuilt xs n))
+unfolding noneJoins trianglesBuilt edgesOf joinsAt
+none-unjoined xs zero x y = unfold count in refl
+none-unjoined xs (suc n) x y =
+    let p = getD xs (3 * n) 0 in
+    let q = getD xs (3 * n + 1) 0 in
+    let r = getD xs (3 * n + 2) 0 in
+    let ds : List Edge = edgesOf (trianglesBuilt xs n) in
+    three (isPair r p x y) (isPair q r x y) (isPair p q x y) (noneJoins xs n x y)
+    ∙ ap (λ (z : Bool). elim (isPair r p x y) [ true ↦ false | false ↦ elim (isPair q r x y) [ true ↦ false | false ↦ elim (isPair p q x y) [ true ↦ false | false ↦ z ] ] ]) (none-unjoined xs n x y)
+    ∙ sym
+    (unjoined-more r p x y (edge q r ∷ (edge p q ∷ ds))
+    ∙ ap (λ (z : Bool). elim (isPair r p x y) [ true ↦ false | false ↦ z ])
+    (unjoined-more q r x y (edge p q ∷ ds) ∙ ap (λ (z : Bool). elim (isPair q r x y) [ true ↦ false | false ↦ z ]) (unjoined-more p q x y ds)))
+
+-- the functions
+pub edge-other : (a b x y : ℕ) → (x ≡ a → ⊥) → false ≡ isEdge a b x y
+unfolding isEdge
+edge-other a b x y h = let e : eqb x a ≡ false = ne-eqb x a h in rw e
+
+pub edge-same : (a b x y : ℕ) → x ≡ a → eqb y b ≡ isEdge a b x y
+unfolding isEdge
+edge-same a b x y h = let e : eqb x a ≡ true = eq-eqb x a h in rw e
+
+pub pair-first : (a b x y : ℕ) (t : Bool) → t ≡ isEdge a b x y → t ≡ true → true ≡ isPair a b x y
+unfolding isPair
+pair-first a b x y t e h = let z : isEdge a b x y ≡ true = sym e ∙ h in rw z
+
+pub pair-second : (a b x y : ℕ) (t r : Bool) → t ≡ isEdge a b x y → t ≡ false → r ≡ isEdge a b y x → r ≡ isPair a b x y
+unfolding isPair
+pair-second a b x y t r e h k = let z : isEdge a b x y ≡ false = sym e ∙ h in rw z k
+
+module _ (xs : List ℕ) (j x y : ℕ) where
+  pub joins-first : (t : Bool) → t ≡ isPair (getD xs (3 * j + 2) 0) (getD xs (3 * j) 0) x y → t ≡ true → true ≡ joinsAt xs j x y
+  unfolding joinsAt
+  joins-first t e h = let z : isPair (getD xs (3 * j + 2) 0) (getD xs (3 * j) 0) x y ≡ true = sym e ∙ h in rw z
+
+  pub joins-second : (t r : Bool) → t ≡ isPair (getD xs (3 * j + 2) 0) (getD xs (3 * j) 0) x y → t ≡ false
+      → r ≡ isPair (getD xs (3 * j + 1) 0) (getD xs (3 * j + 2) 0) x y → r ≡ true → true ≡ joinsAt xs j x y
+  unfolding joinsAt
+  joins-second t r e h f k =
+      let z : isPair (getD xs (3 * j + 2) 0) (getD xs (3 * j) 0) x y ≡ false = sym e ∙ h in
+      let w : isPair (getD xs (3 * j + 1) 0) (getD xs (3 * j + 2) 0) x y ≡ true = sym f ∙ k in
+      rw (z, w)
+
+  pub joins-third : (t r q : Bool) → t ≡ isPair (getD xs (3 * j + 2) 0) (getD xs (3 * j) 0) x y → t ≡ false
+      → r ≡ isPair (getD xs (3 * j + 1) 0) (getD xs (3 * j + 2) 0) x y → r ≡ false → q ≡ isPair (getD xs (3 * j) 0) (getD xs (3 * j + 1) 0) x y
+      → q ≡ joinsAt xs j x y
+  unfolding joinsAt
+  joins-third t r q e h f k g =
+      let z : isPair (getD xs (3 * j + 2) 0) (getD xs (3 * j) 0) x y ≡ false = sym e ∙ h in
+      let w : isPair (getD xs (3 * j + 1) 0) (getD xs (3 * j + 2) 0) x y ≡ false = sym f ∙ k in
+      rw (z, w) g
+
+module _ (xs : List ℕ) (x y : ℕ) where
+  pub none-here : (n j : ℕ) (t : Bool) → 0 < j → noneJoins xs j x y ≡ noneJoins xs n x y → t ≡ joinsAt xs (j - 1) x y → t ≡ true → false ≡ noneJoins xs n x y
+  unfolding noneJoins
+  none-here n zero t l e f h = absurd (omega arith)
+  none-here n (suc j) t l e f h =
+      let d : suc j - 1 ≡ j = omega arith in
+      let z : joinsAt xs j x y ≡ true = ap (λ (k : ℕ). joinsAt xs k x y) (sym d) ∙ sym f ∙ h in
+      subst (λ (k : Bool). elim k [ true ↦ false | false ↦ noneJoins xs j x y ] ≡ noneJoins xs n x y) z e
+
+  pub none-before : (n j : ℕ) (t : Bool) → 0 < j → noneJoins xs j x y ≡ noneJoins xs n x y → t ≡ joinsAt xs (j - 1) x y → t ≡ false
+      → noneJoins xs (j - 1) x y ≡ noneJoins xs n x y
+  unfolding noneJoins
+  none-before n zero t l e f h = absurd (omega arith)
+  none-before n (suc j) t l e f h =
+      let d : suc j - 1 ≡ j = omega arith in
+      let z : joinsAt xs j x y ≡ false = ap (λ (k : ℕ). joinsAt xs k x y) (sym d) ∙ sym f ∙ h in
+      rw d (subst (λ (k : Bool). elim k [ true ↦ false | false ↦ noneJoins xs j x y ] ≡ noneJoins xs n x y) z e)
+
+  pub none-left : (n j : ℕ) → j ≤ 0 → noneJoins xs j x y ≡ noneJoins xs n x y → true ≡ noneJoins xs n x y
+  unfolding noneJoins
+  none-left n zero l e = e
+  none-left n (suc j) l e = absurd (omega arith)
+
+  pub side-glued : (n s : ℕ) → s ≡ 0 → false ≡ not (sideRule (sideOf s) x y (trianglesBuilt xs n))
+  side-glued n s e = rw e
+
+  pub side-fresh : (n s : ℕ) (t r : Bool) → (s ≡ 0 → ⊥) → t ≡ noneJoins xs n x y → t ≡ r → not r ≡ not (sideRule (sideOf s) x y (trianglesBuilt xs n))
+  side-fresh n zero t r z e h = absurd (z refl)
+  side-fresh n (suc s) t r z e h = ap not (sym h ∙ e ∙ none-unjoined xs n x y)
+
+-- a test that fails, and all that hold
+no-right : (a b : Bool) → b ≡ false → a && b ≡ false
+no-right true b e = e
+no-right false b e = refl
+
+not-true : (a t : Bool) → t ≡ not a → t ≡ true → a ≡ false
+not-true true t e h = sym (sym e ∙ h)
+not-true false t e h = refl
+
+not-false : (a t : Bool) → t ≡ not a → t ≡ false → a ≡ true
+not-false true t e h = refl
+not-false false t e h = sym h ∙ e
+
+six : (a b c d e f : Bool) → a ≡ true → b ≡ true → c ≡ true → d ≡ true → e ≡ true → f ≡ true → true ≡ a && b && c && d && e && f
+six a b c d e f h i j k l m = rw (h, i, j, k, l, m)
+
+first : (a b c d e f : Bool) → a ≡ false → false ≡ a && b && c && d && e && f
+first a b c d e f h = rw h
+
+second : (a b c d e f : Bool) → b ≡ false → false ≡ a && b && c && d && e && f
+second a b c d e f h = let z : a && b ≡ false = no-right a b h in rw z
+
+third : (a b c d e f : Bool) → c ≡ false → false ≡ a && b && c && d && e && f
+third a b c d e f h = let z : a && b && c ≡ false = no-right (a && b) c h in rw z
+
+fourth : (a b c d e f : Bool) → d ≡ false → false ≡ a && b && c && d && e && f
+fourth a b c d e f h = let z : a && b && c && d ≡ false = no-right (a && b && c) d h in rw z
+
+fifth : (a b c d e f : Bool) → e ≡ false → false ≡ a && b && c && d && e && f
+fifth a b c d e f h = let z : a && b && c && d && e ≡ false = no-right (a && b && c && d) e h in rw z
+
+sixth : (a b c d e f : Bool) → f ≡ false → false ≡ a && b && c && d && e && f
+sixth a b c d e f h = sym (no-right (a && b && c && d && e) f h)
+
+module _ (plan : Plan) (xs : List ℕ) (n : ℕ) where
+  abbrev t : Triangle
+  t = plan .triangle
+
+  abbrev x : Side
+  x = sideOf (plan .pq)
+
+  abbrev y : Side
+  y = sideOf (plan .qr)
+
+  abbrev z : Side
+  z = sideOf (plan .rp)
+
+  abbrev ts : List Triangle
+  ts = trianglesBuilt xs n
+
+  abbrev a₁ : Bool
+  a₁ = not (eqb (t .p) (t .q))
+
+  abbrev a₂ : Bool
+  a₂ = not (eqb (t .q) (t .r))
+
+  abbrev a₃ : Bool
+  a₃ = not (eqb (t .r) (t .p))
+
+  abbrev a₄ : Bool
+  a₄ = sideRule x (t .p) (t .q) ts
+
+  abbrev a₅ : Bool
+  a₅ = sideRule y (t .q) (t .r) ts
+
+  abbrev a₆ : Bool
+  a₆ = sideRule z (t .r) (t .p) ts
+
+  pub rule-pq : t .p ≡ t .q → false ≡ edgeRule t x y z ts
+  rule-pq h = first a₁ a₂ a₃ a₄ a₅ a₆ (ap not (eq-eqb (t .p) (t .q) h))
+
+  pub rule-qr : t .q ≡ t .r → false ≡ edgeRule t x y z ts
+  rule-qr h = second a₁ a₂ a₃ a₄ a₅ a₆ (ap not (eq-eqb (t .q) (t .r) h))
+
+  pub rule-rp : t .r ≡ t .p → false ≡ edgeRule t x y z ts
+  rule-rp h = third a₁ a₂ a₃ a₄ a₅ a₆ (ap not (eq-eqb (t .r) (t .p) h))
+
+  pub side-pq : (k : Bool) → k ≡ not (sideRule x (t .p) (t .q) ts) → k ≡ true → false ≡ edgeRule t x y z ts
+  side-pq k e h = fourth a₁ a₂ a₃ a₄ a₅ a₆ (not-true a₄ k e h)
+
+  pub side-qr : (k : Bool) → k ≡ not (sideRule y (t .q) (t .r) ts) → k ≡ true → false ≡ edgeRule t x y z ts
+  side-qr k e h = fifth a₁ a₂ a₃ a₄ a₅ a₆ (not-true a₅ k e h)
+
+  pub side-rp : (k : Bool) → k ≡ not (sideRule z (t .r) (t .p) ts) → k ≡ true → false ≡ edgeRule t x y z ts
+  side-rp k e h = sixth a₁ a₂ a₃ a₄ a₅ a₆ (not-true a₆ k e h)
+
+  pub rule-holds : (k l m : Bool) → (t .p ≡ t .q → ⊥) → (t .q ≡ t .r → ⊥) → (t .r ≡ t .p → ⊥) → k ≡ not (sideRule x (t .p) (t .q) ts) → k ≡ false
+      → l ≡ not (sideRule y (t .q) (t .r) ts) → l ≡ false → m ≡ not (sideRule z (t .r) (t .p) ts) → m ≡ false → true ≡ edgeRule t x y z ts
+  rule-holds k l m a b c ek hk el hl em hm =
+      six a₁ a₂ a₃ a₄ a₅ a₆ (ap not (ne-eqb (t .p) (t .q) a)) (ap not (ne-eqb (t .q) (t .r) b)) (ap not (ne-eqb (t .r) (t .p) c)) (not-false a₄ k ek hk)
+      (not-false a₅ l el hl) (not-false a₆ m em hm)

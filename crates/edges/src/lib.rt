@@ -1,0 +1,108 @@
+// The edge rule, tested over the triangles that are built so far: a plain search of the triangle buffer.
+// The contracts cite specs/Joined.antt, and `edgeRule` and `trianglesBuilt` of the crate rules.
+use memory::Plan;
+ghost use mathlib.Core.Path.{_≡_};
+ghost use mathlib.Core.Bool.{not};
+ghost use Prim.Native.Nat.{_+_, _*_, _≤_, _<_};
+ghost use lib.ListN.{length};
+ghost use Rattle.rules.specs.Table.{sideRule, edgeRule};
+ghost use Rattle.rules.specs.View.{trianglesBuilt};
+ghost use Rattle.memory.specs.Decision.{sideOf};
+ghost use Rattle.edges.specs.Joined.{isEdge, isPair, joinsAt, noneJoins};
+
+// Whether x→y is the edge a→b.
+fn is_edge(a: u16, b: u16, x: u16, y: u16) -> bool
+    ensures { λ r. ⌜ r ≡ isEdge a b x y ⌝ }
+{
+    if x == a {
+        return y == b;
+    }
+    false
+}
+
+// Whether x and y are a and b, either way round.
+fn is_pair(a: u16, b: u16, x: u16, y: u16) -> bool
+    ensures { λ r. ⌜ r ≡ isPair a b x y ⌝ }
+{
+    if is_edge(a, b, x, y) {
+        return true;
+    }
+    is_edge(a, b, y, x)
+}
+
+// Whether triangle j of the list joins x and y.
+fn joins(list: &[u16], j: u16, x: u16, y: u16) -> bool
+    requires { ⌜ 3 * j + 2 < length (now list) ⌝ }
+    ensures { λ r. ⌜ r ≡ joinsAt (now (list .entry)) j x y ⌝ }
+{
+    let at = 3 * (j as usize);
+    let p = list[at];
+    let q = list[at + 1];
+    let r = list[at + 2];
+    if is_pair(r, p, x, y) {
+        return true;
+    }
+    if is_pair(q, r, x, y) {
+        return true;
+    }
+    is_pair(p, q, x, y)
+}
+
+// Whether none of the first n triangles joins x and y.
+fn none_joins(list: &[u16], n: u16, x: u16, y: u16) -> bool
+    requires { ⌜ 3 * n ≤ length (now list) ⌝ }
+    ensures { λ r. ⌜ r ≡ noneJoins (now (list .entry)) n x y ⌝ }
+{
+    let mut j = n;
+    while 0 < j {
+        j -= 1;
+        if joins(list, j, x, y) {
+            return false;
+        }
+    }
+    true
+}
+
+// Whether a side from x to y breaks the edge rule: it is to be a new edge, and a triangle joins x and y already.
+fn is_joined(list: &[u16], n: u16, side: u16, x: u16, y: u16) -> bool
+    requires { ⌜ 3 * n ≤ length (now list) ⌝ }
+    ensures { λ r. ⌜ r ≡ not (sideRule (sideOf side) x y (trianglesBuilt (now (list .entry)) n)) ⌝ }
+{
+    if side == 0 {
+        return false;
+    }
+    if none_joins(list, n, x, y) {
+        return false;
+    }
+    true
+}
+
+// 18: whether the edge rule lets the planned triangle be built after the first n triangles of the list.
+pub fn edge_rule(list: &[u16], n: u16, p: Plan) -> bool
+    requires { ⌜ 3 * n ≤ length (now list) ⌝ }
+    ensures { λ r. ⌜ r ≡ edgeRule (p .triangle) (sideOf (p .pq)) (sideOf (p .qr)) (sideOf (p .rp)) (trianglesBuilt (now (list .entry)) n) ⌝ }
+{
+    let t = p.triangle;
+    let a = t.p;
+    let b = t.q;
+    let c = t.r;
+    if a == b {
+        return false;
+    }
+    if b == c {
+        return false;
+    }
+    if c == a {
+        return false;
+    }
+    if is_joined(list, n, p.pq, a, b) {
+        return false;
+    }
+    if is_joined(list, n, p.qr, b, c) {
+        return false;
+    }
+    if is_joined(list, n, p.rp, c, a) {
+        return false;
+    }
+    true
+}
