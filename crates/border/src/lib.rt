@@ -12,14 +12,51 @@ use crate::verdict::propose;
 use crate::verdict::test_room;
 use memory::Decided;
 use memory::Front;
+use memory::Loops;
 use memory::Plan;
+use rings::stack::free_all;
 use rings::surgery::mark_edge;
+use rules::Counts;
 use rules::Operation;
+use rules::Peaks;
 ghost use mathlib.Core.Path.{_≡_};
+ghost use Prim.Native.Nat.{_*_, _≤_};
+ghost use lib.ListN.{length};
 ghost use Rattle.memory.specs.declared.Decided.the-variants.{Builds};
 ghost use Rattle.memory.specs.Moves.{markedHeld};
 ghost use Rattle.memory.specs.Decision.{decided, heldAfter, builtFront, markedFront};
 ghost use Rattle.memory.specs.Keeps.{Ready};
+ghost use Rattle.memory.specs.Fresh.{allFree, freshFront};
+
+// A building with the counts stated begins in a memory of n places: the state, with every place free.
+pub fn begin(m: &mut [u16], n: usize, stated: Counts) -> Front
+    requires { ⌜ (n ≤ 1024) × (5 * n ≤ length (now m)) ⌝ }
+    ensures state { λ r. ⌜ r ≡ freshFront n stated ⌝ }
+    ensures memory { λ _. ⌜ now (m .exit) ≡ allFree n (now (m .entry)) n ⌝ }
+{
+    free_all(m, n);
+    let peaks = Peaks {
+        places: 0,
+        loops: 0,
+    };
+    let loops = Loops {
+        live: 0,
+        current: 0,
+        size: 0,
+        free: n as u16,
+    };
+    Front {
+        stated,
+        used: 0,
+        built: 0,
+        peaks,
+        edges: 0,
+        starts: 0,
+        unions: 0,
+        rims: 0,
+        loops,
+    }
+}
 
 // What the operation o would do: 16, then 17, or the plan of a triangle, or the edge to be marked as border.
 pub fn decide(m: &[u16], n: usize, s: Front, o: Operation) -> Decided

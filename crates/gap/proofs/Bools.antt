@@ -7,10 +7,6 @@ pub and-true : (a b : Bool) → a && b ≡ true → (a ≡ true) × (b ≡ true)
 and-true true b h = (refl, h)
 and-true false b h = absurd (false≢true h)
 
-pub and-both : (a b : Bool) → a ≡ true → b ≡ true → a && b ≡ true
-and-both true b h k = k
-and-both false b h k = absurd (false≢true h)
-
 pub not-false-true : (t : Bool) → (t ≡ false → ⊥) → t ≡ true
 not-false-true true h = refl
 not-false-true false h = absurd (h refl)

@@ -8,14 +8,16 @@ use mathlib.Core.Path.{_≡_, refl, sym, ap, _∙_, subst}
 use mathlib.Core.Logic.{_⊎_, inl, inr}
 use Rattle.rules.specs.declared.Triangle.{Triangle}
 use Rattle.rules.specs.Ring.{Node, opened, marked, Ring, vertex, onward}
-use Rattle.gap.specs.Turn.{In, Unused}
+use Rattle.fans.specs.Corner.{In}
+use Rattle.fans.proofs.Counting.{hit-yes}
+use Rattle.gap.specs.Turn.{Unused}
 use Rattle.gap.specs.Corners.{Around, Everywhere, Filled}
 use Rattle.gap.specs.Spots.{EdgeIn}
 use Rattle.gap.specs.Trace.{afterBorder, withRing}
 use Rattle.gap.specs.Tally.{ringTally, total}
 use Rattle.gap.proofs.Rings.{ring-swap}
 use Rattle.gap.proofs.Tallies.{tally-swap}
-use Rattle.gap.proofs.Legal.{Lawful, hit-one}
+use Rattle.gap.proofs.Legal.{Lawful}
 use Rattle.gap.proofs.Onward.{Closed, Turned, onward-cases, closed-ring, turned-ring}
 use Rattle.gap.proofs.Marking.{marks-border}
 use Rattle.gap.proofs.Traces.{marks-after}
@@ -70,7 +72,7 @@ module _ (M R B : List Triangle) (e f : Node) (ps : List Node) (ws rims : List R
       go : In (vertex f) (vertex e) z R ⊎ In (vertex f) (vertex e) z B
           → Lawful B (total (vertex e) (vertex f) ((e ∷ (f ∷ ps)) ∷ ws) + total (vertex e) (vertex f) rims) (vertex e) (vertex f) → ⊥
       go (inl j) q = left z j
-      go (inr j) (inl q) = let o = hit-one (vertex e) (vertex f) in omega arith
+      go (inr j) (inl q) = let o = hit-yes (vertex e) (vertex f) in omega arith
       go (inr j) (inr q) = q .2 z j
 
   waits-border : (r : List Node) → afterBorder e f ps ≡ r → (x y z w : ℕ) → In x y z B → In y x w R → 1 ≤ total x y (withRing r ws)

@@ -11,12 +11,15 @@ use Rattle.rules.specs.declared.Across.the-variants.{Nothing}
 use Rattle.rules.specs.Across.{across}
 use Rattle.rules.specs.Ring.{Node, Ring, vertex, loopAt}
 use Rattle.rules.specs.Choice.{choosePlace}
-use Rattle.gap.specs.Turn.{Rotated, at-p, In, here, there, Unused, Once, FanAt}
+use Rattle.fans.specs.Corner.{Rot, at-p, In, here, there, Once}
+use Rattle.fans.specs.Neighbours.{Neighbours}
+use Rattle.gap.specs.Turn.{Unused}
 use Rattle.gap.specs.Corners.{Everywhere, AllMarks}
 use Rattle.gap.specs.Surgery.{Surgery}
 use Rattle.gap.specs.Spots.{OpenAt, Unique}
 use Rattle.gap.specs.Trace.{triangleAt, Trace}
-use Rattle.gap.proofs.Links.{in-next, free-rot, rot-next}
+use Rattle.fans.proofs.Corners.{in-next, rot-next}
+use Rattle.gap.proofs.Links.{free-rot}
 use Rattle.gap.proofs.Turning.{Finds, across-some, across-none}
 use Rattle.gap.proofs.Marking.{marks-step}
 use Rattle.gap.proofs.Traces.{fate}
@@ -42,8 +45,8 @@ open-used M R B ls s x y l i o =
 
 module _ (M R B : List Triangle) (e f : Node) (ps : List Node) (ws ls : List Ring) (c : ℕ) (o : Operation) (os : List Operation)
     (s : Surgery e f ps ws ls c o) (later : Trace M ls os R) (marks : AllMarks M ((e ∷ (f ∷ ps)) ∷ ws))
-    (st : State M (triangleAt e f c ∷ R) B ((e ∷ (f ∷ ps)) ∷ ws)) (fan : FanAt M c) where
-  tri : Rotated (triangleAt e f c) (vertex f) (vertex e) c
+    (st : State M (triangleAt e f c ∷ R) B ((e ∷ (f ∷ ps)) ∷ ws)) (fan : Neighbours M c) where
+  tri : Rot (triangleAt e f c) (vertex f) (vertex e) c
   tri = at-p refl refl refl
 
   choice-named : Named M R e f ps ws c o → choosePlace (vertex e) (vertex f) c R ((e ∷ (f ∷ ps)) ∷ ws) ≡ o

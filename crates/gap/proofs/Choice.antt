@@ -8,15 +8,18 @@ use lib.ListN.{length}
 use Rattle.rules.specs.declared.Triangle.{Triangle}
 use Rattle.rules.specs.Ring.{Ring}
 use Rattle.rules.specs.Choice.{nowhere, spot, spotOf, operationFor, sizeOf, following, choosePlace, turnIn, turnOut}
-use Rattle.gap.specs.Turn.{In, Unused, Once, Links, Turn, FanAt}
+use Rattle.fans.specs.Corner.{In, Once}
+use Rattle.fans.specs.Neighbours.{Neighbours}
+use Rattle.gap.specs.Turn.{Unused, Links, Turn}
 use Rattle.gap.specs.Spots.{OpenAt, Unique, Site}
-use Rattle.gap.proofs.Links.{in-next, in-last, Last, last-link, first-link}
+use Rattle.fans.proofs.Corners.{in-next}
+use Rattle.gap.proofs.Links.{in-last, Last, last-link, first-link}
 use Rattle.gap.proofs.Core.{Blocked, one-way}
 use Rattle.gap.proofs.Turning.{turn-in, turn-out}
 use Rattle.gap.proofs.Spotting.{spot-none, spot-some}
 
 module _ (M R : List Triangle) (a b c : ℕ) (sub : (x y z : ℕ) → In x y z R → In x y z M) (tri : In b a c M) (free-a : Unused a c R)
-    (onceM : Once M) (once : Once R) (fan : FanAt M c) (ls : List Ring) (unique : Unique ls)
+    (onceM : Once M) (once : Once R) (fan : Neighbours M c) (ls : List Ring) (unique : Unique ls)
     (used : (x y l i : ℕ) → OpenAt ls l i x y → (z : ℕ) × In x y z M) where
   choice-out : (l i : ℕ) → spotOf 0 (turnIn (length R) c b R) c ls ≡ spot l i → choosePlace a b c R ls ≡ operationFor (sizeOf ls 0) l (following (sizeOf ls l) i)
   unfolding choosePlace

@@ -19,10 +19,13 @@ use Rattle.rules.specs.Ring.{Node, opened, Ring, vertex, isOpen}
 use Rattle.rules.specs.Table.{marks, atEdge}
 use Rattle.rules.specs.Choice.{Packing, has, dropTriangle, turnIn, turnOut, Spot, nowhere, spot, spotOf, operationFor, sizeOf, following, choosePlace, packingAfter, limited, taking, chooseAt, chooseIn, choose}
 use Rattle.rules.specs.Pack.{indexOf}
-use Rattle.gap.specs.Turn.{Rotated, at-p, at-q, at-r, In, here, Unused, Once, FanAt}
+use Rattle.fans.specs.Corner.{Rot, at-p, at-q, at-r, In, here, Once}
+use Rattle.fans.specs.Neighbours.{Neighbours}
+use Rattle.gap.specs.Turn.{Unused}
 use Rattle.gap.specs.Trace.{triangleAt, afterBorder, withRing}
 use Rattle.gap.specs.Tally.{newNumbers, allOpenEdges}
-use Rattle.gap.proofs.Links.{in-next}
+use Rattle.gap.specs.Building.{nextBuilt, onto}
+use Rattle.fans.proofs.Corners.{in-next}
 use Rattle.gap.proofs.Turning.{others, others-length, Finds, across-some, across-none}
 use Rattle.gap.proofs.Effects.{built, allows, border-marks}
 use Rattle.gap.proofs.Standing.{legal-used}
@@ -76,6 +79,21 @@ pub choose-start : (s : Packing) (t : Triangle) (ts : List Triangle) → s .loop
 unfolding chooseIn
 choose-start s t ts l h = rw (l, h, chooseIn) refl
 
+-- and the triangle that each builds
+next-start : (s : Packing) (t : Triangle) (ts : List Triangle) → s .loops ≡ [] → s .left ≡ t ∷ ts → nextBuilt (s .mesh) (s .loops) (s .left) ≡ t ∷ []
+unfolding nextBuilt
+next-start s t ts l h = rw (l, h, nextBuilt) refl
+
+next-border : (s : Packing) (e f : Node) (ps : List Node) (ws : List Ring) → s .loops ≡ (e ∷ (f ∷ ps)) ∷ ws → across (vertex f) (vertex e) (s .mesh) ≡ Nothing
+    → nextBuilt (s .mesh) (s .loops) (s .left) ≡ []
+unfolding nextBuilt
+next-border s e f ps ws l h = rw (l, nextBuilt, h) refl
+
+next-build : (s : Packing) (e f : Node) (ps : List Node) (ws : List Ring) (c n k : ℕ) → s .loops ≡ (e ∷ (f ∷ ps)) ∷ ws
+    → across (vertex f) (vertex e) (s .mesh) ≡ Found n k c → nextBuilt (s .mesh) (s .loops) (s .left) ≡ triangleAt e f c ∷ []
+unfolding nextBuilt
+next-build s e f ps ws c n k l h = rw (l, nextBuilt, h) refl
+
 -- the place that is chosen never gives the operation new
 no-new-for : (k l i : ℕ) → newNumbers (operationFor k l i) ≡ 0
 no-new-for k zero i = go (eqb k 3) (eqb i 2) (eqb (i + 1) k)
@@ -108,6 +126,7 @@ pub record GoesOn (s : Packing) (B : List Triangle) (rims : List Ring) : Type 0 
   pub chooses : choose s ≡ limited o after
   pub mesh : after .mesh ≡ s .mesh
   pub fits : Fits after built-after rims-after
+  pub adds : built-after ≡ onto (nextBuilt (s .mesh) (s .loops) (s .left)) B
   pub falls : labour after < labour s
   pub runs : (last : Packing) (M : List Triangle) (os : List Operation) → Runs after last M built-after rims-after os → Runs s last M B rims (o ∷ os)
 
@@ -117,7 +136,7 @@ runs-at s last M B rims os ls n e c r =
     subst (λ (l : List Ring). RunsAt last M B rims os l (length (s .left)) (s .mostPlaces) (s .mostLoops) (s .numbered)) (sym e)
     (subst (λ (k : ℕ). RunsAt last M B rims os ls k (s .mostPlaces) (s .mostLoops) (s .numbered)) (sym c) r)
 
-module _ (s : Packing) (B : List Triangle) (rims : List Ring) (fit : Fits s B rims) (fan : (c : ℕ) → FanAt (s .mesh) c) where
+module _ (s : Packing) (B : List Triangle) (rims : List Ring) (fit : Fits s B rims) (fan : (c : ℕ) → Neighbours (s .mesh) c) where
   goes-start : (t : Triangle) (R : List Triangle) → s .left ≡ t ∷ R → s .loops ≡ []
       → Keeps (s .mesh) R (t ∷ B) ((opened (t .p) ∷ (opened (t .q) ∷ (opened (t .r) ∷ []))) ∷ []) rims
       → AllGood ((opened (t .p) ∷ (opened (t .q) ∷ (opened (t .r) ∷ []))) ∷ []) → GoesOn s B rims
@@ -129,6 +148,7 @@ module _ (s : Packing) (B : List Triangle) (rims : List Ring) (fit : Fits s B ri
     chooses = choose-start s t R l h;
     mesh = refl;
     fits = record { keeps = k; good = g; numbers = numbered-start (s .numbered) B t (fit .numbers); distinct = distinct-start (s .numbered) (t .p) (t .q) (t .r) (fit .distinct) (not-yet (t .p) (none (t .p) (t .q) (t .r) (at-p refl refl refl))) (not-yet (t .q) (none (t .q) (t .r) (t .p) (at-q refl refl refl))) (not-yet (t .r) (none (t .r) (t .p) (t .q) (at-r refl refl refl))) (here-once .1) };
+    adds = sym (ap (λ (ts : List Triangle). onto ts B) (next-start s t R l h));
     falls = let n : length (s .left) ≡ suc (length R) = ap length h in omega arith;
     runs = goes;
   }
@@ -139,7 +159,7 @@ module _ (s : Packing) (B : List Triangle) (rims : List Ring) (fit : Fits s B ri
       here-once : Once (t ∷ R)
       here-once = before .once
 
-      none : (x y z : ℕ) → Rotated t x y z → (m n : ℕ) → In x m n B → ⊥
+      none : (x y z : ℕ) → Rot t x y z → (m n : ℕ) → In x m n B → ⊥
       none x y z r m n j = all-built (s .mesh) (t ∷ R) B rims before fan x y z m n (here r) j
 
       not-yet : (x : ℕ) → ((m n : ℕ) → In x m n B → ⊥) → has x (s .numbered) ≡ false
@@ -178,6 +198,7 @@ module _ (s : Packing) (B : List Triangle) (rims : List Ring) (fit : Fits s B ri
         choose-border s e f ps ws (withRing (afterBorder e f ps) ws) (edge (vertex e) (vertex f)) (mark .0) l (across-none (vertex f) (vertex e) (s .mesh) free) (mark .1);
     mesh = refl;
     fits = record { keeps = k; good = g; numbers = fit .numbers; distinct = fit .distinct };
+    adds = sym (ap (λ (ts : List Triangle). onto ts B) (next-border s e f ps ws l (across-none (vertex f) (vertex e) (s .mesh) free)));
     falls = let h = border-opens e f ps ws live in let n : allOpenEdges (s .loops) ≡ allOpenEdges ((e ∷ (f ∷ ps)) ∷ ws) = ap allOpenEdges l in omega arith;
     runs = goes;
   }
@@ -239,6 +260,9 @@ module _ (s : Packing) (B : List Triangle) (rims : List Ring) (fit : Fits s B ri
           let m : allOpenEdges (s .loops) ≡ allOpenEdges ((e ∷ (f ∷ ps)) ∷ ws) = ap allOpenEdges l in
           omega arith
 
+      more : triangleAt e f c ∷ B ≡ onto (nextBuilt (s .mesh) (s .loops) (s .left)) B
+      more = sym (ap (λ (ts : List Triangle). onto ts B) (next-build s e f ps ws c (found .number) (found .corner) l (found .found)))
+
       apart : ((vertex e ≡ vertex f) → ⊥) × ((vertex f ≡ c) → ⊥) × ((c ≡ vertex e) → ⊥)
       apart = let d = corners (s .left) i (fit .keeps .once) in (λ h. d .0 (sym h), λ h. d .2 (sym h), λ h. d .1 (sym h))
 
@@ -276,6 +300,7 @@ module _ (s : Packing) (B : List Triangle) (rims : List Ring) (fit : Fits s B ri
             ∙ ap (λ (k : Operation). limited k (packingAfter s (others i) (s .numbered ++ (c ∷ [])) (p .ls))) (sym (h .1));
         mesh = refl;
         fits = record { keeps = p .keeps; good = g; numbers = numbered-new (s .numbered) B (triangleAt e f c) (fit .numbers) met-f met-e; distinct = distinct-new (s .numbered) c (fit .distinct) (not-met (s .numbered) B (fit .numbers) c (h .0)) };
+        adds = more;
         falls = less;
         runs = goes (λ q. h .0) (s .numbered ++ (c ∷ [])) (sym (ap (λ (k : Operation). numberedAfter k c (s .numbered)) (h .1)));
       }
@@ -288,6 +313,7 @@ module _ (s : Packing) (B : List Triangle) (rims : List Ring) (fit : Fits s B ri
             choose-old s e f ps ws (p .ls) (others i) (p .o) c (found .number) (found .corner) l (found .found) dropped (fit .numbers .numbered c (h .0)) (h .1) does;
         mesh = refl;
         fits = record { keeps = p .keeps; good = g; numbers = numbered-old (s .numbered) B (triangleAt e f c) (fit .numbers) met-f met-e (h .0); distinct = fit .distinct };
+        adds = more;
         falls = less;
         runs = goes old (s .numbered) (sym (same-numbers (p .o) c (s .numbered) never));
       }

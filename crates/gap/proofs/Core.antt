@@ -5,8 +5,11 @@ use mathlib.Core.List.{List}
 use mathlib.Core.Path.{_≡_, sym, subst}
 use mathlib.Core.Logic.{_⊎_, inl, inr}
 use Rattle.rules.specs.declared.Triangle.{Triangle}
-use Rattle.gap.specs.Turn.{In, Unused, Once, Links, Turn, FanAt}
-use Rattle.gap.proofs.Links.{in-next, in-last, Last, last-link, links-meet, Jumped, turn-cases, one-end}
+use Rattle.fans.specs.Corner.{In, Once}
+use Rattle.fans.specs.Neighbours.{Neighbours}
+use Rattle.gap.specs.Turn.{Unused, Links, Turn}
+use Rattle.fans.proofs.Corners.{in-next}
+use Rattle.gap.proofs.Links.{in-last, Last, last-link, links-meet, Jumped, turn-cases, one-end}
 
 -- turning back from b ends at w, where the border is
 pub record Blocked (M : List Triangle) (c : ℕ) (R : List Triangle) (b : ℕ) : Type 0 where
@@ -16,7 +19,7 @@ pub record Blocked (M : List Triangle) (c : ℕ) (R : List Triangle) (b : ℕ) :
 
 -- R are triangles of M yet to be built, b a c is one of M and not of R
 module _ (M R : List Triangle) (a b c : ℕ) (sub : (x y z : ℕ) → In x y z R → In x y z M) (tri : In b a c M) (free-a : Unused a c R)
-    (once : Once M) (fan : FanAt M c) where
+    (once : Once M) (fan : Neighbours M c) where
   -- the end of a path from a vertex whose edge into c is used
   used-end : (x z u : ℕ) → In x c z M → Links c R x u → (m : ℕ) × In c m u M
   used-end x z u i l = go (last-link l)

@@ -5,20 +5,22 @@ use mathlib.Core.List.{List, _∷_}
 use mathlib.Core.Path.{_≡_, sym, _∙_, subst}
 use mathlib.Core.Logic.{_⊎_, inl, inr}
 use Rattle.rules.specs.declared.Triangle.{Triangle}
-use Rattle.gap.specs.Turn.{Rotated, In, here, there, Links, stop, link, Turn, rest, turn, jump, Chain, Consecutive, FanAt}
-use Rattle.gap.proofs.Links.{rot-next, rot-func}
+use Rattle.fans.specs.Corner.{Rot, In, here, there}
+use Rattle.fans.specs.Neighbours.{Linked, Pair, Neighbours}
+use Rattle.gap.specs.Turn.{Links, stop, link, Turn, rest, turn, jump}
+use Rattle.fans.proofs.Corners.{rot-next, rot-third}
 use Rattle.gap.proofs.Turning.{rot-mid}
 
 abbrev Corners : Triangle → Type 0
 Corners t = ((t .p ≡ t .q) → ⊥) × ((t .q ≡ t .r) → ⊥) × ((t .r ≡ t .p) → ⊥)
 
 -- the link of t at c is from b to a
-rot-link : {t : Triangle} {a b c x z : ℕ} → Corners t → Rotated t b a c → Rotated t c x z → (x ≡ b) × (z ≡ a)
+rot-link : {t : Triangle} {a b c x z : ℕ} → Corners t → Rot t b a c → Rot t c x z → (x ≡ b) × (z ≡ a)
 rot-link {t} {a} {b} {c} {x} {z} d r s =
     let m : x ≡ b = rot-mid d (rot-next (rot-next r)) s in
-    (m, rot-func d (subst (λ (v : ℕ). Rotated t c v z) m s) (rot-next (rot-next r)))
+    (m, rot-third (subst (λ (v : ℕ). Rot t c v z) m s) (rot-next (rot-next r)))
 
-module _ (t : Triangle) (R : List Triangle) (a b c : ℕ) (d : Corners t) (tri : Rotated t b a c) where
+module _ (t : Triangle) (R : List Triangle) (a b c : ℕ) (d : Corners t) (tri : Rot t b a c) where
   -- after the last use of t
   pub links-behind : {u y : ℕ} → Links c (t ∷ R) u y → Links c R u y ⊎ Links c R a y
   links-behind stop = inl stop
@@ -77,11 +79,11 @@ module _ (M R B : List Triangle) (c : ℕ) (part : (x y z : ℕ) → In x y z M 
       go (inr h) (inl w) = inr (z, u, w, h)
 
 -- two triangles of one fan: turning on from one leads to the other
-run-reach : (c : ℕ) (M : List Triangle) (m : ℕ) (ns : List ℕ) (x z : ℕ) → Chain c M (m ∷ ns) → Consecutive x z (m ∷ ns) → Links c M m x
+run-reach : (c : ℕ) (M : List Triangle) (m : ℕ) (ns : List ℕ) (x z : ℕ) → Linked c M (m ∷ ns) → Pair x z (m ∷ ns) → Links c M m x
 run-reach c M m (n ∷ ns) x z r (inl e) = subst (λ (v : ℕ). Links c M m v) (e .0) stop
 run-reach c M m (n ∷ ns) x z r (inr p) = link (r .0) (run-reach c M n ns x z (r .1) p)
 
-run-order : (c : ℕ) (M : List Triangle) (ns : List ℕ) (b a m n : ℕ) → Chain c M ns → Consecutive b a ns → Consecutive m n ns
+run-order : (c : ℕ) (M : List Triangle) (ns : List ℕ) (b a m n : ℕ) → Linked c M ns → Pair b a ns → Pair m n ns
     → Links c M a m ⊎ (Links c M n b ⊎ (b ≡ m))
 run-order c M (k ∷ (l ∷ ns)) b a m n r (inl e) (inl g) = inr (inr (sym (e .0) ∙ g .0))
 run-order c M (k ∷ (l ∷ ns)) b a m n r (inl e) (inr q) =
@@ -90,5 +92,5 @@ run-order c M (k ∷ (l ∷ ns)) b a m n r (inr p) (inl g) =
     inr (inl (subst (λ (v : ℕ). Links c M v b) (g .1) (run-reach c M l ns b a (r .1) p)))
 run-order c M (k ∷ (l ∷ ns)) b a m n r (inr p) (inr q) = run-order c M (l ∷ ns) b a m n (r .1) p q
 
-pub fan-order : (M : List Triangle) (c b a m n : ℕ) → FanAt M c → In c b a M → In c m n M → Links c M a m ⊎ (Links c M n b ⊎ (b ≡ m))
+pub fan-order : (M : List Triangle) (c b a m n : ℕ) → Neighbours M c → In c b a M → In c m n M → Links c M a m ⊎ (Links c M n b ⊎ (b ≡ m))
 fan-order M c b a m n f i j = run-order c M (f .fan) b a m n (f .run) (f .whole b a i) (f .whole m n j)

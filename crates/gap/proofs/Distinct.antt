@@ -8,10 +8,20 @@ use mathlib.Core.Path.{_≡_, refl, sym, ap, _∙_, subst}
 use mathlib.Core.Logic.{_⊎_, inl, inr}
 use lib.ListN.{length}
 use lib.Dec.{eqb}
+use borrow.Author.Tests.{eqb-true, eqb-false}
 use Rattle.rules.specs.Count.{num, same, occurs}
 use Rattle.rules.specs.Choice.{has}
+use Rattle.fans.proofs.Counting.{same-yes, same-no}
 use Rattle.gap.proofs.Numbering.{has-not}
-use Rattle.gap.proofs.Counting.{same-cases, same-one, same-zero}
+
+-- two numbers are equal, and counted, or not
+same-by : (x y : ℕ) (t : Bool) → eqb x y ≡ t → ((num t ≡ 0) × (x ≡ y → ⊥)) ⊎ ((num t ≡ 1) × (x ≡ y))
+same-by x y true e = inr (refl, eqb-true x y e)
+same-by x y false e = inl (refl, eqb-false x y e)
+
+same-cases : (x y : ℕ) → ((same x y ≡ 0) × (x ≡ y → ⊥)) ⊎ ((same x y ≡ 1) × (x ≡ y))
+unfolding same
+same-cases x y = same-by x y (eqb x y) refl
 
 -- no number occurs twice
 abbrev pub Distinct : List ℕ → Type 0
@@ -83,7 +93,7 @@ sum (suc n) vs = occurs n vs + sum n vs
 sum-out : (n x : ℕ) (vs : List ℕ) → n ≤ x → sum n (x ∷ vs) ≡ sum n vs
 unfolding occurs
 sum-out zero x vs h = refl
-sum-out (suc n) x vs h = let k = sum-out n x vs (omega arith) in let s = same-zero n x (λ e. omega arith) in omega arith
+sum-out (suc n) x vs h = let k = sum-out n x vs (omega arith) in let s = same-no n x (λ e. omega arith) in omega arith
 
 sum-in : (n x : ℕ) (vs : List ℕ) → x < n → sum n (x ∷ vs) ≡ suc (sum n vs)
 unfolding occurs
@@ -103,7 +113,7 @@ sum-length n [] h = none n
     none zero = refl
     none (suc k) = let l = none k in omega arith
 sum-length n (x ∷ vs) h =
-    let s = same-one x x refl in
+    let s = same-yes x in
     let k = sum-length n vs (λ y l. h y (omega arith)) in
     sum-in n x vs (h x (omega arith)) ∙ ap suc k
 

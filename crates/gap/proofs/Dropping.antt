@@ -8,15 +8,15 @@ use Rattle.rules.specs.declared.Across.{Across}
 use Rattle.rules.specs.declared.Across.the-variants.{Found, Nothing}
 use Rattle.rules.specs.Across.{inTriangle}
 use Rattle.rules.specs.Choice.{dropTriangle}
-use Rattle.gap.specs.Turn.{Rotated, In, here, there, Once}
+use Rattle.fans.specs.Corner.{Rot, In, here, there, Once}
 use Rattle.gap.proofs.Links.{free-rot}
 use Rattle.gap.proofs.Turning.{Told, told, others}
 
-told-not : (x y z : ℕ) (t : Triangle) → Told x y t Nothing → Rotated t x y z → ⊥
+told-not : (x y z : ℕ) (t : Triangle) → Told x y t Nothing → Rot t x y z → ⊥
 unfolding Told
 told-not x y z t h r = h z r
 
-told-is : (x y n k z : ℕ) (t : Triangle) → Told x y t (Found n k z) → Rotated t x y z
+told-is : (x y n k z : ℕ) (t : Triangle) → Told x y t (Found n k z) → Rot t x y z
 unfolding Told
 told-is x y n k z t h = h
 

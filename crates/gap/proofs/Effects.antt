@@ -13,10 +13,10 @@ use Rattle.rules.specs.declared.Operation.the-variants.{New, Forward, Backward,
 use Rattle.rules.specs.Triangle.{edge}
 use Rattle.rules.specs.Ring.{Node, opened, marked, Ring, vertex, isOpen, allOpen, vertexAt, lastOpen, lastVertex, front, loopAt, without}
 use Rattle.rules.specs.Table.{glued, fresh, Effect, builds, marks, allowed, shorterFirst, marking, atEdge}
+use Rattle.fans.proofs.Counting.{and-both}
 use Rattle.gap.specs.Surgery.{Surgery, on-new, on-forward, on-backward, on-close, on-split, on-union}
 use Rattle.gap.specs.Trace.{triangleAt, afterBorder, withRing}
 use Rattle.gap.specs.Tally.{gluesA, gluesB, sideOf, newNumbers, unionsOf}
-use Rattle.gap.proofs.Bools.{and-both}
 
 allowed-true : (b : Bool) (ef : Effect) → b ≡ true → allowed b ef ≡ ef
 unfolding allowed

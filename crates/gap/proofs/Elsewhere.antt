@@ -13,13 +13,14 @@ use Rattle.rules.specs.declared.Operation.the-variants.{New, Forward, Backward,
 use Rattle.rules.specs.Count.{hit}
 use Rattle.rules.specs.Ring.{Node, opened, Ring, vertex, startOr}
 use Rattle.rules.specs.Table.{inOrder, shorterFirst}
+use Rattle.fans.proofs.Counting.{hit-yes}
 use Rattle.gap.specs.Corners.{endOr, Along, Around, Everywhere}
 use Rattle.gap.specs.Surgery.{Surgery, on-new, on-forward, on-backward, on-close, on-split, on-union}
 use Rattle.gap.specs.Tally.{tally, ringTally, total}
 use Rattle.gap.proofs.Rings.{ring-join, ring-parts, ring-swap, last-append}
 use Rattle.gap.proofs.Fate.{rings-append, rings-split}
 use Rattle.gap.proofs.Tallies.{tally-append, tally-swap, total-append}
-use Rattle.gap.proofs.Legal.{hit-one, hit-here}
+use Rattle.gap.proofs.Legal.{hit-here}
 use Rattle.gap.proofs.Sites.{last-join, first-join}
 
 -- the vertices before and after the place that an operation names
@@ -153,9 +154,9 @@ module _ (Q : ℕ → ℕ → ℕ → Type 0) (e f p : Node) (ws : List Ring) wh
       let t1 = g .1 a b in
       let t2 = g .1 b c in
       let t3 = g .1 c (vertex q) in
-      let o1 = hit-one a b in
-      let o2 = hit-one b c in
-      let o3 = hit-one c (vertex q) in
+      let o1 = hit-yes a b in
+      let o2 = hit-yes b c in
+      let o3 = hit-yes c (vertex q) in
       let i1 = entering-edges a b c (q ∷ qs) a in
       let i2 = entering-edges b c c (q ∷ qs) a in (
         (g .2, (g .5, elsewhere Q a b c b (vertex q) c (q ∷ qs) a (record { in-ab = omega arith; in-xc = omega arith; out-ab = omega arith; out-cy = omega arith }) (g .0 .0 .1 .1 .1))),
@@ -172,9 +173,9 @@ module _ (Q : ℕ → ℕ → ℕ → Type 0) (e f p : Node) (ws : List Ring) wh
       let t1 = g .1 a b in
       let t2 = g .1 x c in
       let t3 = g .1 c a in
-      let o1 = hit-one a b in
-      let o2 = hit-one x c in
-      let o3 = hit-one c a in
+      let o1 = hit-yes a b in
+      let o2 = hit-yes x c in
+      let o3 = hit-yes c a in
       let h1 = tally-append a b (q ∷ qs) (p ∷ []) a in
       let h2 = tally-append x c (q ∷ qs) (p ∷ []) a in
       let h3 = tally-append c a (q ∷ qs) (p ∷ []) a in
@@ -193,9 +194,9 @@ module _ (Q : ℕ → ℕ → ℕ → Type 0) (e f p : Node) (ws : List Ring) wh
       let t1 = g .1 a b in
       let t2 = g .1 b c in
       let t3 = g .1 c a in
-      let o1 = hit-one a b in
-      let o2 = hit-one b c in
-      let o3 = hit-one c a in
+      let o1 = hit-yes a b in
+      let o2 = hit-yes b c in
+      let o3 = hit-yes c a in
       elsewhere-rings Q a b c b a ws (omega arith) (omega arith) (omega arith) (g .0 .1)
 
   fore-split : (us vs : List Node) → Given Q e f (us ++ (p ∷ vs)) ws (vertex p) (endOr (vertex f) us) (startOr (vertex e) vs)
@@ -209,9 +210,9 @@ module _ (Q : ℕ → ℕ → ℕ → Type 0) (e f p : Node) (ws : List Ring) wh
       let t1 = g .1 a b in
       let t2 = g .1 x c in
       let t3 = g .1 c y in
-      let o1 = hit-one a b in
-      let o2 = hit-one x c in
-      let o3 = hit-one c y in
+      let o1 = hit-yes a b in
+      let o2 = hit-yes x c in
+      let o3 = hit-yes c y in
       let h1 = tally-append a b (f ∷ us) (p ∷ vs) a in
       let h2 = tally-append x c (f ∷ us) (p ∷ vs) a in
       let h3 = tally-append c y (f ∷ us) (p ∷ vs) a in
@@ -238,9 +239,9 @@ fore-union Q e f p ps before us vs behind g =
     let t1 = g .1 a b in
     let t2 = g .1 x c in
     let t3 = g .1 c y in
-    let o1 = hit-one a b in
-    let o2 = hit-one x c in
-    let o3 = hit-one c y in
+    let o1 = hit-yes a b in
+    let o2 = hit-yes x c in
+    let o3 = hit-yes c y in
     let h1 = total-append a b before (w ∷ behind) in
     let h2 = total-append x c before (w ∷ behind) in
     let h3 = total-append c y before (w ∷ behind) in
@@ -275,7 +276,7 @@ fore-step Q e f ps ws ls c New (on-new q) r le he hf hn hc =
     let z1 = n .1 in
     let z2 = n .2 in
     let t1 = le a b in
-    let o1 = hit-one a b in
+    let o1 = hit-yes a b in
     let i1 = entering-edges a b b ps a in
     let i2 = entering-edges 0 c b ps a in
     rw q (

@@ -6,10 +6,13 @@ use mathlib.Core.Path.{_≡_, refl, sym, subst}
 use mathlib.Core.Logic.{_⊎_, inl, inr}
 use Rattle.rules.specs.declared.Triangle.{Triangle}
 use Rattle.rules.specs.Ring.{Ring}
-use Rattle.gap.specs.Turn.{Rotated, In, here, there, Unused, Once, Links, Turn, FanAt}
+use Rattle.fans.specs.Corner.{Rot, In, here, there, Once}
+use Rattle.fans.specs.Neighbours.{Neighbours}
+use Rattle.gap.specs.Turn.{Unused, Links, Turn}
 use Rattle.gap.specs.Corners.{Everywhere, Filled}
 use Rattle.gap.specs.Spots.{OpenAt, Spotted}
-use Rattle.gap.proofs.Links.{in-last, rot-next, Last, last-link, first-link, links-meet, links-fork, Jumped, turn-cases, free-rot}
+use Rattle.fans.proofs.Corners.{rot-next}
+use Rattle.gap.proofs.Links.{in-last, Last, last-link, first-link, links-meet, links-fork, Jumped, turn-cases, free-rot}
 use Rattle.gap.proofs.Cuts.{links-behind, links-front, turn-cut, first-built, last-built, fan-order}
 use Rattle.gap.proofs.Places.{spotted-holds, place-leaving, Entered, place-entered}
 
@@ -28,7 +31,7 @@ pub record PlaceOf (M R : List Triangle) (ls : List Ring) (a b c : ℕ) : Type 0
   pub on : Turn M c R a y
 
 -- M are all triangles, B those built, t ∷ R those not yet built, t the one at the current edge a→b
-module _ (M R B : List Triangle) (t : Triangle) (a b c : ℕ) (tri : Rotated t b a c) (onceM : Once M) (once : Once (t ∷ R)) (fan : FanAt M c)
+module _ (M R B : List Triangle) (t : Triangle) (a b c : ℕ) (tri : Rot t b a c) (onceM : Once M) (once : Once (t ∷ R)) (fan : Neighbours M c)
     (part : (x y z : ℕ) → In x y z M → In x y z (t ∷ R) ⊎ In x y z B)
     (subR : (x y z : ℕ) → In x y z (t ∷ R) → In x y z M) (subB : (x y z : ℕ) → In x y z B → In x y z M)
     (apart : (x y z w : ℕ) → In x y z (t ∷ R) → In x y w B → ⊥)

@@ -11,7 +11,8 @@ use Rattle.rules.specs.declared.Operation.{Operation}
 use Rattle.rules.specs.declared.Operation.the-variants.{New, Forward, Backward, Split, Close, Union}
 use Rattle.rules.specs.Ring.{Node, opened, Ring, vertex}
 use Rattle.rules.specs.Table.{inOrder, shorterFirst}
-use Rattle.gap.specs.Turn.{at-p, at-q, at-r, here, rest, turn}
+use Rattle.fans.specs.Corner.{at-p, at-q, at-r, here}
+use Rattle.gap.specs.Turn.{rest, turn}
 use Rattle.gap.specs.Corners.{Around, Everywhere, Filled}
 use Rattle.gap.specs.Surgery.{Surgery, on-new, on-forward, on-backward, on-close, on-split, on-union}
 use Rattle.gap.specs.Trace.{triangleAt}

@@ -11,11 +11,13 @@ use borrow.Author.Tests.{eq-eqb}
 use Rattle.rules.specs.declared.Triangle.{Triangle}
 use Rattle.rules.specs.Fan.{oneFanEach}
 use Rattle.rules.specs.Machine.{Machine, Step, finished, test, complete, asStated, totals, finish}
-use Rattle.gap.specs.Turn.{at-p, at-q, at-r, In, here, there, Unused, Once, Chain, Consecutive, endOf, ClosedOrOpen, FanAt}
-use Rattle.gap.proofs.Bools.{and-both}
+use Rattle.fans.specs.Corner.{at-p, at-q, at-r, In, here, there, Once}
+use Rattle.fans.specs.Neighbours.{Linked, Pair, endOf, Round, Neighbours}
+use Rattle.fans.proofs.Counting.{and-both}
+use Rattle.gap.specs.Turn.{Unused}
 use Rattle.gap.proofs.Progress.{has-triangle}
 use Rattle.gap.proofs.Numbering.{Met}
-use Rattle.gap.proofs.FanTests.{fans-test}
+use Rattle.gap.proofs.Fans.{fans-test}
 use Rattle.gap.proofs.Renaming.{triangles}
 use Rattle.gap.proofs.Unpacking.{in-named, unused-named}
 
@@ -50,12 +52,12 @@ module _ (name : ℕ → ℕ) (M : List Triangle) (tells : (x y : ℕ) → Met x
   end-named m [] = refl
   end-named m (n ∷ ns) = end-named n ns
 
-  chain-named : (c : ℕ) (ns : List ℕ) → Chain c M ns → Chain (name c) (triangles name M) (names ns)
+  chain-named : (c : ℕ) (ns : List ℕ) → Linked c M ns → Linked (name c) (triangles name M) (names ns)
   chain-named c [] r = tt
   chain-named c (m ∷ []) r = tt
   chain-named c (m ∷ (n ∷ ns)) r = (name-in M c m n (r .0), chain-named c (n ∷ ns) (r .1))
 
-  round-named : (c : ℕ) (ns : List ℕ) → ClosedOrOpen c M ns → ClosedOrOpen (name c) (triangles name M) (names ns)
+  round-named : (c : ℕ) (ns : List ℕ) → Round c M ns → Round (name c) (triangles name M) (names ns)
   round-named c [] r = tt
   round-named c (m ∷ ns) (inl e) = inl (ap name e ∙ sym (end-named m ns))
   round-named c (m ∷ ns) (inr e) =
@@ -64,11 +66,11 @@ module _ (name : ℕ → ℕ) (M : List Triangle) (tells : (x y : ℕ) → Met x
         subst (λ (v : ℕ). Unused (name c) v (triangles name M)) (sym (end-named m ns)) (unused-named name M tells M (λ x y z i. i) c (endOf m ns) (e .1)),
       )
 
-  consecutive-named : (x z : ℕ) (ns : List ℕ) → Consecutive x z ns → Consecutive (name x) (name z) (names ns)
+  consecutive-named : (x z : ℕ) (ns : List ℕ) → Pair x z ns → Pair (name x) (name z) (names ns)
   consecutive-named x z (m ∷ (n ∷ ns)) (inl e) = inl (ap name (e .0), ap name (e .1))
   consecutive-named x z (m ∷ (n ∷ ns)) (inr p) = inr (consecutive-named x z (n ∷ ns) p)
 
-  fan-named : (c : ℕ) → Met c M → FanAt M c → FanAt (triangles name M) (name c)
+  fan-named : (c : ℕ) → Met c M → Neighbours M c → Neighbours (triangles name M) (name c)
   fan-named c m f = record {
     fan = names (f .fan);
     run = chain-named c (f .fan) (f .run);
@@ -76,24 +78,24 @@ module _ (name : ℕ → ℕ) (M : List Triangle) (tells : (x y : ℕ) → Met x
     whole = λ x z i. at x z (in-named name M tells M (name c) x z i);
   }
     where
-      at : (x z : ℕ) → (u : ℕ) × (v : ℕ) × (w : ℕ) × In u v w M × (name u ≡ name c) × (name v ≡ x) × (name w ≡ z) → Consecutive x z (names (f .fan))
+      at : (x z : ℕ) → (u : ℕ) × (v : ℕ) × (w : ℕ) × In u v w M × (name u ≡ name c) × (name v ≡ x) × (name w ≡ z) → Pair x z (names (f .fan))
       at x z (u, v, w, i, a, b, d) =
           let e : u ≡ c = tells u c (v, w, i) a in
-          subst (λ (k : ℕ). Consecutive x k (names (f .fan))) d
-          (subst (λ (k : ℕ). Consecutive k (name w) (names (f .fan))) b (consecutive-named v w (f .fan) (f .whole v w (subst (λ (k : ℕ). In k v w M) e i))))
+          subst (λ (k : ℕ). Pair x k (names (f .fan))) d
+          (subst (λ (k : ℕ). Pair k (name w) (names (f .fan))) b (consecutive-named v w (f .fan) (f .whole v w (subst (λ (k : ℕ). In k v w M) e i))))
 
   -- each vertex has one fan under its new number
-  fans-named : ((c : ℕ) → FanAt M c) → (k : ℕ) → FanAt (triangles name M) k
+  fans-named : ((c : ℕ) → Neighbours M c) → (k : ℕ) → Neighbours (triangles name M) k
   fans-named fan k = go (has-triangle k (triangles name M))
     where
-      at : (u : ℕ) × (v : ℕ) × (w : ℕ) × In u v w M × (name u ≡ k) × ℕ → FanAt (triangles name M) k
-      at (u, v, w, i, a, _) = subst (FanAt (triangles name M)) a (fan-named u (v, w, i) (fan u))
+      at : (u : ℕ) × (v : ℕ) × (w : ℕ) × In u v w M × (name u ≡ k) × ℕ → Neighbours (triangles name M) k
+      at (u, v, w, i, a, _) = subst (Neighbours (triangles name M)) a (fan-named u (v, w, i) (fan u))
 
-      go : ((m : ℕ) × (n : ℕ) × In k m n (triangles name M)) ⊎ ((m n : ℕ) → In k m n (triangles name M) → ⊥) → FanAt (triangles name M) k
+      go : ((m : ℕ) × (n : ℕ) × In k m n (triangles name M)) ⊎ ((m n : ℕ) → In k m n (triangles name M) → ⊥) → Neighbours (triangles name M) k
       go (inl r) = let t = in-named name M tells M k (r .0) (r .1) (r .2) in at (t .0, t .1, t .2, t .3, t .4, 0)
       go (inr n) = record { fan = []; run = tt; round = tt; whole = λ x z i. absurd (n x z i) }
 
-  pub fans-hold : (n : ℕ) → Once M → ((c : ℕ) → FanAt M c) → oneFanEach n (triangles name M) ≡ true
+  pub fans-hold : (n : ℕ) → Once M → ((c : ℕ) → Neighbours M c) → oneFanEach n (triangles name M) ≡ true
   fans-hold n o fan = fans-test n (triangles name M) (once-named M (λ x y z i. i) o) (fans-named fan)
 
 test-true : (b : Bool) (n : ℕ) (s : Step) → b ≡ true → test b n s ≡ s

@@ -8,9 +8,10 @@ use mathlib.Core.Logic.{_⊎_, inl, inr}
 use Rattle.rules.specs.declared.Triangle.{Triangle}
 use Rattle.rules.specs.Count.{hit}
 use Rattle.rules.specs.Ring.{opened, Ring}
-use Rattle.gap.specs.Turn.{Rotated, at-p, at-q, at-r, In, here, there, Unused}
+use Rattle.fans.specs.Corner.{Rot, at-p, at-q, at-r, In, here, there}
+use Rattle.gap.specs.Turn.{Unused}
 use Rattle.gap.specs.Tally.{total}
-use Rattle.gap.proofs.Links.{rot-next}
+use Rattle.fans.proofs.Corners.{rot-next}
 use Rattle.gap.proofs.Legal.{Lawful, counted, hit-zero}
 
 -- the first triangle of a piece, on three vertices that have no triangle yet
@@ -18,7 +19,7 @@ module _ (B : List Triangle) (rims : List Ring) (p q r : ℕ) (d0 : ((p ≡ q) �
     (none-p : (m n : ℕ) → In p m n B → ⊥) (none-q : (m n : ℕ) → In q m n B → ⊥) (none-r : (m n : ℕ) → In r m n B → ⊥)
     (legal : (x y : ℕ) → Lawful B (total x y [] + total x y rims) x y) where
   -- a vertex of t has no built triangle
-  none : (x y z : ℕ) → Rotated (record { p = p; q = q; r = r }) x y z → (m n : ℕ) → In x m n B → ⊥
+  none : (x y z : ℕ) → Rot (record { p = p; q = q; r = r }) x y z → (m n : ℕ) → In x m n B → ⊥
   none x y z (at-p a b c) m n i = none-p m n (subst (λ (v : ℕ). In v m n B) (sym a) i)
   none x y z (at-q a b c) m n i = none-q m n (subst (λ (v : ℕ). In v m n B) (sym a) i)
   none x y z (at-r a b c) m n i = none-r m n (subst (λ (v : ℕ). In v m n B) (sym a) i)
@@ -31,14 +32,14 @@ module _ (B : List Triangle) (rims : List Ring) (p q r : ℕ) (d0 : ((p ≡ q) �
   ring = (opened p ∷ (opened q ∷ (opened r ∷ []))) ∷ []
 
   -- the opposite of an edge of t is not used
-  free-back : (x y z : ℕ) → Rotated (record { p = p; q = q; r = r }) x y z → Unused y x (record { p = p; q = q; r = r } ∷ B)
+  free-back : (x y z : ℕ) → Rot (record { p = p; q = q; r = r }) x y z → Unused y x (record { p = p; q = q; r = r } ∷ B)
   free-back x y z s w (there i) = none y z x (rot-next s) x w i
   free-back x y z s w (here u) = twice s u
     where
       d : ((p ≡ q) → ⊥) × ((q ≡ r) → ⊥) × ((r ≡ p) → ⊥)
       d = d0
 
-      twice : Rotated (record { p = p; q = q; r = r }) x y z → Rotated (record { p = p; q = q; r = r }) y x w → ⊥
+      twice : Rot (record { p = p; q = q; r = r }) x y z → Rot (record { p = p; q = q; r = r }) y x w → ⊥
       twice (at-p a b c) (at-p a′ b′ c′) = d .0 (a′ ∙ sym b)
       twice (at-p a b c) (at-q a′ b′ c′) = d .2 (b′ ∙ sym a)
       twice (at-p a b c) (at-r a′ b′ c′) = d .1 (b ∙ sym a′)
@@ -58,7 +59,7 @@ module _ (B : List Triangle) (rims : List Ring) (p q r : ℕ) (d0 : ((p ≡ q) �
       d : ((p ≡ q) → ⊥) × ((q ≡ r) → ⊥) × ((r ≡ p) → ⊥)
       d = d0
 
-      yes : {z : ℕ} → Rotated (record { p = p; q = q; r = r }) x y z → total x y ((opened p ∷ (opened q ∷ (opened r ∷ []))) ∷ []) ≡ 1
+      yes : {z : ℕ} → Rot (record { p = p; q = q; r = r }) x y z → total x y ((opened p ∷ (opened q ∷ (opened r ∷ []))) ∷ []) ≡ 1
           → Lawful (record { p = p; q = q; r = r } ∷ B) (total x y ((opened p ∷ (opened q ∷ (opened r ∷ []))) ∷ []) + total x y rims) x y
       yes {z} s h =
           let e = no-rim x y (none x y z s) (legal x y) in

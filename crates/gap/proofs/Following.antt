@@ -18,11 +18,11 @@ use Rattle.rules.specs.Across.{inTriangle}
 use Rattle.rules.specs.Ring.{Node, Ring, vertex, places}
 use Rattle.rules.specs.Choice.{Packing, dropTriangle, choosePlace, takes, packingAfter, limited, choose}
 use Rattle.rules.specs.Pack.{chosen, cons, chooseAll}
-use Rattle.gap.specs.Turn.{Rotated, at-p, In}
+use Rattle.fans.specs.Corner.{Rot, at-p, In}
 use Rattle.gap.specs.Surgery.{Surgery}
 use Rattle.gap.specs.Trace.{triangleAt, afterBorder, withRing}
 use Rattle.gap.specs.Tally.{newNumbers, allOpenEdges}
-use Rattle.gap.proofs.Links.{in-next}
+use Rattle.fans.proofs.Corners.{in-next}
 use Rattle.gap.proofs.Turning.{Told, told, Finds}
 use Rattle.gap.proofs.Legal.{legal-step}
 use Rattle.gap.proofs.Standing.{legal-used}
@@ -36,7 +36,7 @@ use Rattle.gap.proofs.Choosing.{choose-border, choose-new, choose-old, 
 use Rattle.gap.proofs.Whole.{all-ended, all-taken, choose-ended}
 
 -- the first of the triangles left is the one dropped
-drop-first : (x y z : ℕ) (t : Triangle) (ts : List Triangle) → Rotated t x y z → dropTriangle x y (t ∷ ts) ≡ ts
+drop-first : (x y z : ℕ) (t : Triangle) (ts : List Triangle) → Rot t x y z → dropTriangle x y (t ∷ ts) ≡ ts
 unfolding dropTriangle Told
 drop-first x y z t ts r = go (inTriangle x y t) (told x y t)
   where
@@ -44,7 +44,7 @@ drop-first x y z t ts r = go (inTriangle x y t) (told x y t)
     go (Found n k w) h = refl
     go Nothing h = absurd (h z r)
 
-limited-takes : (o : Operation) (s : Packing) → places (s .loops) ≤ s .limitPlaces → length (s .loops) ≤ s .limitLoops → limited o s ≡ takes o s
+pub limited-takes : (o : Operation) (s : Packing) → places (s .loops) ≤ s .limitPlaces → length (s .loops) ≤ s .limitLoops → limited o s ≡ takes o s
 unfolding limited
 limited-takes o s h k = rw (limited, le-leb (places (s .loops)) (s .limitPlaces) h, le-leb (length (s .loops)) (s .limitLoops) k) refl
 

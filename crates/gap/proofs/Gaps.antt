@@ -12,12 +12,13 @@ use Rattle.rules.specs.declared.Operation.{Operation}
 use Rattle.rules.specs.declared.Operation.the-variants.{New, Forward, Backward, Split, Close}
 use Rattle.rules.specs.Ring.{Node, Ring, vertex, startOr}
 use Rattle.rules.specs.Choice.{operationFor}
-use Rattle.gap.specs.Turn.{In, FanAt}
+use Rattle.fans.specs.Corner.{In}
+use Rattle.fans.specs.Neighbours.{Neighbours}
 use Rattle.gap.specs.Corners.{endOr, Everywhere, Filled}
 use Rattle.gap.specs.Surgery.{Surgery, on-new}
 use Rattle.gap.specs.Trace.{triangleAt}
 use Rattle.gap.specs.Tally.{total}
-use Rattle.gap.proofs.Links.{in-next}
+use Rattle.fans.proofs.Corners.{in-next}
 use Rattle.gap.proofs.Rings.{rings-map}
 use Rattle.gap.proofs.Places.{spotted-holds}
 use Rattle.gap.proofs.Exists.{Used, PlaceOf}
@@ -40,7 +41,7 @@ place-op k zero i = go (eqb k 3) (eqb i 2) (eqb (i + 1) k)
 place-op k (suc l) i = refl
 
 module _ (M R B : List Triangle) (e f : Node) (ps : List Node) (ws : List Ring) (c : ℕ)
-    (pk : Packs M (triangleAt e f c ∷ R) B ((e ∷ (f ∷ ps)) ∷ ws)) (fan : FanAt M c)
+    (pk : Packs M (triangleAt e f c ∷ R) B ((e ∷ (f ∷ ps)) ∷ ws)) (fan : Neighbours M c)
     (one : (u v : ℕ) → total u v ((e ∷ (f ∷ ps)) ∷ ws) ≤ 1) where
   st : State M (triangleAt e f c ∷ R) B ((e ∷ (f ∷ ps)) ∷ ws)
   st = pk .state

@@ -13,11 +13,13 @@ use Rattle.rules.specs.declared.Triangle.{Triangle}
 use Rattle.rules.specs.declared.Operation.the-variants.{Forward, Backward, Close}
 use Rattle.rules.specs.Ring.{Node, Ring, vertex, isOpen, loopAt}
 use Rattle.rules.specs.Choice.{operationFor, sizeOf, following}
-use Rattle.gap.specs.Turn.{at-p, In, here, there, Unused, Turn, rest, turn, jump}
+use Rattle.fans.specs.Corner.{at-p, In, here, there}
+use Rattle.gap.specs.Turn.{Unused, Turn, rest, turn, jump}
 use Rattle.gap.specs.Corners.{Filled}
 use Rattle.gap.specs.Spots.{OpenAt, Spotted}
 use Rattle.gap.specs.Trace.{triangleAt}
-use Rattle.gap.proofs.Links.{in-next, in-last, once-func, once-inj}
+use Rattle.fans.proofs.Corners.{in-next}
+use Rattle.gap.proofs.Links.{in-last, once-func, once-inj}
 use Rattle.gap.proofs.Places.{spotted-holds, spotted-site, place-leaving, place-entered}
 use Rattle.gap.proofs.Exists.{Used, PlaceOf}
 use Rattle.gap.proofs.Canonical.{State}

@@ -9,10 +9,13 @@ use lib.Dec.{eqb}
 use borrow.Author.Tests.{eqb-true, eqb-false}
 use Rattle.rules.specs.declared.Triangle.{Triangle}
 use Rattle.rules.specs.Ring.{Node, Ring, vertex}
-use Rattle.gap.specs.Turn.{Rotated, at-p, at-q, at-r, In, here, there, Unused, Links, Turn, rest, turn, jump, FanAt}
+use Rattle.fans.specs.Corner.{Rot, at-p, at-q, at-r, In, here, there}
+use Rattle.fans.specs.Neighbours.{Neighbours}
+use Rattle.gap.specs.Turn.{Unused, Links, Turn, rest, turn, jump}
 use Rattle.gap.specs.Corners.{Along, Around, Everywhere, Filled}
 use Rattle.gap.specs.Trace.{triangleAt}
-use Rattle.gap.proofs.Links.{in-next, in-last, free-rot, rot-next, Last, last-link, first-link, links-meet, links-fork, turn-round, turn-map}
+use Rattle.fans.proofs.Corners.{in-next, rot-next}
+use Rattle.gap.proofs.Links.{in-last, free-rot, Last, last-link, first-link, links-meet, links-fork, turn-round, turn-map}
 use Rattle.gap.proofs.Core.{Blocked, one-way}
 use Rattle.gap.proofs.Cuts.{turn-cut}
 use Rattle.gap.proofs.Exists.{Used}
@@ -35,7 +38,7 @@ rings-zip P Q [] h k = tt
 rings-zip P Q (l ∷ ls) h k = (ring-zip P Q l (h .0) (k .0), rings-zip P Q ls (h .1) (k .1))
 
 -- a vertex that t does not have
-turn-drop : {M : List Triangle} {t : Triangle} {R : List Triangle} {v x y : ℕ} → ((u w : ℕ) → Rotated t v u w → ⊥) → Turn M v (t ∷ R) x y → Turn M v R x y
+turn-drop : {M : List Triangle} {t : Triangle} {R : List Triangle} {v x y : ℕ} → ((u w : ℕ) → Rot t v u w → ⊥) → Turn M v (t ∷ R) x y → Turn M v R x y
 turn-drop n rest = rest
 turn-drop {M} {t} {R} {v} {x} {y} n (turn {z = z} i l) = go i (turn-drop n l)
   where
@@ -44,12 +47,12 @@ turn-drop {M} {t} {R} {v} {x} {y} n (turn {z = z} i l) = go i (turn-drop n l)
     go (there j) k = turn j k
 turn-drop n (jump f g l) = jump f g (turn-drop n l)
 
-module _ (M R B : List Triangle) (e f : Node) (c : ℕ) (ls : List Ring) (pk : Packs M (triangleAt e f c ∷ R) B ls) (fan : FanAt M c)
+module _ (M R B : List Triangle) (e f : Node) (c : ℕ) (ls : List Ring) (pk : Packs M (triangleAt e f c ∷ R) B ls) (fan : Neighbours M c)
     (cur : (z : ℕ) × In (vertex e) (vertex f) z B) where
   st : State M (triangleAt e f c ∷ R) B ls
   st = pk .state
 
-  tri : Rotated (triangleAt e f c) (vertex f) (vertex e) c
+  tri : Rot (triangleAt e f c) (vertex f) (vertex e) c
   tri = at-p refl refl refl
 
   ba : In (vertex f) (vertex e) c (triangleAt e f c ∷ R)
@@ -212,7 +215,7 @@ module _ (M R B : List Triangle) (e f : Node) (c : ℕ) (ls : List Ring) (pk : P
             go (inr (inr w)) = inr (inr (inr (inr (eqb-true v c q, w))))
         is-c na nb false q = inl (turn-drop none (h .0))
           where
-            none : (u w : ℕ) → Rotated (triangleAt e f c) v u w → ⊥
+            none : (u w : ℕ) → Rot (triangleAt e f c) v u w → ⊥
             none u w (at-p i j k) = nb (sym i)
             none u w (at-q i j k) = na (sym i)
             none u w (at-r i j k) = eqb-false v c q (sym i)

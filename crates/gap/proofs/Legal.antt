@@ -12,11 +12,13 @@ use Rattle.rules.specs.declared.Triangle.{Triangle}
 use Rattle.rules.specs.declared.Operation.{Operation}
 use Rattle.rules.specs.Count.{num, hit}
 use Rattle.rules.specs.Ring.{Node, Ring, vertex}
-use Rattle.gap.specs.Turn.{at-p, at-q, at-r, In, here, there, Unused, Once}
+use Rattle.fans.specs.Corner.{at-p, at-q, at-r, In, here, there, Once}
+use Rattle.fans.proofs.Counting.{and-both, hit-yes}
+use Rattle.gap.specs.Turn.{Unused}
 use Rattle.gap.specs.Surgery.{Surgery}
 use Rattle.gap.specs.Trace.{triangleAt}
 use Rattle.gap.specs.Tally.{total, gluesA, gluesB, when, unless}
-use Rattle.gap.proofs.Bools.{and-true, and-both}
+use Rattle.gap.proofs.Bools.{and-true}
 use Rattle.gap.proofs.Tallies.{total-step}
 
 -- an edge that stands n times in the rings
@@ -44,15 +46,8 @@ hit-zero x y u v h = go (counted x y u v)
     go (inl r) = r .0
     go (inr r) = absurd (h (r .1) (r .2))
 
-pub hit-one : (x y : ℕ) → hit x y x y ≡ 1
-hit-one x y = go (counted x y x y)
-  where
-    go : Counted x y x y → hit x y x y ≡ 1
-    go (inl r) = absurd (r .1 refl refl)
-    go (inr r) = r .0
-
 pub hit-here : (x y u v : ℕ) → u ≡ x → v ≡ y → hit x y u v ≡ 1
-hit-here x y u v p q = ap₂ (hit x y) p q ∙ hit-one x y
+hit-here x y u v p q = ap₂ (hit x y) p q ∙ hit-yes x y
 
 when-zero : (g : Bool) (n : ℕ) → n ≡ 0 → when g n ≡ 0
 when-zero true n h = h
@@ -77,7 +72,7 @@ module _ (B : List Triangle) (a b c : ℕ) (T T′ : ℕ → ℕ → ℕ) (gA gB
   at-ab : T a b ≡ T′ a b + 1
   at-ab =
       let h = eq a b in
-      let i1 = hit-one a b in
+      let i1 = hit-yes a b in
       let i2 = when-zero gB (hit a b b c) (hit-zero a b b c (λ p q. ab (sym p))) in
       let i3 = when-zero gA (hit a b c a) (hit-zero a b c a (λ p q. ca p)) in
       let i4 = unless-zero gB (hit a b c b) (hit-zero a b c b (λ p q. ca p)) in
@@ -89,7 +84,7 @@ module _ (B : List Triangle) (a b c : ℕ) (T T′ : ℕ → ℕ → ℕ) (gA gB
       let h = eq c a in
       let i1 = hit-zero c a a b (λ p q. ca (sym p)) in
       let i2 = when-zero gB (hit c a b c) (hit-zero c a b c (λ p q. bc p)) in
-      let i3 : when gA (hit c a c a) ≡ when gA 1 = ap (when gA) (hit-one c a) in
+      let i3 : when gA (hit c a c a) ≡ when gA 1 = ap (when gA) (hit-yes c a) in
       let i4 = unless-zero gB (hit c a c b) (hit-zero c a c b (λ p q. ab (sym q))) in
       let i5 = unless-zero gA (hit c a a c) (hit-zero c a a c (λ p q. ca (sym p))) in
       omega arith
@@ -98,7 +93,7 @@ module _ (B : List Triangle) (a b c : ℕ) (T T′ : ℕ → ℕ → ℕ) (gA gB
   at-bc =
       let h = eq b c in
       let i1 = hit-zero b c a b (λ p q. ab p) in
-      let i2 : when gB (hit b c b c) ≡ when gB 1 = ap (when gB) (hit-one b c) in
+      let i2 : when gB (hit b c b c) ≡ when gB 1 = ap (when gB) (hit-yes b c) in
       let i3 = when-zero gA (hit b c c a) (hit-zero b c c a (λ p q. bc (sym p))) in
       let i4 = unless-zero gB (hit b c c b) (hit-zero b c c b (λ p q. bc (sym p))) in
       let i5 = unless-zero gA (hit b c a c) (hit-zero b c a c (λ p q. ab p)) in
@@ -111,7 +106,7 @@ module _ (B : List Triangle) (a b c : ℕ) (T T′ : ℕ → ℕ → ℕ) (gA gB
       let i2 = when-zero gB (hit a c b c) (hit-zero a c b c (λ p q. ab (sym p))) in
       let i3 = when-zero gA (hit a c c a) (hit-zero a c c a (λ p q. ca p)) in
       let i4 = unless-zero gB (hit a c c b) (hit-zero a c c b (λ p q. ca p)) in
-      let i5 : unless gA (hit a c a c) ≡ unless gA 1 = ap (unless gA) (hit-one a c) in
+      let i5 : unless gA (hit a c a c) ≡ unless gA 1 = ap (unless gA) (hit-yes a c) in
       omega arith
 
   pub at-cb : T′ c b ≡ T c b + unless gB 1
@@ -120,7 +115,7 @@ module _ (B : List Triangle) (a b c : ℕ) (T T′ : ℕ → ℕ → ℕ) (gA gB
       let i1 = hit-zero c b a b (λ p q. ca (sym p)) in
       let i2 = when-zero gB (hit c b b c) (hit-zero c b b c (λ p q. bc p)) in
       let i3 = when-zero gA (hit c b c a) (hit-zero c b c a (λ p q. ab q)) in
-      let i4 : unless gB (hit c b c b) ≡ unless gB 1 = ap (unless gB) (hit-one c b) in
+      let i4 : unless gB (hit c b c b) ≡ unless gB 1 = ap (unless gB) (hit-yes c b) in
       let i5 = unless-zero gA (hit c b a c) (hit-zero c b a c (λ p q. ca (sym p))) in
       omega arith
 

@@ -40,8 +40,6 @@ pub mod Numbering
 pub mod Dropping
 pub mod Choosing
 pub mod Whole
-pub mod Uses
-pub mod Walks
 pub mod Fans
 pub mod Accepted
 pub mod Operating
@@ -56,8 +54,6 @@ pub mod Renaming
 pub mod Unpacking
 pub mod Distinct
 pub mod RoundTrip
-pub mod Counting
-pub mod FanTests
 pub mod Finishing
 pub mod Rechecking
 pub mod RoundBack

@@ -5,43 +5,24 @@ use mathlib.Core.List.{List, [], _∷_}
 use mathlib.Core.Path.{_≡_, refl, sym, _∙_, subst}
 use mathlib.Core.Logic.{_⊎_, inl, inr}
 use Rattle.rules.specs.declared.Triangle.{Triangle}
-use Rattle.gap.specs.Turn.{Rotated, at-p, at-q, at-r, In, here, there, Unused, Once, Links, stop, link, Turn, rest, turn, jump, Chain, Consecutive, endOf, ClosedOrOpen, FanAt}
-
--- a triangle may be seen from its next corner
-pub rot-next : {t : Triangle} {x y z : ℕ} → Rotated t x y z → Rotated t y z x
-rot-next (at-p a b c) = at-q b c a
-rot-next (at-q a b c) = at-r b c a
-rot-next (at-r a b c) = at-p b c a
-
-pub in-next : {x y z : ℕ} {ts : List Triangle} → In x y z ts → In y z x ts
-in-next (here r) = here (rot-next r)
-in-next (there i) = there (in-next i)
+use Rattle.fans.specs.Corner.{Rot, at-p, at-q, at-r, In, here, there, Once}
+use Rattle.fans.specs.Neighbours.{Linked, Pair, endOf, Round, Neighbours}
+use Rattle.fans.proofs.Corners.{in-next, rot-third}
+use Rattle.gap.specs.Turn.{Unused, Links, stop, link, Turn, rest, turn, jump}
 
 pub in-last : {x y z : ℕ} {ts : List Triangle} → In x y z ts → In z x y ts
 in-last i = in-next (in-next i)
 
 -- an edge that a triangle has
 pub free-rot : {t : Triangle} {x y z : ℕ} (ts : List Triangle)
-    → Unused (t .p) (t .q) ts × Unused (t .q) (t .r) ts × Unused (t .r) (t .p) ts → Rotated t x y z → Unused x y ts
+    → Unused (t .p) (t .q) ts × Unused (t .q) (t .r) ts × Unused (t .r) (t .p) ts → Rot t x y z → Unused x y ts
 free-rot ts f (at-p a b c) w i = f .0 w (rw (a, b) i)
 free-rot ts f (at-q a b c) w i = f .1 w (rw (a, b) i)
 free-rot ts f (at-r a b c) w i = f .2 w (rw (a, b) i)
 
-pub rot-func : {t : Triangle} {x y z w : ℕ} → (((t .p ≡ t .q) → ⊥) × ((t .q ≡ t .r) → ⊥) × ((t .r ≡ t .p) → ⊥))
-    → Rotated t x y z → Rotated t x y w → z ≡ w
-rot-func d (at-p a b c) (at-p a′ b′ c′) = sym c ∙ c′
-rot-func d (at-p a b c) (at-q a′ b′ c′) = absurd (d .0 (a ∙ sym a′))
-rot-func d (at-p a b c) (at-r a′ b′ c′) = absurd (d .2 (a′ ∙ sym a))
-rot-func d (at-q a b c) (at-p a′ b′ c′) = absurd (d .0 (a′ ∙ sym a))
-rot-func d (at-q a b c) (at-q a′ b′ c′) = sym c ∙ c′
-rot-func d (at-q a b c) (at-r a′ b′ c′) = absurd (d .1 (a ∙ sym a′))
-rot-func d (at-r a b c) (at-p a′ b′ c′) = absurd (d .2 (a ∙ sym a′))
-rot-func d (at-r a b c) (at-q a′ b′ c′) = absurd (d .1 (a′ ∙ sym a))
-rot-func d (at-r a b c) (at-r a′ b′ c′) = sym c ∙ c′
-
 -- the triangle at a directed edge is one
 pub once-func : {x y z w : ℕ} (ts : List Triangle) → Once ts → In x y z ts → In x y w ts → z ≡ w
-once-func (t ∷ ts) o (here a) (here b) = rot-func (o .1) a b
+once-func (t ∷ ts) o (here a) (here b) = rot-third a b
 once-func (t ∷ ts) o (here a) (there j) = absurd (free-rot ts (o .0) a _ j)
 once-func (t ∷ ts) o (there i) (here b) = absurd (free-rot ts (o .0) b _ i)
 once-func (t ∷ ts) o (there i) (there j) = once-func ts (o .2) i j
@@ -123,16 +104,16 @@ turn-cases {M} {c} {x} {y} {ts} (jump {w = w} f g l) = inr (go (turn-cases l))
     go (inr j) = record { from = x; to = j .to; before = stop; out = f; back = j .back; after = j .after }
 
 -- the end of a run
-run-end : (M : List Triangle) (c : ℕ) (m : ℕ) (ns : List ℕ) (x u : ℕ) → Chain c M (m ∷ ns) → Consecutive x u (m ∷ ns) → Unused c u M → u ≡ endOf m ns
+run-end : (M : List Triangle) (c : ℕ) (m : ℕ) (ns : List ℕ) (x u : ℕ) → Linked c M (m ∷ ns) → Pair x u (m ∷ ns) → Unused c u M → u ≡ endOf m ns
 run-end M c m (n ∷ []) x u r (inl e) f = sym (e .1)
 run-end M c m (n ∷ (k ∷ ns)) x u r (inl e) f = absurd (f k (subst (λ (w : ℕ). In c w k M) (e .1) (r .1 .0)))
 run-end M c m (n ∷ ns) x u r (inr p) f = run-end M c n ns x u (r .1) p f
 
-fan-end : (M : List Triangle) (c : ℕ) (ns : List ℕ) (x u y w : ℕ) → Chain c M ns → Consecutive x u ns → Unused c u M → Consecutive y w ns → Unused c w M → u ≡ w
+fan-end : (M : List Triangle) (c : ℕ) (ns : List ℕ) (x u y w : ℕ) → Linked c M ns → Pair x u ns → Unused c u M → Pair y w ns → Unused c w M → u ≡ w
 fan-end M c (m ∷ ns) x u y w r p f q g = run-end M c m ns x u r p f ∙ sym (run-end M c m ns y w r q g)
 
 -- one fan has at most one border edge into its vertex
-pub one-end : (M : List Triangle) (c x u y w : ℕ) → FanAt M c → In c x u M → Unused c u M → In c y w M → Unused c w M → u ≡ w
+pub one-end : (M : List Triangle) (c x u y w : ℕ) → Neighbours M c → In c x u M → Unused c u M → In c y w M → Unused c w M → u ≡ w
 one-end M c x u y w o i f j g = fan-end M c (o .fan) x u y w (o .run) (o .whole x u i) f (o .whole y w j) g
 
 -- the first link of a path
@@ -140,23 +121,23 @@ pub first-link : {c x y : ℕ} {ts : List Triangle} → Links c ts x y → (x �
 first-link stop = inl refl
 first-link (link {z = z} i l) = inr (z, i, l)
 
-run-to-end : (M : List Triangle) (c : ℕ) (m : ℕ) (ns : List ℕ) (x u : ℕ) → Chain c M (m ∷ ns) → Consecutive x u (m ∷ ns) → Links c M u (endOf m ns)
+run-to-end : (M : List Triangle) (c : ℕ) (m : ℕ) (ns : List ℕ) (x u : ℕ) → Linked c M (m ∷ ns) → Pair x u (m ∷ ns) → Links c M u (endOf m ns)
 run-to-end M c m (n ∷ ns) x u r (inl e) = subst (λ (w : ℕ). Links c M w (endOf n ns)) (e .1) (whole n ns (r .1))
   where
-    whole : (k : ℕ) (ks : List ℕ) → Chain c M (k ∷ ks) → Links c M k (endOf k ks)
+    whole : (k : ℕ) (ks : List ℕ) → Linked c M (k ∷ ks) → Links c M k (endOf k ks)
     whole k [] q = stop
     whole k (l ∷ ks) q = link (q .0) (whole l ks (q .1))
 run-to-end M c m (n ∷ ns) x u r (inr p) = run-to-end M c n ns x u (r .1) p
 
-run-from-start : (M : List Triangle) (c : ℕ) (m : ℕ) (ns : List ℕ) (x u : ℕ) → Chain c M (m ∷ ns) → Consecutive x u (m ∷ ns) → Links c M m x
+run-from-start : (M : List Triangle) (c : ℕ) (m : ℕ) (ns : List ℕ) (x u : ℕ) → Linked c M (m ∷ ns) → Pair x u (m ∷ ns) → Links c M m x
 run-from-start M c m (n ∷ ns) x u r (inl e) = subst (λ (w : ℕ). Links c M m w) (e .0) stop
 run-from-start M c m (n ∷ ns) x u r (inr p) = link (r .0) (run-from-start M c n ns x u (r .1) p)
 
 -- turning on from a triangle leads back to it, with a jump if the fan is open
-pub turn-round : (M : List Triangle) (c x u : ℕ) → FanAt M c → In c x u M → Turn M c M u x
+pub turn-round : (M : List Triangle) (c x u : ℕ) → Neighbours M c → In c x u M → Turn M c M u x
 turn-round M c x u o i = go (o .fan) (o .run) (o .round) (o .whole x u i)
   where
-    go : (ns : List ℕ) → Chain c M ns → ClosedOrOpen c M ns → Consecutive x u ns → Turn M c M u x
+    go : (ns : List ℕ) → Linked c M ns → Round c M ns → Pair x u ns → Turn M c M u x
     go (m ∷ ns) r (inl e) p =
         turn-join (links-turn (run-to-end M c m ns x u r p)) (subst (λ (w : ℕ). Turn M c M w x) e (links-turn (run-from-start M c m ns x u r p)))
     go (m ∷ ns) r (inr e) p =

@@ -13,7 +13,8 @@ use Rattle.rules.specs.Triangle.{Edge}
 use Rattle.rules.specs.Ring.{Ring, places}
 use Rattle.rules.specs.Table.{Side, Effect, not-allowed, builds, marks, effect, edgeRule}
 use Rattle.rules.specs.Machine.{Machine, afterBuild, afterMark, Step, refused, begun, built, declared, finished, test, within, done, operation}
-use Rattle.gap.proofs.Bools.{and-true, and-both}
+use Rattle.fans.proofs.Counting.{and-both}
+use Rattle.gap.proofs.Bools.{and-true}
 
 -- the loops after an operation are within the counts stated
 pub record Room (m : Machine) (ls : List Ring) : Type 0 where

@@ -8,11 +8,14 @@ use lib.ListN.{length}
 use Rattle.rules.specs.declared.Triangle.{Triangle}
 use Rattle.rules.specs.Ring.{Node, Ring, vertex, loopAt}
 use Rattle.rules.specs.Choice.{operationFor, choosePlace}
-use Rattle.gap.specs.Turn.{Rotated, at-p, In, here, there, Unused, Turn, rest, turn, jump, FanAt}
+use Rattle.fans.specs.Corner.{Rot, at-p, In, here, there}
+use Rattle.fans.specs.Neighbours.{Neighbours}
+use Rattle.gap.specs.Turn.{Unused, Turn, rest, turn, jump}
 use Rattle.gap.specs.Corners.{Everywhere, AllMarks, Filled}
 use Rattle.gap.specs.Spots.{OpenAt}
 use Rattle.gap.specs.Trace.{triangleAt}
-use Rattle.gap.proofs.Links.{free-rot, rot-next}
+use Rattle.fans.proofs.Corners.{rot-next}
+use Rattle.gap.proofs.Links.{free-rot}
 use Rattle.gap.proofs.Places.{spotted-holds, spotted-site}
 use Rattle.gap.proofs.Exists.{Used, PlaceOf, exists}
 use Rattle.gap.proofs.Choice.{chosen}
@@ -34,8 +37,8 @@ no-step f g (turn i l) = absurd (f _ i)
 no-step f g (jump h k l) = absurd (g h)
 
 module _ (M R B : List Triangle) (e f : Node) (ps : List Node) (ws : List Ring) (c : ℕ)
-    (pk : Packs M (triangleAt e f c ∷ R) B ((e ∷ (f ∷ ps)) ∷ ws)) (fan : FanAt M c) where
-  tri : Rotated (triangleAt e f c) (vertex f) (vertex e) c
+    (pk : Packs M (triangleAt e f c ∷ R) B ((e ∷ (f ∷ ps)) ∷ ws)) (fan : Neighbours M c) where
+  tri : Rot (triangleAt e f c) (vertex f) (vertex e) c
   tri = at-p refl refl refl
 
   st : State M (triangleAt e f c ∷ R) B ((e ∷ (f ∷ ps)) ∷ ws)

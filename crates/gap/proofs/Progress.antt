@@ -15,7 +15,9 @@ use Rattle.rules.specs.declared.Operation.the-variants.{New, Forward, Backward,
 use Rattle.rules.specs.Ring.{Node, opened, marked, Ring, vertex, isOpen, firstOpen}
 use Rattle.rules.specs.Table.{inOrder, shorterFirst}
 use Rattle.rules.specs.Choice.{choosePlace}
-use Rattle.gap.specs.Turn.{at-p, at-q, at-r, In, here, there, Unused, Once, FanAt}
+use Rattle.fans.specs.Corner.{at-p, at-q, at-r, In, here, there, Once}
+use Rattle.fans.specs.Neighbours.{Neighbours}
+use Rattle.gap.specs.Turn.{Unused}
 use Rattle.gap.specs.Surgery.{Surgery, on-new, on-forward, on-backward, on-close, on-split, on-union}
 use Rattle.gap.specs.Trace.{afterBorder, withRing}
 use Rattle.gap.proofs.Turning.{others, look}
@@ -113,7 +115,7 @@ pub data Goes (M R B : List Triangle) (ls rims : List Ring) : Type 0 where
 
 -- one triangle across the current edge, or border
 pub live-step : (M R B : List Triangle) (e f : Node) (ps : List Node) (ws rims : List Ring) → Keeps M R B ((e ∷ (f ∷ ps)) ∷ ws) rims
-    → AllGood ((e ∷ (f ∷ ps)) ∷ ws) → ((c : ℕ) → FanAt M c) → Goes M R B ((e ∷ (f ∷ ps)) ∷ ws) rims
+    → AllGood ((e ∷ (f ∷ ps)) ∷ ws) → ((c : ℕ) → Neighbours M c) → Goes M R B ((e ∷ (f ∷ ps)) ∷ ws) rims
 live-step M R B e f ps ws rims k g fan = go (look (vertex f) (vertex e) R)
   where
     built : (c : ℕ) (i : In (vertex f) (vertex e) c R) → ((m : ℕ) × (n : ℕ) × In c m n B) ⊎ ((m n : ℕ) → In c m n B → ⊥) → Goes M R B ((e ∷ (f ∷ ps)) ∷ ws) rims
@@ -131,7 +133,7 @@ live-step M R B e f ps ws rims k g fan = go (look (vertex f) (vertex e) R)
     go (inr n) = by-border e f ps ws refl n (keeps-border M R B e f ps ws rims k n) (good-border e f ps ws g (afterBorder e f ps) refl)
 
 -- packing is never stuck: it is complete, or goes on
-pub progress : (M R B : List Triangle) (ls rims : List Ring) → Keeps M R B ls rims → AllGood ls → ((c : ℕ) → FanAt M c)
+pub progress : (M R B : List Triangle) (ls rims : List Ring) → Keeps M R B ls rims → AllGood ls → ((c : ℕ) → Neighbours M c)
     → ((ls ≡ []) × (R ≡ [])) ⊎ Goes M R B ls rims
 progress M [] B [] rims k g fan = inl (refl, refl)
 progress M (t ∷ R) B [] rims k g fan = inr (by-start t R refl refl (keeps-start M R B rims (t .p) (t .q) (t .r) k fan) ((refl, omega arith), tt))

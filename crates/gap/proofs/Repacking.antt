@@ -18,19 +18,15 @@ use Rattle.rules.specs.Machine.{Machine, empty}
 use Rattle.rules.specs.Choice.{Packing}
 use Rattle.rules.specs.Pack.{chosen, Most, nothingBuilt, chosenFor}
 use Rattle.rules.specs.Unpack.{numbersOf}
-use Rattle.gap.specs.Turn.{In, here, there}
+use Rattle.fans.specs.Corner.{In, here, there}
 use Rattle.gap.specs.Works.{Works}
+use Rattle.gap.specs.Building.{onto}
 use Rattle.gap.proofs.Runs.{Run, r-done, r-start, r-build, r-border, Facts, facts, Choices, canonical-all}
 use Rattle.gap.proofs.Fans.{fans-of}
 use Rattle.gap.proofs.Whole.{fits-begin}
 use Rattle.gap.proofs.Tracking.{peak, Within, numbering, upTo}
 use Rattle.gap.proofs.Following.{Followed, follow, run-length}
 use Rattle.gap.proofs.Working.{Worked, Ready, works, works-ready}
-
--- triangles put before others, one after the other
-abbrev pub onto : List Triangle → List Triangle → List Triangle
-onto [] B = B
-onto (t ∷ R) B = onto R (t ∷ B)
 
 pub in-onto : (R B : List Triangle) (x y z : ℕ) → In x y z (onto R B) → In x y z R ⊎ In x y z B
 in-onto [] B x y z i = inr i
@@ -68,7 +64,7 @@ numbers-onto [] B = sym (append-nil (numbersOf B))
 numbers-onto (t ∷ R) B = numbers-onto R (t ∷ B) ∙ append-assoc (numbersOf B) (t .p ∷ (t .q ∷ (t .r ∷ []))) (numbersIn R)
 
 -- the list that an unpacking writes is in the order of building
-built-order : (M R : List Triangle) → M ≡ onto R [] → trianglesOf (numbersOf M) ≡ R
+pub built-order : (M R : List Triangle) → M ≡ onto R [] → trianglesOf (numbersOf M) ≡ R
 unfolding numbersOf
 built-order M R h = ap (λ (l : List Triangle). trianglesOf (numbersOf l)) h ∙ (ap trianglesOf (numbers-onto R []) ∙ triangles-in R)
 

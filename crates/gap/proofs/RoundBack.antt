@@ -22,11 +22,10 @@ use Rattle.rules.specs.Machine.{Machine, empty, Step, refused, begun, built, de
 use Rattle.rules.specs.Choice.{has}
 use Rattle.rules.specs.Pack.{most, nothingBuilt, chosenFor}
 use Rattle.rules.specs.Unpack.{numbersOf}
-use Rattle.gap.specs.Turn.{FanAt}
+use Rattle.fans.specs.Neighbours.{Neighbours}
 use Rattle.gap.specs.Works.{Works}
 use Rattle.gap.proofs.Bools.{and-true}
-use Rattle.gap.proofs.Fans.{fans-of}
-use Rattle.gap.proofs.FanTests.{fan-same}
+use Rattle.gap.proofs.Fans.{fans-of, fan-same}
 use Rattle.gap.proofs.Numbering.{Met, has-left, has-last}
 use Rattle.gap.proofs.Tracking.{upTo}
 use Rattle.gap.proofs.Whole.{Complete, Ends, packs-whole, complete-only}
@@ -102,7 +101,7 @@ module _ (st : Counts) (os : List Operation) (m : Machine) (w : Works (empty st)
   abbrev order : List Triangle
   order = worked st os m w (done .no-loop) .order
 
-  fan : (c : ℕ) → FanAt order c
+  fan : (c : ℕ) → Neighbours order c
   fan c =
       fan-same (m .triangles) order c (in-order st os m w (done .no-loop)) (works-facts st os m w (done .no-loop) .subR)
       (fans-of (m .used) (m .triangles) (works-facts st os m w (done .no-loop) .onceM) (done .fans) (works-below st os m w (done .no-loop)) c)

@@ -19,7 +19,8 @@ use Rattle.rules.specs.Fan.{oneFanEach}
 use Rattle.rules.specs.Machine.{empty, finished, totals, finish}
 use Rattle.rules.specs.Choice.{Packing}
 use Rattle.rules.specs.Pack.{chosen, Most, nothingBuilt, chosenFor, indexOf}
-use Rattle.gap.specs.Turn.{Once, FanAt}
+use Rattle.fans.specs.Corner.{Once}
+use Rattle.fans.specs.Neighbours.{Neighbours}
 use Rattle.gap.proofs.Runs.{facts}
 use Rattle.gap.proofs.Numbering.{Met, index-tells}
 use Rattle.gap.proofs.Distinct.{all-once}
@@ -27,7 +28,7 @@ use Rattle.gap.proofs.Tracking.{peak-within, numbering}
 use Rattle.gap.proofs.Whole.{Complete, Ends, complete-all, complete-only}
 use Rattle.gap.proofs.Renaming.{triangles, length-triangles}
 use Rattle.gap.proofs.Unpacking.{Reached, reach, run-count}
-use Rattle.gap.proofs.FanTests.{fan-same}
+use Rattle.gap.proofs.Fans.{fan-same}
 use Rattle.gap.proofs.Finishing.{fans-hold, finishes}
 use Rattle.gap.proofs.Accepted.{Packable, accepted-packs}
 
@@ -76,7 +77,7 @@ module _ (h : Most) (v : ℕ) (ts : List Triangle) (ok : Packable v ts) (os : Li
   once-built : Once (c .built)
   once-built = facts (c .runs .run) (λ x y. inl refl) tt .onceM
 
-  fan-built : (x : ℕ) → FanAt (c .built) x
+  fan-built : (x : ℕ) → Neighbours (c .built) x
   fan-built x = fan-same ts (c .built) x (complete-all h ts os s c) (complete-only h ts os s c) (ok .fans x)
 
   -- and the machine's finish gives its numbers

@@ -5,19 +5,32 @@ use mathlib.Core.Bool.{Bool, true, false, _&&_, not, false≢true}
 use mathlib.Core.List.{List}
 use mathlib.Core.Path.{_≡_, refl, sym, ap}
 use lib.Dec.{eqb}
-use borrow.Author.Tests.{eqb-false, ne-eqb, not-true}
+use borrow.Author.Tests.{eqb-true, eqb-false, eq-eqb, ne-eqb, not-true}
 use Rattle.rules.specs.declared.Triangle.{Triangle}
+use Rattle.rules.specs.Triangle.{edgesOf}
+use Rattle.rules.specs.Count.{uses, unjoined}
 use Rattle.rules.specs.Table.{glued, fresh, sideRule, edgeRule}
+use Rattle.fans.proofs.Corners.{free-unused}
+use Rattle.fans.proofs.Counting.{and-both}
 use Rattle.gap.specs.Turn.{Unused}
 use Rattle.gap.specs.Tally.{sideOf}
-use Rattle.gap.proofs.Bools.{and-true, and-both}
-use Rattle.gap.proofs.Uses.{unjoined-unused, unused-unjoined}
+use Rattle.gap.proofs.Bools.{and-true}
 
 -- the edge rule, for the triangle b a c of an operation
 pub record Rules (t : Triangle) (gA gB : Bool) (B : List Triangle) : Type 0 where
   pub apart : ((t .p ≡ t .q) → ⊥) × ((t .q ≡ t .r) → ⊥) × ((t .r ≡ t .p) → ⊥)
   pub ruleA : gA ≡ false → Unused (t .q) (t .r) B × Unused (t .r) (t .q) B
   pub ruleB : gB ≡ false → Unused (t .r) (t .p) B × Unused (t .p) (t .r) B
+
+-- neither an edge nor its opposite is used
+unjoined-unused : (x y : ℕ) (ts : List Triangle) → unjoined x y (edgesOf ts) ≡ true → Unused x y ts × Unused y x ts
+unjoined-unused x y ts h =
+    let r = and-true (eqb (uses x y ts) 0) (eqb (uses y x ts) 0) h in
+    (free-unused x y ts .1 (eqb-true (uses x y ts) 0 (r .0)), free-unused y x ts .1 (eqb-true (uses y x ts) 0 (r .1)))
+
+unused-unjoined : (x y : ℕ) (ts : List Triangle) → Unused x y ts → Unused y x ts → unjoined x y (edgesOf ts) ≡ true
+unused-unjoined x y ts h k =
+    and-both (eqb (uses x y ts) 0) (eqb (uses y x ts) 0) (eq-eqb (uses x y ts) 0 (free-unused x y ts .0 h)) (eq-eqb (uses y x ts) 0 (free-unused y x ts .0 k))
 
 side-free : (g : Bool) (x y : ℕ) (B : List Triangle) → sideRule (sideOf g) x y B ≡ true → g ≡ false → Unused x y B × Unused y x B
 side-free true x y B h e = absurd (false≢true (sym e))

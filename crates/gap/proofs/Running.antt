@@ -83,7 +83,7 @@ full m h =
     let r = and-true (eqb (length (m .triangles)) (m .stated .triangles)) (eqb (length (m .loops)) 0) h in
     (eqb-true (length (m .triangles)) (m .stated .triangles) (r .0), eqb-true (length (m .loops)) 0 (r .1))
 
-no-loops : (ls : List Ring) → length ls ≡ 0 → ls ≡ []
+pub no-loops : (ls : List Ring) → length ls ≡ 0 → ls ≡ []
 no-loops [] h = refl
 no-loops (l ∷ ls) h = absurd (omega arith)
 

@@ -13,14 +13,17 @@ use Rattle.rules.specs.declared.Across.the-variants.{Nothing}
 use Rattle.rules.specs.Across.{across}
 use Rattle.rules.specs.Ring.{Node, opened, Ring, vertex, isOpen}
 use Rattle.rules.specs.Choice.{choosePlace}
-use Rattle.gap.specs.Turn.{at-p, at-q, at-r, In, here, there, Unused, Once, FanAt}
+use Rattle.fans.specs.Corner.{at-p, at-q, at-r, In, here, there, Once}
+use Rattle.fans.specs.Neighbours.{Neighbours}
+use Rattle.fans.proofs.Counting.{hit-yes}
+use Rattle.gap.specs.Turn.{Unused}
 use Rattle.gap.specs.Corners.{AllMarks}
 use Rattle.gap.specs.Surgery.{Surgery}
 use Rattle.gap.specs.Trace.{triangleAt, afterBorder, withRing, Trace, t-done, t-start, t-build, t-border}
 use Rattle.gap.specs.Tally.{total, gluesA, gluesB}
 use Rattle.gap.proofs.Links.{free-rot}
 use Rattle.gap.proofs.Turning.{Finds}
-use Rattle.gap.proofs.Legal.{Lawful, hit-one, legal-step, once-step}
+use Rattle.gap.proofs.Legal.{Lawful, legal-step, once-step}
 use Rattle.gap.proofs.Standing.{legal-unique, legal-used}
 use Rattle.gap.proofs.Marking.{marks-step}
 use Rattle.gap.proofs.Traces.{marks-after}
@@ -118,7 +121,7 @@ border-free : {M B : List Triangle} (rims ws : List Ring) {os : List Operation} 
     → Run M B (withRim (afterBorder e f ps) (rimOf e f ps) rims) (withRing (afterBorder e f ps) ws) os R → Sound B rims ((e ∷ (f ∷ ps)) ∷ ws) → Unused (vertex f) (vertex e) M
 border-free {M} {B} rims ws e f ps v run l =
     let m = mark-border (vertex e) (vertex f) e f ps ws rims v (afterBorder e f ps) refl in
-    let o = hit-one (vertex e) (vertex f) in
+    let o = hit-yes (vertex e) (vertex f) in
     stays run (sound-border B rims ws e f ps l) (vertex e) (vertex f) (omega arith)
 
 -- the run as a trace
@@ -155,7 +158,7 @@ state-of M R B ls rims k l = record {
 
 -- mesh has the triangles of M
 module _ (M mesh : List Triangle) (once : Once mesh) (all : (x y z : ℕ) → In x y z M → In x y z mesh) (only : (x y z : ℕ) → In x y z mesh → In x y z M)
-    (fan : (c : ℕ) → FanAt M c) where
+    (fan : (c : ℕ) → Neighbours M c) where
   pub canonical-run : {B : List Triangle} {rims ls : List Ring} {os : List Operation} {R : List Triangle} (run : Run M B rims ls os R)
       → Sound B rims ls → Once B → AllMarks M ls → Choices mesh run
   canonical-run r-done l o m = tt

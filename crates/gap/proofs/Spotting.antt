@@ -9,8 +9,9 @@ use lib.Dec.{eqb}
 use borrow.Author.Tests.{eqb-true, eq-eqb}
 use Rattle.rules.specs.Ring.{Node, Ring, vertex, isOpen, startOr}
 use Rattle.rules.specs.Choice.{Position, absent, at, Spot, nowhere, spot, edgeIn, spotOf}
+use Rattle.fans.proofs.Counting.{and-both}
 use Rattle.gap.specs.Spots.{EdgeIn, OpenAt, Unique}
-use Rattle.gap.proofs.Bools.{and-true, and-both}
+use Rattle.gap.proofs.Bools.{and-true}
 
 -- what the search in one ring tells
 Told : ℕ → ℕ → List Node → ℕ → ℕ → Position → Type 0

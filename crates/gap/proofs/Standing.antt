@@ -8,11 +8,12 @@ use mathlib.Core.Logic.{inl, inr}
 use Rattle.rules.specs.declared.Triangle.{Triangle}
 use Rattle.rules.specs.Count.{hit}
 use Rattle.rules.specs.Ring.{Node, Ring, vertex, startOr}
-use Rattle.gap.specs.Turn.{In}
+use Rattle.fans.specs.Corner.{In}
+use Rattle.fans.proofs.Counting.{hit-yes}
 use Rattle.gap.specs.Corners.{endOr, Along, Around, Everywhere}
 use Rattle.gap.specs.Spots.{EdgeIn, OpenAt, Unique}
 use Rattle.gap.specs.Tally.{tally, ringTally, total}
-use Rattle.gap.proofs.Legal.{hit-one, Lawful, hit-here}
+use Rattle.gap.proofs.Legal.{Lawful, hit-here}
 use Rattle.gap.proofs.Exists.{Used}
 
 edge-counts : (x y first : ℕ) (ps : List Node) (i : ℕ) → EdgeIn first ps i x y → 1 ≤ tally x y ps first
@@ -55,8 +56,8 @@ used-seg : (B : List Triangle) (x : ℕ) (ps : List Node) (y : ℕ)
     → ((u v : ℕ) → 1 ≤ hit u v x (startOr y ps) + tally u v ps y → (z : ℕ) × In u v z B) → Along (Used B) x ps y
 used-seg B x [] y h = tt
 used-seg B x (p ∷ ps) y h =
-    let a = hit-one x (vertex p) in
-    let b = hit-one (vertex p) (startOr y ps) in
+    let a = hit-yes x (vertex p) in
+    let b = hit-yes (vertex p) (startOr y ps) in
     ((h x (vertex p) (omega arith), h (vertex p) (startOr y ps) (omega arith)), used-seg B (vertex p) ps y (λ u v k. h u v (omega arith)))
 
 pub last-tally : (u v : ℕ) (p : Node) (ps : List Node) (y : ℕ) → hit u v (endOr (vertex p) ps) y ≤ tally u v (p ∷ ps) y

@@ -9,15 +9,19 @@ use mathlib.Core.Logic.{_⊎_, inl, inr}
 use Rattle.rules.specs.declared.Triangle.{Triangle}
 use Rattle.rules.specs.Count.{hit}
 use Rattle.rules.specs.Ring.{opened, Ring}
-use Rattle.gap.specs.Turn.{Rotated, at-p, at-q, at-r, In, here, there, Unused, Links, Turn, FanAt}
+use Rattle.fans.specs.Corner.{Rot, at-p, at-q, at-r, In, here, there}
+use Rattle.fans.specs.Neighbours.{Neighbours}
+use Rattle.gap.specs.Turn.{Unused, Links, Turn}
 use Rattle.gap.specs.Corners.{Filled}
 use Rattle.gap.specs.Tally.{total}
-use Rattle.gap.proofs.Links.{in-last, free-rot, rot-next, Last, last-link, first-link, turn-round, turn-map}
+use Rattle.fans.proofs.Corners.{rot-next}
+use Rattle.fans.proofs.Counting.{hit-yes}
+use Rattle.gap.proofs.Links.{in-last, free-rot, Last, last-link, first-link, turn-round, turn-map}
 use Rattle.gap.proofs.Cuts.{first-built, last-built, fan-order, turn-cut}
-use Rattle.gap.proofs.Legal.{Lawful, counted, hit-one, hit-zero}
+use Rattle.gap.proofs.Legal.{Lawful, counted, hit-zero}
 use Rattle.gap.proofs.Steps.{Keeps}
 
-module _ (M R B : List Triangle) (rims : List Ring) (k : Keeps M R B [] rims) (fan : (c : ℕ) → FanAt M c) where
+module _ (M R B : List Triangle) (rims : List Ring) (k : Keeps M R B [] rims) (fan : (c : ℕ) → Neighbours M c) where
   -- with no live loop, a vertex with a built triangle has no triangle left
   pub all-built : (c b a m n : ℕ) → In c b a R → In c m n B → ⊥
   all-built c b a m n i j = go (fan-order M c b a m n (fan c) (k .subR c b a i) (k .subB c m n j))
@@ -46,8 +50,8 @@ module _ (M R B : List Triangle) (rims : List Ring) (k : Keeps M R B [] rims) (f
       go (inr (inr e)) = k .apart c b a n i (subst (λ (v : ℕ). In c v n B) (sym e) j)
 
 module _ (M R B : List Triangle) (rims : List Ring) (p q r : ℕ)
-    (k : Keeps M (record { p = p; q = q; r = r } ∷ R) B [] rims) (fan : (c : ℕ) → FanAt M c) where
-  tri : Rotated (record { p = p; q = q; r = r }) p q r
+    (k : Keeps M (record { p = p; q = q; r = r } ∷ R) B [] rims) (fan : (c : ℕ) → Neighbours M c) where
+  tri : Rot (record { p = p; q = q; r = r }) p q r
   tri = at-p refl refl refl
 
   -- the three vertices have no built triangle
@@ -61,13 +65,13 @@ module _ (M R B : List Triangle) (rims : List Ring) (p q r : ℕ)
   none-r m n i = all-built M (record { p = p; q = q; r = r } ∷ R) B rims k fan r p q m n (here (rot-next (rot-next tri))) i
 
   -- a vertex of t has no built triangle
-  none : (x y z : ℕ) → Rotated (record { p = p; q = q; r = r }) x y z → (m n : ℕ) → In x m n B → ⊥
+  none : (x y z : ℕ) → Rot (record { p = p; q = q; r = r }) x y z → (m n : ℕ) → In x m n B → ⊥
   none x y z (at-p a b c) m n i = none-p m n (subst (λ (v : ℕ). In v m n B) (sym a) i)
   none x y z (at-q a b c) m n i = none-q m n (subst (λ (v : ℕ). In v m n B) (sym a) i)
   none x y z (at-r a b c) m n i = none-r m n (subst (λ (v : ℕ). In v m n B) (sym a) i)
 
   -- the gap of a corner: t leads from b to a about c
-  gap : (a b c : ℕ) → Rotated (record { p = p; q = q; r = r }) b a c → Filled M R a c b
+  gap : (a b c : ℕ) → Rot (record { p = p; q = q; r = r }) b a c → Filled M R a c b
   gap a b c s = go (turn-cut (record { p = p; q = q; r = r }) R a b c (k .once .1) s (turn-map left (turn-round M c b a (fan c) (k .subR c b a (here (rot-next (rot-next s)))))))
     where
       left : (v w : ℕ) → In c v w M → In c v w (record { p = p; q = q; r = r } ∷ R)
@@ -89,14 +93,14 @@ module _ (M R B : List Triangle) (rims : List Ring) (p q r : ℕ)
   ring = (opened p ∷ (opened q ∷ (opened r ∷ []))) ∷ []
 
   -- the opposite of an edge of t is not used
-  free-back : (x y z : ℕ) → Rotated (record { p = p; q = q; r = r }) x y z → Unused y x (record { p = p; q = q; r = r } ∷ B)
+  free-back : (x y z : ℕ) → Rot (record { p = p; q = q; r = r }) x y z → Unused y x (record { p = p; q = q; r = r } ∷ B)
   free-back x y z s w (there i) = none y z x (rot-next s) x w i
   free-back x y z s w (here u) = twice s u
     where
       d : ((p ≡ q) → ⊥) × ((q ≡ r) → ⊥) × ((r ≡ p) → ⊥)
       d = k .once .1
 
-      twice : Rotated (record { p = p; q = q; r = r }) x y z → Rotated (record { p = p; q = q; r = r }) y x w → ⊥
+      twice : Rot (record { p = p; q = q; r = r }) x y z → Rot (record { p = p; q = q; r = r }) y x w → ⊥
       twice (at-p a b c) (at-p a′ b′ c′) = d .0 (a′ ∙ sym b)
       twice (at-p a b c) (at-q a′ b′ c′) = d .2 (b′ ∙ sym a)
       twice (at-p a b c) (at-r a′ b′ c′) = d .1 (b ∙ sym a′)
@@ -116,7 +120,7 @@ module _ (M R B : List Triangle) (rims : List Ring) (p q r : ℕ)
       d : ((p ≡ q) → ⊥) × ((q ≡ r) → ⊥) × ((r ≡ p) → ⊥)
       d = k .once .1
 
-      yes : {z : ℕ} → Rotated (record { p = p; q = q; r = r }) x y z → total x y ((opened p ∷ (opened q ∷ (opened r ∷ []))) ∷ []) ≡ 1
+      yes : {z : ℕ} → Rot (record { p = p; q = q; r = r }) x y z → total x y ((opened p ∷ (opened q ∷ (opened r ∷ []))) ∷ []) ≡ 1
           → Lawful (record { p = p; q = q; r = r } ∷ B) (total x y ((opened p ∷ (opened q ∷ (opened r ∷ []))) ∷ []) + total x y rims) x y
       yes {z} s h =
           let e = no-rim x y (none x y z s) (k .legal x y) in
@@ -186,7 +190,7 @@ module _ (M R B : List Triangle) (rims : List Ring) (p q r : ℕ)
       parts x y z (inr i) = inr (there i)
 
       stands : (x y z w : ℕ) → In x y z (record { p = p; q = q; r = r } ∷ B) → In y x w R → 1 ≤ total x y ((opened p ∷ (opened q ∷ (opened r ∷ []))) ∷ [])
-      stands x y z w (here (at-p a b c)) j = let i = ap₂ (hit x y) a b ∙ hit-one x y in omega arith
-      stands x y z w (here (at-q a b c)) j = let i = ap₂ (hit x y) a b ∙ hit-one x y in omega arith
-      stands x y z w (here (at-r a b c)) j = let i = ap₂ (hit x y) a b ∙ hit-one x y in omega arith
+      stands x y z w (here (at-p a b c)) j = let i = ap₂ (hit x y) a b ∙ hit-yes x y in omega arith
+      stands x y z w (here (at-q a b c)) j = let i = ap₂ (hit x y) a b ∙ hit-yes x y in omega arith
+      stands x y z w (here (at-r a b c)) j = let i = ap₂ (hit x y) a b ∙ hit-yes x y in omega arith
       stands x y z w (there i) j = let h = k .waits x y z w i (there j) in absurd (omega arith)

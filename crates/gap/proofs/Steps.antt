@@ -13,13 +13,16 @@ use Rattle.rules.specs.declared.Operation.the-variants.{New, Forward, Backward,
 use Rattle.rules.specs.Count.{hit}
 use Rattle.rules.specs.Ring.{Node, opened, Ring, vertex, isOpen, startOr}
 use Rattle.rules.specs.Choice.{operationFor, choosePlace}
-use Rattle.gap.specs.Turn.{Rotated, at-p, at-q, at-r, In, here, there, Unused, Once, FanAt}
+use Rattle.fans.specs.Corner.{Rot, at-p, at-q, at-r, In, here, there, Once}
+use Rattle.fans.specs.Neighbours.{Neighbours}
+use Rattle.gap.specs.Turn.{Unused}
 use Rattle.gap.specs.Corners.{Everywhere, Marks, AllMarks, Filled}
 use Rattle.gap.specs.Surgery.{Surgery, on-new}
 use Rattle.gap.specs.Spots.{EdgeIn, OpenAt}
 use Rattle.gap.specs.Trace.{triangleAt}
 use Rattle.gap.specs.Tally.{tally, total, gluesA, gluesB, when, unless}
-use Rattle.gap.proofs.Links.{in-next, free-rot, rot-next}
+use Rattle.fans.proofs.Corners.{in-next, rot-next}
+use Rattle.gap.proofs.Links.{free-rot}
 use Rattle.gap.proofs.Marking.{marks-step}
 use Rattle.gap.proofs.Tallies.{total-step}
 use Rattle.gap.proofs.Legal.{Lawful, counted, hit-zero, legal-step, at-ac, at-cb, glued-ca, glued-bc}
@@ -89,7 +92,7 @@ module _ (M R B : List Triangle) (e f : Node) (ps : List Node) (ws ls rims : Lis
   d : ((vertex f ≡ vertex e) → ⊥) × ((vertex e ≡ c) → ⊥) × ((c ≡ vertex f) → ⊥)
   d = k .once .1
 
-  tri : Rotated (triangleAt e f c) (vertex f) (vertex e) c
+  tri : Rot (triangleAt e f c) (vertex f) (vertex e) c
   tri = at-p refl refl refl
 
   eqn : (x y : ℕ) → (total x y ls + total x y rims) + hit x y (vertex e) (vertex f) + when (gluesB o) (hit x y (vertex f) c) + when (gluesA o) (hit x y c (vertex e))
@@ -202,7 +205,7 @@ pub record Packed (M R B : List Triangle) (e f : Node) (ps : List Node) (ws rims
   pub keeps : Keeps M R (triangleAt e f c ∷ B) ls rims
 
 module _ (M R B : List Triangle) (e f : Node) (ps : List Node) (ws rims : List Ring) (c : ℕ)
-    (k : Keeps M (triangleAt e f c ∷ R) B ((e ∷ (f ∷ ps)) ∷ ws) rims) (fan : FanAt M c) where
+    (k : Keeps M (triangleAt e f c ∷ R) B ((e ∷ (f ∷ ps)) ∷ ws) rims) (fan : Neighbours M c) where
   pk : Packs M (triangleAt e f c ∷ R) B ((e ∷ (f ∷ ps)) ∷ ws)
   pk = packs M (triangleAt e f c ∷ R) B ((e ∷ (f ∷ ps)) ∷ ws) rims k
 

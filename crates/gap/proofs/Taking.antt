@@ -6,8 +6,10 @@ use mathlib.Core.Path.{_≡_, sym, _∙_, subst}
 use mathlib.Core.Logic.{_⊎_, inl, inr}
 use Rattle.rules.specs.declared.Triangle.{Triangle}
 use Rattle.rules.specs.Ring.{Ring}
-use Rattle.gap.specs.Turn.{Rotated, at-p, at-q, at-r, In, here, there, Unused, Once}
-use Rattle.gap.proofs.Links.{in-next, in-last, free-rot, rot-next, turn-map}
+use Rattle.fans.specs.Corner.{Rot, at-p, at-q, at-r, In, here, there, Once}
+use Rattle.gap.specs.Turn.{Unused}
+use Rattle.fans.proofs.Corners.{in-next, rot-next}
+use Rattle.gap.proofs.Links.{in-last, free-rot, turn-map}
 use Rattle.gap.proofs.Rings.{rings-map}
 use Rattle.gap.proofs.Turning.{others, others-sub, others-once}
 use Rattle.gap.proofs.Steps.{Keeps}
@@ -41,7 +43,7 @@ corners (t ∷ ts) (here (at-r a b c)) o = (λ q. o .1 .2 (a ∙ (q ∙ sym b)),
 corners (t ∷ ts) (there i) o = corners ts i (o .2)
 
 -- the same triangle seen from another corner
-same : {t : Triangle} {x y z u v w : ℕ} → Rotated t x y z → Rotated t u v w → Rotated (tri x y z) u v w
+same : {t : Triangle} {x y z u v w : ℕ} → Rot t x y z → Rot t u v w → Rot (tri x y z) u v w
 same (at-p a b c) (at-p a′ b′ c′) = at-p (sym a ∙ a′) (sym b ∙ b′) (sym c ∙ c′)
 same (at-p a b c) (at-q a′ b′ c′) = at-q (sym b ∙ a′) (sym c ∙ b′) (sym a ∙ c′)
 same (at-p a b c) (at-r a′ b′ c′) = at-r (sym c ∙ a′) (sym a ∙ b′) (sym b ∙ c′)

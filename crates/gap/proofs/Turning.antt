@@ -14,14 +14,17 @@ use Rattle.rules.specs.declared.Across.{Across}
 use Rattle.rules.specs.declared.Across.the-variants.{Found, Nothing}
 use Rattle.rules.specs.Across.{inTriangle, across}
 use Rattle.rules.specs.Choice.{turnIn, turnOut}
-use Rattle.gap.specs.Turn.{Rotated, at-p, at-q, at-r, In, here, there, Unused, Once, Links, stop, link}
-use Rattle.gap.proofs.Links.{in-last, once-func, free-rot, rot-next}
-use Rattle.gap.proofs.Bools.{and-true, and-both}
+use Rattle.fans.specs.Corner.{Rot, at-p, at-q, at-r, In, here, there, Once}
+use Rattle.gap.specs.Turn.{Unused, Links, stop, link}
+use Rattle.fans.proofs.Corners.{rot-next}
+use Rattle.fans.proofs.Counting.{and-both}
+use Rattle.gap.proofs.Links.{in-last, once-func, free-rot}
+use Rattle.gap.proofs.Bools.{and-true}
 
 -- what a look at one triangle tells of its having x→y
 unfoldable pub Told : ℕ → ℕ → Triangle → Across → Type 0
-Told x y t (Found n k z) = Rotated t x y z
-Told x y t Nothing = (z : ℕ) → Rotated t x y z → ⊥
+Told x y t (Found n k z) = Rot t x y z
+Told x y t Nothing = (z : ℕ) → Rot t x y z → ⊥
 
 told-by : (x y : ℕ) (t : Triangle) (u v w : Bool) → (eqb (t .p) x && eqb (t .q) y) ≡ u → (eqb (t .q) x && eqb (t .r) y) ≡ v
     → (eqb (t .r) x && eqb (t .p) y) ≡ w
@@ -32,7 +35,7 @@ told-by x y t false true w f g h = let r = and-true _ _ g in at-q (eqb-true _ _ 
 told-by x y t false false true f g h = let r = and-true _ _ h in at-r (eqb-true _ _ (r .0)) (eqb-true _ _ (r .1)) refl
 told-by x y t false false false f g h = no
   where
-    no : (z : ℕ) → Rotated t x y z → ⊥
+    no : (z : ℕ) → Rot t x y z → ⊥
     no z (at-p a b c) = false≢true (sym f ∙ and-both (eqb (t .p) x) (eqb (t .q) y) (eq-eqb _ _ a) (eq-eqb _ _ b))
     no z (at-q a b c) = false≢true (sym g ∙ and-both (eqb (t .q) x) (eqb (t .r) y) (eq-eqb _ _ a) (eq-eqb _ _ b))
     no z (at-r a b c) = false≢true (sym h ∙ and-both (eqb (t .r) x) (eqb (t .p) y) (eq-eqb _ _ a) (eq-eqb _ _ b))
@@ -141,7 +144,7 @@ others-free (t ∷ ts) (there i) o w (here r) = free-rot ts (o .0) r _ (in-last 
 others-free (t ∷ ts) (there i) o w (there j) = others-free ts i (o .2) w j
 
 pub rot-mid : {t : Triangle} {c x z m n : ℕ} → (((t .p ≡ t .q) → ⊥) × ((t .q ≡ t .r) → ⊥) × ((t .r ≡ t .p) → ⊥))
-    → Rotated t c x z → Rotated t c m n → m ≡ x
+    → Rot t c x z → Rot t c m n → m ≡ x
 rot-mid d (at-p a b c) (at-p a′ b′ c′) = sym b′ ∙ b
 rot-mid d (at-p a b c) (at-q a′ b′ c′) = absurd (d .0 (a ∙ sym a′))
 rot-mid d (at-p a b c) (at-r a′ b′ c′) = absurd (d .2 (a′ ∙ sym a))

@@ -14,12 +14,13 @@ use Rattle.rules.specs.Triangle.{tri, edge}
 use Rattle.rules.specs.Ring.{Node, Ring, vertex, places}
 use Rattle.rules.specs.Table.{glued, fresh, atRest, effect, edgeRule}
 use Rattle.rules.specs.Machine.{Machine, afterBuild, afterMark, built, operation}
-use Rattle.gap.specs.Turn.{at-p, at-q, at-r, In, here, there, Unused}
+use Rattle.fans.specs.Corner.{at-p, at-q, at-r, In, here, there}
+use Rattle.gap.specs.Turn.{Unused}
 use Rattle.gap.specs.Surgery.{Surgery, on-new, on-forward, on-backward, on-close, on-split, on-union}
 use Rattle.gap.specs.Trace.{triangleAt, afterBorder, withRing}
 use Rattle.gap.specs.Tally.{gluesA, gluesB, sideOf, newNumbers, unionsOf}
 use Rattle.gap.specs.Works.{Works, w-none, w-built, w-declared}
-use Rattle.gap.proofs.Links.{in-next}
+use Rattle.fans.proofs.Corners.{in-next}
 use Rattle.gap.proofs.Effects.{allows-any, border-marks}
 use Rattle.gap.proofs.Runs.{Run, r-done, r-start, r-build, r-border}
 use Rattle.gap.proofs.Numbering.{Met}

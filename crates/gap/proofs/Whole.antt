@@ -4,7 +4,7 @@
 use Prim.Native.Nat.{ℕ, zero, suc, _+_, _*_, _≤_, _<_}
 use native.Mathlib.Omega.{arith}
 use mathlib.Core.Bool.{Bool, true, false, false≢true}
-use mathlib.Core.List.{List, []}
+use mathlib.Core.List.{List, [], _∷_, _++_}
 use mathlib.Core.Path.{_≡_, refl, sym, ap, _∙_, subst}
 use mathlib.Core.Logic.{_⊎_, inl, inr}
 use lib.ListN.{length}
@@ -15,7 +15,9 @@ use Rattle.rules.specs.Count.{occurs}
 use Rattle.rules.specs.Ring.{Ring, places}
 use Rattle.rules.specs.Choice.{Packing, has, Next, ended, refuses, takes, limited, chooseIn, choose}
 use Rattle.rules.specs.Pack.{Chosen, stopped, chosen, cons, chooseAll, Most, nothingBuilt, chosenFor}
-use Rattle.gap.specs.Turn.{In, Once, FanAt}
+use Rattle.fans.specs.Corner.{In, Once}
+use Rattle.fans.specs.Neighbours.{Neighbours}
+use Rattle.gap.specs.Building.{nextBuilt, builtBy, onto}
 use Rattle.gap.proofs.Progress.{begin}
 use Rattle.gap.proofs.Runs.{r-done}
 use Rattle.gap.proofs.Tracking.{RunsAt, Runs}
@@ -29,6 +31,8 @@ pub record Complete (s : Packing) (B : List Triangle) (rims : List Ring) (os : L
   -- the triangles and rims at the end
   pub built : List Triangle
   pub ended-rims : List Ring
+  -- they are added in the order of building
+  pub adds : (n : ℕ) → length os < n → built ≡ onto (builtBy n s) B
   pub fits : Fits s′ built ended-rims
   pub runs : Runs s s′ built B rims os
 
@@ -36,20 +40,41 @@ unfoldable pub Ends : Packing → List Triangle → List Ring → Chosen → Typ
 Ends s B rims (stopped n) = (n ≡ 9) ⊎ (n ≡ 10)
 Ends s B rims (chosen os s′) = Complete s B rims os s′
 
-ends-cons : (s : Packing) (B : List Triangle) (rims : List Ring) (g : GoesOn s B rims) (x : Chosen) → Ends (g .after) (g .built-after) (g .rims-after) x
-    → Ends s B rims (cons (g .o) x)
+onto-append : (us vs B : List Triangle) → onto (us ++ vs) B ≡ onto vs (onto us B)
+onto-append [] vs B = refl
+onto-append (u ∷ us) vs B = onto-append us vs (u ∷ B)
+
+built-none : (n : ℕ) (s : Packing) → choose s ≡ ended → builtBy n s ≡ []
+unfolding builtBy
+built-none zero s h = refl
+built-none (suc n) s h = rw (builtBy, h) refl
+
+built-next : (n : ℕ) (s s′ : Packing) (o : Operation) → choose s ≡ takes o s′ → builtBy (suc n) s ≡ nextBuilt (s .mesh) (s .loops) (s .left) ++ builtBy n s′
+unfolding builtBy
+built-next n s s′ o h = rw (builtBy, h) refl
+
+ends-cons : (s : Packing) (B : List Triangle) (rims : List Ring) (g : GoesOn s B rims) (x : Chosen) → choose s ≡ takes (g .o) (g .after)
+    → Ends (g .after) (g .built-after) (g .rims-after) x → Ends s B rims (cons (g .o) x)
 unfolding Ends
-ends-cons s B rims g (stopped n) h = h
-ends-cons s B rims g (chosen os s′) h =
+ends-cons s B rims g (stopped n) e h = h
+ends-cons s B rims g (chosen os s′) e h =
     record {
       mesh = h .mesh ∙ g .mesh;
       no-loop = h .no-loop;
       none-left = h .none-left;
       built = h .built;
       ended-rims = h .ended-rims;
+      adds = more;
       fits = h .fits;
       runs = g .runs s′ (h .built) os (h .runs);
     }
+  where
+    more : (n : ℕ) → suc (length os) < n → h .built ≡ onto (builtBy n s) B
+    more zero l = absurd (omega arith)
+    more (suc n) l =
+        h .adds n (omega arith)
+        ∙ (ap (onto (builtBy n (g .after))) (g .adds)
+        ∙ (sym (onto-append (nextBuilt (s .mesh) (s .loops) (s .left)) (builtBy n (g .after)) B) ∙ ap (λ (ts : List Triangle). onto ts B) (sym (built-next n s (g .after) (g .o) e))))
 
 -- an operation is taken, or refused by 9 or 10
 abbrev limitedBy : Operation → Packing → Bool → Bool → Next
@@ -82,12 +107,12 @@ unfolding chooseIn
 choose-ended s l h = rw (l, h, chooseIn) refl
 
 -- n operations are enough
-pub choose-all : (n : ℕ) (s : Packing) (B : List Triangle) (rims : List Ring) → Fits s B rims → ((c : ℕ) → FanAt (s .mesh) c) → labour s < n
+pub choose-all : (n : ℕ) (s : Packing) (B : List Triangle) (rims : List Ring) → Fits s B rims → ((c : ℕ) → Neighbours (s .mesh) c) → labour s < n
     → Ends s B rims (chooseAll n s)
 unfolding Ends
 choose-all zero s B rims fit fan h = absurd (omega arith)
 choose-all (suc n) s B rims fit fan h =
-    go (λ g. choose-all n (g .after) (g .built-after) (g .rims-after) (g .fits) (subst (λ (M : List Triangle). (c : ℕ) → FanAt M c) (sym (g .mesh)) fan) (let f = g .falls in omega arith))
+    go (λ g. choose-all n (g .after) (g .built-after) (g .rims-after) (g .fits) (subst (λ (M : List Triangle). (c : ℕ) → Neighbours M c) (sym (g .mesh)) fan) (let f = g .falls in omega arith))
     (choose-step s B rims fit fan)
   where
     refused : (k : ℕ) → (k ≡ 9) ⊎ (k ≡ 10) → choose s ≡ refuses k → Ends s B rims (chooseAll (suc n) s)
@@ -96,7 +121,7 @@ choose-all (suc n) s B rims fit fan h =
     on : (g : GoesOn s B rims) → Ends (g .after) (g .built-after) (g .rims-after) (chooseAll n (g .after))
         → (limited (g .o) (g .after) ≡ takes (g .o) (g .after)) ⊎ ((limited (g .o) (g .after) ≡ refuses 9) ⊎ (limited (g .o) (g .after) ≡ refuses 10))
         → Ends s B rims (chooseAll (suc n) s)
-    on g r (inl e) = subst (Ends s B rims) (sym (all-taken n s (g .after) (g .o) (g .chooses ∙ e))) (ends-cons s B rims g (chooseAll n (g .after)) r)
+    on g r (inl e) = subst (Ends s B rims) (sym (all-taken n s (g .after) (g .o) (g .chooses ∙ e))) (ends-cons s B rims g (chooseAll n (g .after)) (g .chooses ∙ e) r)
     on g r (inr (inl e)) = refused 9 (inl refl) (g .chooses ∙ e)
     on g r (inr (inr e)) = refused 10 (inr refl) (g .chooses ∙ e)
 
@@ -110,6 +135,7 @@ choose-all (suc n) s B rims fit fan h =
           none-left = e .1;
           built = B;
           ended-rims = rims;
+          adds = λ n l. sym (ap (λ (ts : List Triangle). onto ts B) (built-none n s (choose-ended s (e .0) (e .1))));
           fits = fit;
           runs =
               subst (λ (l : List Ring). RunsAt s B B rims [] l (length (s .left)) (s .mostPlaces) (s .mostLoops) (s .numbered)) (sym (e .0))
@@ -135,7 +161,7 @@ fits-begin h M o = record {
 }
 
 -- the whole packing
-pub packs-whole : (h : Most) (M : List Triangle) → Once M → ((c : ℕ) → FanAt M c) → Ends (nothingBuilt h M) [] [] (chosenFor h M)
+pub packs-whole : (h : Most) (M : List Triangle) → Once M → ((c : ℕ) → Neighbours M c) → Ends (nothingBuilt h M) [] [] (chosenFor h M)
 packs-whole h M o fan = choose-all (4 * length M + 1) (nothingBuilt h M) [] [] (fits-begin h M o) fan (omega arith)
 
 -- its run builds the triangles of the list, and no others

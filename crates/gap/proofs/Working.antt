@@ -14,7 +14,7 @@ use Rattle.rules.specs.Triangle.{tri, Edge}
 use Rattle.rules.specs.Ring.{Node, Ring, places}
 use Rattle.rules.specs.Table.{Side, glued, builds, marks, effect, edgeRule}
 use Rattle.rules.specs.Machine.{Machine, afterBuild, afterMark, built, declared, operation}
-use Rattle.gap.specs.Turn.{at-p, at-q, at-r, In, here, there}
+use Rattle.fans.specs.Corner.{at-p, at-q, at-r, In, here, there}
 use Rattle.gap.specs.Surgery.{Surgery, on-new, on-forward, on-backward, on-close, on-split, on-union}
 use Rattle.gap.specs.Trace.{triangleAt, afterBorder, withRing}
 use Rattle.gap.specs.Tally.{gluesA, gluesB, sideOf, newNumbers}

@@ -17,3 +17,4 @@ pub mod Near
 pub mod Ready
 pub mod Performing
 pub mod Performed
+pub mod Fresh

@@ -5,3 +5,4 @@ pub mod Decision
 pub mod Keeps
 pub mod Near
 pub mod Performs
+pub mod Fresh

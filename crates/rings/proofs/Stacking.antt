@@ -2,10 +2,12 @@
 -- Assumes nothing.
 use Prim.Native.Nat.{ℕ, zero, suc, _+_, _-_, _*_, _≤_, _<_}
 use native.Mathlib.Omega.{arith}
+use native.Mathlib.Numerals.{add-one}
 use mathlib.Core.List.{List}
 use mathlib.Core.Path.{_≡_, refl, ap, _∙_}
-use lib.ListN.{length, length-set}
+use lib.ListN.{length, set, length-set}
 use lib.Seq.{getD-set-other}
+use Rattle.memory.specs.Fresh.{allFree}
 use Rattle.memory.specs.Layout.{at, afterOf, freed, released, walked, waits, movedDown}
 
 -- the places j places along from x, in a memory with the same records
@@ -72,3 +74,24 @@ pub moves-done : (n : ℕ) (m₀ : List ℕ) (l₀ k₀ : ℕ) (m : List ℕ) (l
 unfolding movedDown
 moves-done n m₀ l₀ k₀ m l zero r h = r .ends
 moves-done n m₀ l₀ k₀ m l (suc k) r h = absurd (omega arith)
+
+-- the places below i are on the stack
+pub record Frees (n : ℕ) (m₀ m : List ℕ) (i : ℕ) : Type 0 where
+  pub holds : m ≡ allFree n m₀ i
+  pub within : i ≤ n
+  pub long : length m ≡ length m₀
+
+pub frees-start : (n : ℕ) (m : List ℕ) → Frees n m m 0
+unfolding allFree
+frees-start n m = record { holds = refl; within = omega arith; long = refl }
+
+pub frees-more : (n : ℕ) (m₀ m : List ℕ) (i : ℕ) → Frees n m₀ m i → i < n → Frees n m₀ (set m (4 * n + i) i) (i + 1)
+unfolding allFree
+frees-more n m₀ m i f h = record {
+  holds = rw (add-one i) (ap (λ (x : List ℕ). set x (4 * n + i) i) (f .holds));
+  within = omega arith;
+  long = length-set m (4 * n + i) i ∙ f .long;
+}
+
+pub frees-done : (n : ℕ) (m₀ m : List ℕ) (i : ℕ) → Frees n m₀ m i → n ≤ i → m ≡ allFree n m₀ n
+frees-done n m₀ m i f h = let e : i ≡ n = omega (arith, f .within) in f .holds ∙ ap (allFree n m₀) e

@@ -4,6 +4,7 @@ use crate::place::free_place;
 ghost use mathlib.Core.Path.{_≡_};
 ghost use Prim.Native.Nat.{ℕ, _+_, _*_, _-_, _≤_, _<_};
 ghost use lib.ListN.{length};
+ghost use Rattle.memory.specs.Fresh.{allFree};
 ghost use Rattle.memory.specs.Layout.{at, walked, released, waits, movedDown};
 
 // The free place below the top ones: of k free places the one with `below` of them above it.
@@ -13,6 +14,18 @@ pub fn free_at(m: &[u16], n: usize, k: u16, below: u16) -> u16
 {
     let top = k - below;
     m[4 * n + (top as usize)]
+}
+
+// Every place below n goes on the stack of free places.
+pub fn free_all(m: &mut [u16], n: usize)
+    requires { ⌜ (n ≤ 1024) × (5 * n ≤ length (now m)) ⌝ }
+    ensures { λ _. ⌜ now (m .exit) ≡ allFree n (now (m .entry)) n ⌝ }
+{
+    let mut i = 0;
+    while i < n {
+        m[4 * n + i] = i as u16;
+        i += 1;
+    }
 }
 
 // The j places from place p on go on the stack of free places, which has k.

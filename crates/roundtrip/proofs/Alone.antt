@@ -1,7 +1,6 @@
 -- Claim 4: what a packing depends on, and what its pack states.
 -- Assumes nothing.
-use Prim.Native.Nat.{ℕ, _*_, _≤_}
-use native.Mathlib.Omega.{arith}
+use Prim.Native.Nat.{ℕ}
 use mathlib.Core.Bool.{Bool, true, false, _&&_}
 use mathlib.Core.List.{List}
 use mathlib.Core.Path.{_≡_, refl, sym, ap, ap₂, _∙_}
@@ -9,9 +8,6 @@ use lib.ListN.{length, take, drop}
 use lib.Seq.{take-at}
 use lib.Dec.{leb}
 use Rattle.rules.specs.declared.Triangle.{Triangle}
-use Rattle.rules.specs.declared.Place.{Place}
-use Rattle.rules.specs.declared.Counts.{Counts}
-use Rattle.rules.specs.declared.Operation.{Operation}
 use Rattle.rules.specs.declared.Checked.{Checked}
 use Rattle.rules.specs.declared.Checked.the-variants.{Accepted, Refused}
 use Rattle.rules.specs.Limits.{maxPlaces}
@@ -28,7 +24,7 @@ use Rattle.rules.specs.Pack as P
 use Rattle.roundtrip.specs.Run.{runLoops, peakOf}
 use Rattle.roundtrip.specs.Claims.{SameInAllBuffers, SameAnswerInAllBuffers, StatedPeaksAreTrue}
 use Rattle.roundtrip.proofs.Numbers.{length-new}
-use Rattle.roundtrip.proofs.Limits.{run-of, chosen-same}
+use Rattle.roundtrip.proofs.Limits.{run-ends, chosen-same}
 use Rattle.roundtrip.proofs.Results.{PackedBy, packed-by}
 use Rattle.roundtrip.proofs.Forth.{found}
 use Rattle.roundtrip.proofs.Each.{front-bytes}
@@ -88,8 +84,8 @@ stated-peaks-are-true v xs r n e =
     let p = packed-by most v xs r n e in
     let ts = trianglesOf xs in
     let k = chosen-same most ts (p .operations) (p .last) (p .chose) in
-    let a : p .last .mostPlaces ≡ peakOf places 0 (runLoops ts) = ap (λ (x : Packing). x .mostPlaces) (k .2) ∙ run-of ts .places in
-    let b : p .last .mostLoops ≡ peakOf length 0 (runLoops ts) = ap (λ (x : Packing). x .mostLoops) (k .2) ∙ run-of ts .loops in (
+    let a : p .last .mostPlaces ≡ peakOf places 0 (runLoops ts) = ap (λ (x : Packing). x .mostPlaces) (k .2) ∙ run-ends ts .places in
+    let b : p .last .mostLoops ≡ peakOf length 0 (runLoops ts) = ap (λ (x : Packing). x .mostLoops) (k .2) ∙ run-ends ts .loops in (
       bytesOf (operationsBits (p .operations)),
       ap fieldsOf (front-bytes v xs r n p)
           ∙ (found v xs (p .operations) (p .last) (p .accepted) (p .chose)

@@ -1,13 +1,13 @@
 -- Claim 3: every accepted pack is the pack of its list.
 -- Assumes nothing.
-use Prim.Native.Nat.{ℕ, zero, suc, _+_, _*_, _≤_, _<_}
+use Prim.Native.Nat.{ℕ, suc, _+_, _*_, _≤_, _<_}
 use native.Mathlib.Omega.{arith}
-use mathlib.Core.Bool.{Bool, true, false, _&&_, false≢true}
+use mathlib.Core.Bool.{true, _&&_}
 use mathlib.Core.List.{List, [], _∷_, _++_, append-assoc}
 use mathlib.Core.Path.{_≡_, refl, sym, ap, ap₂, _∙_, subst}
 use lib.ListN.{length, take, drop, getD, replicate, length-append}
 use lib.Seq.{take-at}
-use lib.Dec.{eqb, ltb, leb}
+use lib.Dec.{eqb, ltb}
 use borrow.Author.Tests.{eqb-true, ltb-true, le-leb}
 use Rattle.rules.specs.declared.Triangle.{Triangle}
 use Rattle.rules.specs.declared.Counts.{Counts}
@@ -17,37 +17,30 @@ use Rattle.rules.specs.declared.Checked.the-variants.{Accepted}
 use Rattle.rules.specs.Triangle.{trianglesOf}
 use Rattle.rules.specs.Fan.{oneFanEach}
 use Rattle.rules.specs.Check.{check}
-use Rattle.rules.specs.Ring.{Ring}
 use Rattle.rules.specs.Machine.{Machine, empty, complete, asStated}
-use Rattle.rules.specs.Answer.{packed, unpacked}
+use Rattle.rules.specs.Answer.{unpacked}
 use Rattle.rules.specs.Bits.{bitsOfBytes, bytesOf, allZero}
 use Rattle.rules.specs.Code.{operationBits, operationsBits}
 use Rattle.rules.specs.Fields.{packBytes}
-use Rattle.rules.specs.Choice.{Packing}
 use Rattle.rules.specs.Pack.{Chosen, stopped, chosen, most, chosenFor, packOf, indexOf, newNumbers, PackBuffers, PackResult, packDone, packChosen, packRooms, pack}
 use Rattle.rules.specs.Buffer.{Buffers}
-use Rattle.rules.specs.Unpack.{runOf, restFits, numbersOf, UnpackResult, unpack}
-use Rattle.gap.specs.Works.{Works, Reads, none-read, one-read}
+use Rattle.rules.specs.Unpack.{numbersOf, UnpackResult, unpack}
+use Rattle.gap.specs.Works.{Reads, none-read, one-read}
 use Rattle.gap.proofs.Bools.{and-true}
-use Rattle.gap.proofs.Tracking.{upTo}
 use Rattle.gap.proofs.Working.{works-stated}
 use Rattle.gap.proofs.Repacking.{Repacked}
 use Rattle.gap.proofs.RoundBack.{Done, packs-back, checks-back}
-use Rattle.gap.proofs.Running.{Held, held-of}
+use Rattle.gap.proofs.Running.{Held, held-of, no-loops}
 use Rattle.codes.specs.Shape.{Bits, Bytes}
 use Rattle.codes.specs.Header.{headerOf}
 use Rattle.codes.proofs.Lists.{below-rest}
 use Rattle.codes.proofs.Bytes.{fill, length-bits-of-bytes, bits-of-bytes-are, bytes-of-bits, bytes-filled}
-use Rattle.codes.proofs.Operations.{OperationRead, operation-read, operations-bits-are}
+use Rattle.codes.proofs.Operations.{operation-read, operations-bits-are}
 use Rattle.codes.proofs.Fields.{pack-header, PackFound, pack-found}
 use Rattle.roundtrip.specs.Claims.{newNumber, PackOf, listIn, EveryAcceptedPackIsThePackOfItsList, NoTwoPacksOfOneList}
 use Rattle.roundtrip.proofs.Numbers.{getD-front, length-new, new-at, index-up}
 use Rattle.roundtrip.proofs.Results.{within-checked, stored-done, UnpackedBy, unpacked-by}
 use Rattle.roundtrip.proofs.Fitting.{accepted-count}
-
-no-loops : (ls : List Ring) → length ls ≡ 0 → ls ≡ []
-no-loops [] h = refl
-no-loops (l ∷ ls) h = absurd (omega arith)
 
 -- a machine that passes 15, 19 and 20 is done
 done-by : (m : Machine) → complete m ≡ true → asStated m ≡ true → oneFanEach (m .used) (m .triangles) ≡ true → Done m
@@ -186,10 +179,12 @@ module _ (bytes : List ℕ) (hb : Bytes bytes) (r : Buffers) (m : Model) (u : Un
   pack-of = record {
     accepted = checks bytes r m u;
     count = count-is bytes r m u;
-    same-length = λ r′ k l. ap (λ (p : PackResult). p .answer) (packs r′ k l);
-    same-bytes = λ r′ k l. ap (λ (p : PackResult). take (length bytes) (p .buffers .pack)) (packs r′ k l)
-        ∙ take-at bytes (drop (length bytes) (r′ .pack)) (length bytes) refl;
-    same-numbers = numbers-same;
+    packs = λ r′ k l. record {
+      same-length = ap (λ (p : PackResult). p .answer) (packs r′ k l);
+      same-bytes = ap (λ (p : PackResult). take (length bytes) (p .buffers .pack)) (packs r′ k l)
+          ∙ take-at bytes (drop (length bytes) (r′ .pack)) (length bytes) refl;
+      same-numbers = numbers-same r′ k l;
+    };
   }
 
 pub every-accepted-pack-is-the-pack-of-its-list : EveryAcceptedPackIsThePackOfItsList

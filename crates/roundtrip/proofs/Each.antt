@@ -1,36 +1,37 @@
 -- Claim 2: unpacking the pack of a list gives each of its triangles once, under a numbering that is one to one.
 -- Assumes nothing.
-use Prim.Native.Nat.{ℕ, suc, _+_, _*_, _≤_, _<_}
+use Prim.Native.Nat.{ℕ, _*_, _<_}
 use native.Mathlib.Omega.{arith}
 use mathlib.Core.Bool.{true}
-use mathlib.Core.List.{List, [], _∷_, _++_}
-use mathlib.Core.Path.{_≡_, refl, sym, ap, ap₂, _∙_, subst}
+use mathlib.Core.List.{List, [], _∷_}
+use mathlib.Core.Path.{_≡_, refl, sym, ap, _∙_, subst}
 use mathlib.Core.Logic.{_⊎_, inl, inr}
 use lib.ListN.{length, take, drop, getD}
 use lib.Seq.{take-at}
 use Rattle.rules.specs.declared.Triangle.{Triangle}
-use Rattle.rules.specs.declared.Place.{Place}
 use Rattle.rules.specs.declared.Operation.{Operation}
-use Rattle.rules.specs.Limits.{maxPlaces}
-use Rattle.rules.specs.Triangle.{tri, trianglesOf}
+use Rattle.rules.specs.Triangle.{trianglesOf}
 use Rattle.rules.specs.Machine.{totals}
-use Rattle.rules.specs.Answer.{packed}
 use Rattle.rules.specs.Choice.{Packing, has}
 use Rattle.rules.specs.Pack.{most, nothingBuilt, packOf, indexOf, newNumbers, PackBuffers, PackResult, pack}
 use Rattle.rules.specs.Buffer.{Buffers}
 use Rattle.rules.specs.Unpack.{numbersOf, UnpackResult, unpackDone, unpack}
-use Rattle.gap.specs.Turn.{at-p, at-q, at-r, In, here, there, Once}
-use Rattle.gap.proofs.Links.{in-next, in-last}
+use Rattle.fans.specs.Corner.{In, Once}
+use Rattle.gap.specs.Building.{onto}
 use Rattle.gap.proofs.Numbering.{Met}
+use Rattle.gap.proofs.Following.{run-length}
 use Rattle.gap.proofs.Runs.{Facts, facts}
 use Rattle.gap.proofs.Whole.{Complete, complete-all, complete-only}
 use Rattle.gap.proofs.Accepted.{Packable}
 use Rattle.gap.proofs.Renaming.{triangles, length-triangles}
 use Rattle.gap.proofs.RoundTrip.{numbered-all, numbers-tell}
 use Rattle.gap.proofs.RoundTrip as T
-use Rattle.gap.proofs.Repacking.{onto, in-onto, run-onto, numbersIn, triangles-in, numbers-onto, works-facts, works-order}
-use Rattle.roundtrip.specs.Claims.{renumbered, Rearranged, OneToOne, written, newNumber, EachOnce, EachTriangleOnce}
+use Rattle.gap.proofs.Rechecking.{length-numbers}
+use Rattle.gap.proofs.Repacking.{in-onto, run-onto, numbersIn, triangles-in, numbers-onto, built-order, works-facts, works-order}
+use Rattle.roundtrip.specs.Run.{enough, buildOrder}
+use Rattle.roundtrip.specs.Claims.{renumbered, Rearranged, OneToOne, newNumber, RoomFor, EachOnce, EachTriangleOnce}
 use Rattle.roundtrip.proofs.Numbers.{getD-front, length-new, new-at, index-below, has-at, index-at}
+use Rattle.roundtrip.proofs.Renumber.{named-is-renumbered, renumbered-agree}
 use Rattle.roundtrip.proofs.Results.{PackedBy, packed-by}
 use Rattle.roundtrip.proofs.Forth.{whole, ok, reached, unpacks-done}
 
@@ -41,23 +42,9 @@ front-bytes v xs r n p =
     let bytes = packOf v (trianglesOf xs) (p .operations) (p .last) in
     ap (λ (x : PackResult). take n (x .buffers .pack)) (p .result) ∙ take-at bytes (drop (length bytes) (r .pack)) n (sym (p .long))
 
-pub length-numbers : (ts : List Triangle) → length (numbersIn ts) ≡ 3 * length ts
-length-numbers [] = refl
-length-numbers (t ∷ ts) = omega (arith, length-numbers ts)
-
 named-onto : (f : ℕ → ℕ) (R B : List Triangle) → triangles f (onto R B) ≡ onto (triangles f R) (triangles f B)
 named-onto f [] B = refl
 named-onto f (t ∷ R) B = named-onto f R (t ∷ B)
-
--- a numbering that agrees on the vertices
-named-same : (f g : ℕ → ℕ) (ts : List Triangle) → ((x y z : ℕ) → In x y z ts → f x ≡ g x) → triangles f ts ≡ renumbered g ts
-named-same f g [] h = refl
-named-same f g (t ∷ ts) h =
-    let p = h (t .p) (t .q) (t .r) (here (at-p refl refl refl)) in
-    let q = h (t .q) (t .r) (t .p) (here (at-q refl refl refl)) in
-    let r = h (t .r) (t .p) (t .q) (here (at-r refl refl refl)) in
-    ap₂ (λ (x : Triangle) (xs : List Triangle). x ∷ xs) (ap₂ (λ (a : ℕ) (k : Triangle). tri a (k .q) (k .r)) p (ap₂ (λ (b c : ℕ). tri (f (t .p)) b c) q r))
-    (named-same f g ts (λ x y z i. h x y z (there i)))
 
 module _ (v : ℕ) (xs : List ℕ) (r : PackBuffers) (n : ℕ) (p : PackedBy most v xs r n) where
   abbrev ts : List Triangle
@@ -121,12 +108,20 @@ module _ (v : ℕ) (xs : List ℕ) (r : PackBuffers) (n : ℕ) (p : PackedBy mos
       go (inl j) = j
       go (inr j) = elim j [ ]
 
-  rearranged : Rearranged (trianglesOf xs) (c .runs .order)
-  rearranged = record {
-    count = c .runs .count;
-    all = λ x y z. (in-order x y z, λ i. only x y z (run-facts .subR x y z i));
-    once = run-facts .once;
-  }
+  -- the run builds in the packer's order
+  order-is : c .runs .order ≡ buildOrder (trianglesOf xs)
+  order-is =
+      sym (built-order (c .built) (c .runs .order) (run-onto (c .runs .run)))
+      ∙ built-order (c .built) (buildOrder ts) (c .adds (enough ts) (omega (arith, run-length (c .runs .run), c .runs .count)))
+
+  rearranged : Rearranged (trianglesOf xs) (buildOrder (trianglesOf xs))
+  rearranged =
+      subst (Rearranged ts) order-is
+      (record {
+        count = c .runs .count;
+        all = λ x y z. (in-order x y z, λ i. only x y z (run-facts .subR x y z i));
+        once = run-facts .once;
+      })
 
   -- the list that is written
   abbrev named : List Triangle
@@ -142,15 +137,16 @@ module _ (v : ℕ) (xs : List ℕ) (r : PackBuffers) (n : ℕ) (p : PackedBy mos
 
   named-is : named ≡ renumbered (newNumber (pack v xs r)) (c .runs .order)
   named-is =
-      named-same (T.newNumber s) (newNumber (pack v xs r)) (c .runs .order)
+      named-is-renumbered (T.newNumber s) (c .runs .order)
+      ∙ renumbered-agree (T.newNumber s) (newNumber (pack v xs r)) (c .runs .order)
       (λ x y z i. sym (number-is x (good .below x y z (only x y z (run-facts .subR x y z i)))))
 
-  module _ (r′ : Buffers) (long : 3 * length (trianglesOf xs) ≤ length (r′ .triangles)) (many : maxPlaces ≤ length {A = Place} (r′ .places)) where
+  module _ (r′ : Buffers) (room : RoomFor (length (trianglesOf xs)) r′) where
     done : unpack (take n (pack v xs r .buffers .pack)) r′
         ≡ unpackDone (T.statedBy v (trianglesOf xs) (p .last)) (totals (reached v xs (p .operations) (p .last) (p .accepted) (p .chose) .end))
         (reached v xs (p .operations) (p .last) (p .accepted) (p .chose) .end .triangles) r′
     done =
-        ap (λ (bs : List ℕ). unpack bs r′) (front-bytes v xs r n p) ∙ unpacks-done v xs os s (p .accepted) (p .chose) r′ long many
+        ap (λ (bs : List ℕ). unpack bs r′) (front-bytes v xs r n p) ∙ unpacks-done v xs os s (p .accepted) (p .chose) r′ (room .0) (room .1)
 
     list-is : take (3 * length (trianglesOf xs)) (unpack (take n (pack v xs r .buffers .pack)) r′ .buffers .triangles)
         ≡ numbersOf (reached v xs (p .operations) (p .last) (p .accepted) (p .chose) .end .triangles)
@@ -161,14 +157,13 @@ module _ (v : ℕ) (xs : List ℕ) (r : PackBuffers) (n : ℕ) (p : PackedBy mos
         (ap length numbers-written
         ∙ (length-numbers named ∙ ap (λ (k : ℕ). 3 * k) (length-triangles (T.newNumber s) (c .runs .order) ∙ c .runs .count)))
 
-    pub each-once : EachOnce v xs (pack v xs r) (unpack (take n (pack v xs r .buffers .pack)) r′)
+    pub each-once : EachOnce v (trianglesOf xs) (pack v xs r) (unpack (take n (pack v xs r .buffers .pack)) r′)
     each-once = record {
       totals = totals (reached v xs os s (p .accepted) (p .chose) .end);
       accepted = ap (λ (u : UnpackResult). u .answer) done;
       numbering = one-to-one;
-      order = c .runs .order;
       rearranged = rearranged;
-      unpacked = ap trianglesOf (list-is ∙ numbers-written) ∙ (triangles-in named ∙ named-is);
+      unpacked = ap trianglesOf (list-is ∙ numbers-written) ∙ (triangles-in named ∙ (named-is ∙ ap (renumbered (newNumber (pack v xs r))) order-is));
       once =
           let w = reached v xs os s (p .accepted) (p .chose) in
           subst Once (sym (ap trianglesOf list-is ∙ works-order (T.statedBy v ts s) os (w .end) (w .works) (w .no-loop)))
@@ -176,4 +171,4 @@ module _ (v : ℕ) (xs : List ℕ) (r : PackBuffers) (n : ℕ) (p : PackedBy mos
     }
 
 pub each-triangle-once : EachTriangleOnce
-each-triangle-once v xs r n e r′ long many = each-once v xs r n (packed-by most v xs r n e) r′ long many
+each-triangle-once v xs r n e r′ room = each-once v xs r n (packed-by most v xs r n e) r′ room

@@ -1,44 +1,42 @@
 -- A complete packing within the limits: its counts are in range, its indices fit their widths, and its pack is short enough.
 -- Assumes nothing.
-use Prim.Native.Nat.{ℕ, suc, _+_, _*_, _/_, _%_, _≤_, _<_}
+use Prim.Native.Nat.{ℕ, _+_, _*_, _%_, _≤_, _<_}
 use native.Mathlib.Omega.{arith}
-use mathlib.Core.Bool.{Bool, true, false, _&&_}
+use mathlib.Core.Bool.{true, _&&_}
 use mathlib.Core.List.{List, [], _∷_, _++_, append-assoc}
-use mathlib.Core.Path.{_≡_, refl, sym, ap, _∙_, subst}
+use mathlib.Core.Path.{_≡_, refl, ap, _∙_}
 use lib.ListN.{length, length-append}
 use lib.Dec.{leb, eqb}
 use borrow.Author.Tests.{le-leb, leb-true, eqb-true}
 use Rattle.rules.specs.declared.Triangle.{Triangle}
-use Rattle.rules.specs.declared.Counts.{Counts}
 use Rattle.rules.specs.declared.Operation.{Operation}
 use Rattle.rules.specs.declared.Operation.the-variants.{New, Forward, Backward, Border, Split, Close, Union, Start}
 use Rattle.rules.specs.declared.Checked.the-variants.{Accepted}
 use Rattle.rules.specs.Limits.{maxNumbers, minVertices, maxVertices, maxTriangles, minPlaces, maxPlaces, maxLoops, between, vertexRange, inRange}
 use Rattle.rules.specs.Triangle.{trianglesOf}
-use Rattle.rules.specs.Check.{sizeFits, check}
+use Rattle.rules.specs.Check.{check}
 use Rattle.rules.specs.Ring.{Node, Ring, places}
-use Rattle.rules.specs.Code.{operationBits, operationsBits, read, readOperation}
+use Rattle.rules.specs.Code.{operationBits, operationsBits, readOperation}
 use Rattle.rules.specs.Bits.{bytesOf}
 use Rattle.rules.specs.Choice.{Packing}
-use Rattle.rules.specs.Pack.{chosen, Most, most, nothingBuilt, chosenFor}
+use Rattle.rules.specs.Pack.{chosen, most, nothingBuilt, chosenFor}
 use Rattle.gap.specs.Surgery.{Surgery, on-new, on-forward, on-backward, on-close, on-split, on-union}
 use Rattle.gap.specs.Tally.{allOpenEdges}
 use Rattle.gap.specs.Works.{Reads, none-read, one-read}
-use Rattle.gap.proofs.Bools.{and-true, and-both}
+use Rattle.gap.proofs.Bools.{and-true}
 use Rattle.gap.proofs.Falling.{build-opens, border-opens}
 use Rattle.gap.proofs.Runs.{Run, r-done, r-start, r-build, r-border}
-use Rattle.gap.proofs.Tracking.{peak, Within, peak-within}
+use Rattle.gap.proofs.Tracking.{Within, peak-within}
 use Rattle.gap.proofs.Whole.{Complete}
 use Rattle.gap.proofs.RoundTrip.{statedBy}
-use Rattle.fans.specs.Passing.{Passes}
 use Rattle.fans.proofs.Checks.{check-accepted}
+use Rattle.fans.proofs.Counting.{and-both}
 use Rattle.codes.specs.Shape.{Fits, AllFit}
 use Rattle.codes.specs.Header.{CountsFit}
 use Rattle.codes.specs.Whole.{widthOf}
 use Rattle.codes.proofs.Bytes.{length-bytes}
 use Rattle.codes.proofs.Operations.{length-operation, width-least, width-most, read-operation}
-use Rattle.roundtrip.specs.Run.{runLoops, NoFault}
-use Rattle.roundtrip.proofs.Limits.{run-of, chosen-same, peaks-kept}
+use Rattle.roundtrip.proofs.Limits.{chosen-same, peaks-kept}
 
 places-append : (us vs : List Ring) → places (us ++ vs) ≡ places us + places vs
 unfolding places

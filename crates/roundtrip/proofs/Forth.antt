@@ -1,10 +1,10 @@
 -- The pack of an accepted list is accepted by unpacking, which runs the packer's own operations.
 -- Assumes nothing.
-use Prim.Native.Nat.{ℕ, suc, _+_, _*_, _≤_, _<_}
+use Prim.Native.Nat.{ℕ, suc, _+_, _*_, _≤_}
 use native.Mathlib.Omega.{arith}
-use mathlib.Core.Bool.{Bool, true, _&&_}
+use mathlib.Core.Bool.{true, _&&_}
 use mathlib.Core.List.{List, [], _++_}
-use mathlib.Core.Path.{_≡_, refl, sym, ap, _∙_, subst}
+use mathlib.Core.Path.{_≡_, ap, _∙_}
 use lib.ListN.{length, length-append, replicate}
 use lib.Dec.{eqb, leb}
 use borrow.Author.Tests.{eq-eqb, le-leb}
@@ -16,26 +16,23 @@ use Rattle.rules.specs.declared.Checked.the-variants.{Accepted}
 use Rattle.rules.specs.Limits.{maxPlaces}
 use Rattle.rules.specs.Triangle.{trianglesOf}
 use Rattle.rules.specs.Check.{check}
-use Rattle.rules.specs.Machine.{Machine, empty, complete, asStated, roomy, totals}
-use Rattle.rules.specs.Bits.{bitsOfBytes, bytesOf}
+use Rattle.rules.specs.Machine.{Machine, empty, complete, asStated, totals}
+use Rattle.rules.specs.Bits.{bytesOf}
 use Rattle.rules.specs.Code.{operationsBits}
 use Rattle.rules.specs.Fields.{fields, fieldsOf}
 use Rattle.rules.specs.Choice.{Packing}
 use Rattle.rules.specs.Pack.{chosen, most, nothingBuilt, chosenFor, packOf}
-use Rattle.rules.specs.Buffer.{Buffers, lengths}
+use Rattle.rules.specs.Buffer.{Buffers}
 use Rattle.rules.specs.Unpack.{completed, runAll, runOf, restFits, unpackDone, unpackRun, unpack}
-use Rattle.gap.specs.Works.{Works, w-none, w-built, w-declared, Reads, none-read, one-read}
-use Rattle.gap.proofs.Bools.{and-both}
+use Rattle.fans.proofs.Counting.{and-both}
 use Rattle.gap.proofs.Whole.{Complete}
 use Rattle.gap.proofs.Unpacking.{Reached}
 use Rattle.gap.proofs.Accepted.{Packable, accepted-packable}
 use Rattle.gap.proofs.RoundTrip.{statedBy, newNumber, numbers-tell, unpacks, unpack-finishes, accepted-complete}
 use Rattle.gap.proofs.RoundBack.{Done, done-of}
 use Rattle.gap.proofs.Running.{run-of}
-use Rattle.codes.specs.Shape.{AllFit}
-use Rattle.codes.specs.Whole.{widthOf}
 use Rattle.codes.proofs.Bytes.{fill, bits-of-bytes}
-use Rattle.codes.proofs.Operations.{operations-bits-are, length-operation, width-least}
+use Rattle.codes.proofs.Operations.{operations-bits-are}
 use Rattle.codes.proofs.Fields.{fields-of-pack}
 use Rattle.codes.proofs.Rest.{fill-fits}
 use Rattle.roundtrip.proofs.Fitting.{all-fit, short-enough, counts-fit, in-range, reads-of, few-operations}

@@ -7,7 +7,11 @@ pub mod Right
 pub mod Fitting
 pub mod Forth
 pub mod Numbers
+pub mod Renumber
 pub mod Each
 pub mod Back
 pub mod Unpacked
+pub mod Alike
+pub mod Starts
+pub mod Model
 pub mod Alone

@@ -1,19 +1,21 @@
 -- Limits turn down the first operation that exceeds them and change nothing else.
 -- Assumes nothing.
-use Prim.Native.Nat.{ℕ, zero, suc, _+_, _*_, _≤_, _<_, max}
+use Prim.Native.Nat.{ℕ, zero, suc, _+_, _*_, _≤_, max}
 use native.Mathlib.Omega.{arith}
 use mathlib.Core.Bool.{Bool, true, false}
 use mathlib.Core.List.{List, [], _∷_}
-use mathlib.Core.Path.{_≡_, refl, sym, ap, _∙_, subst}
+use mathlib.Core.Path.{_≡_, refl, sym, ap, _∙_}
 use mathlib.Core.Logic.{_⊎_, inl, inr}
 use lib.ListN.{length}
 use lib.Dec.{leb}
-use borrow.Author.Tests.{le-leb, leb-true, leb-false}
+use borrow.Author.Tests.{leb-true, leb-false}
 use Rattle.rules.specs.declared.Triangle.{Triangle}
 use Rattle.rules.specs.declared.Operation.{Operation}
 use Rattle.rules.specs.Ring.{Ring, places}
 use Rattle.rules.specs.Choice.{Packing, Next, ended, refuses, takes, packingAfter, limited, choose}
 use Rattle.rules.specs.Pack.{Chosen, stopped, chosen, cons, chooseAll, Most, nothingBuilt, chosenFor}
+use Rattle.gap.proofs.Whole.{all-ended, all-taken}
+use Rattle.gap.proofs.Following.{limited-takes}
 use Rattle.roundtrip.specs.Run.{enough, unlimited, loopsAfter, runLoops, NoFault, FirstFault, places-exceeded, loops-exceeded, later, peakOf}
 use Rattle.roundtrip.proofs.Wanting.{Want, idle, wants, want, doing, choose-want, Grown, want-grown}
 
@@ -59,10 +61,6 @@ cons-limited h o (ls ∷ lss) c = go (leb (places ls) (h .places)) (leb (length 
     go false v e = refl
 
 -- one operation of the packer
-all-idle : (n : ℕ) (s : Packing) → choose s ≡ ended → chooseAll (suc n) s ≡ chosen [] s
-unfolding chooseAll
-all-idle n s h = rw (chooseAll, h) refl
-
 all-next : (n : ℕ) (s : Packing) → chooseAll (suc n) s ≡ elim (choose s) [ ended ↦ chosen [] s | refuses k ↦ stopped k | takes o s′ ↦ cons o (chooseAll n s′) ]
 unfolding chooseAll
 all-next n s = refl
@@ -74,14 +72,6 @@ loops-idle n s h = rw (loopsAfter, h) refl
 loops-next : (n : ℕ) (s s′ : Packing) (o : Operation) → choose s ≡ takes o s′ → loopsAfter (suc n) s ≡ s′ .loops ∷ loopsAfter n s′
 unfolding loopsAfter
 loops-next n s s′ o h = rw (loopsAfter, h) refl
-
-all-takes : (n : ℕ) (s s′ : Packing) (o : Operation) → choose s ≡ takes o s′ → chooseAll (suc n) s ≡ cons o (chooseAll n s′)
-unfolding chooseAll
-all-takes n s s′ o h = rw (chooseAll, h) refl
-
-limited-within : (o : Operation) (s : Packing) → places (s .loops) ≤ s .limitPlaces → length (s .loops) ≤ s .limitLoops → limited o s ≡ takes o s
-unfolding limited
-limited-within o s p l = rw (limited, le-leb (places (s .loops)) (s .limitPlaces) p, le-leb (length (s .loops)) (s .limitLoops) l) refl
 
 -- the limits b are above all that n operations can reach
 abbrev Ample : Most → ℕ → Packing → Type 0
@@ -117,16 +107,16 @@ module _ (h b : Most) where
       go idle e g again =
           let f : choose (relimit h s) ≡ ended = choose-want (relimit h s) ∙ ap (doing (relimit h s)) e in
           let f′ : choose (relimit b s) ≡ ended = choose-want (relimit b s) ∙ ap (doing (relimit b s)) e in
-          rw (loops-idle n (relimit b s) f′, all-idle n (relimit b s) f′) (all-idle n (relimit h s) f)
+          rw (loops-idle n (relimit b s) f′, all-ended n (relimit b s) f′) (all-ended n (relimit h s) f)
       go (wants o ts vs ls) e g again =
           let s′ = packingAfter s ts vs ls in
           let p : places ls ≤ b .places = omega (arith, g .0, k .0) in
           let l : length ls ≤ b .loops = omega (arith, g .1, k .1) in
           let f : choose (relimit h s) ≡ limited o (relimit h s′) = choose-want (relimit h s) ∙ ap (doing (relimit h s)) e in
           let f′ : choose (relimit b s) ≡ takes o (relimit b s′) =
-          choose-want (relimit b s) ∙ (ap (doing (relimit b s)) e ∙ limited-within o (relimit b s′) p l) in
+          choose-want (relimit b s) ∙ (ap (doing (relimit b s)) e ∙ limited-takes o (relimit b s′) p l) in
           let i = again s′ (omega (arith, g .0, k .0), omega (arith, g .1, k .1)) in
-          rw (loops-next n (relimit b s) (relimit b s′) o f′, all-takes n (relimit b s) (relimit b s′) o f′)
+          rw (loops-next n (relimit b s) (relimit b s′) o f′, all-taken n (relimit b s) (relimit b s′) o f′)
           (all-next n (relimit h s) ∙ (ap (taken n o (relimit h s)) f ∙ next-limited n o (relimit h s) s′ (loopsAfter n (relimit b s′)) (chooseAll n (relimit b s′)) i))
 
 -- a run without limits is not stopped; its peaks are those of the loops after each operation
@@ -150,7 +140,7 @@ unstopped b (suc n) s k = go (want s) refl (want-grown s) (λ s′. unstopped b 
         record {
           operations = [];
           last = relimit b s;
-          does = all-idle n (relimit b s) f;
+          does = all-ended n (relimit b s) f;
           places = sym (ap (peakOf places (s .mostPlaces)) z);
           loops = sym (ap (peakOf length (s .mostLoops)) z);
         }
@@ -159,13 +149,13 @@ unstopped b (suc n) s k = go (want s) refl (want-grown s) (λ s′. unstopped b 
         let p : places ls ≤ b .places = omega (arith, g .0, k .0) in
         let l : length ls ≤ b .loops = omega (arith, g .1, k .1) in
         let f : choose (relimit b s) ≡ takes o (relimit b s′) =
-        choose-want (relimit b s) ∙ (ap (doing (relimit b s)) e ∙ limited-within o (relimit b s′) p l) in
+        choose-want (relimit b s) ∙ (ap (doing (relimit b s)) e ∙ limited-takes o (relimit b s′) p l) in
         let i = again s′ (omega (arith, g .0, k .0), omega (arith, g .1, k .1)) in
         let z = loops-next n (relimit b s) (relimit b s′) o f in
         record {
           operations = o ∷ i .operations;
           last = i .last;
-          does = all-takes n (relimit b s) (relimit b s′) o f ∙ ap (cons o) (i .does);
+          does = all-taken n (relimit b s) (relimit b s′) o f ∙ ap (cons o) (i .does);
           places = i .places ∙ sym (ap (peakOf places (s .mostPlaces)) z);
           loops = i .loops ∙ sym (ap (peakOf length (s .mostLoops)) z);
         }
@@ -176,12 +166,12 @@ module _ (ts : List Triangle) where
   unfolding places
   ample = (omega arith, omega arith)
 
-  pub run-of : Unstopped (enough ts) (nothingBuilt (unlimited ts) ts)
-  run-of = unstopped (unlimited ts) (enough ts) (nothingBuilt (unlimited ts) ts) ample
+  pub run-ends : Unstopped (enough ts) (nothingBuilt (unlimited ts) ts)
+  run-ends = unstopped (unlimited ts) (enough ts) (nothingBuilt (unlimited ts) ts) ample
 
-  pub chosen-with : (h : Most) → chosenFor h ts ≡ limitedTo h (runLoops ts) (chosen (run-of .operations) (run-of .last))
+  pub chosen-with : (h : Most) → chosenFor h ts ≡ limitedTo h (runLoops ts) (chosen (run-ends .operations) (run-ends .last))
   chosen-with h =
-      same-choices h (unlimited ts) (enough ts) (nothingBuilt (unlimited ts) ts) ample ∙ ap (limitedTo h (runLoops ts)) (run-of .does)
+      same-choices h (unlimited ts) (enough ts) (nothingBuilt (unlimited ts) ts) ample ∙ ap (limitedTo h (runLoops ts)) (run-ends .does)
 
 -- 9 and 10, and neither
 pub data Judged (h : Most) (lss : List (List Ring)) (c : Chosen) : Type 0 where
@@ -209,14 +199,14 @@ judged h (ls ∷ lss) c = go (leb (places ls) (h .places)) refl (leb (length ls)
 
 -- what is chosen with the limits h is what is chosen without
 pub chosen-same : (h : Most) (ts : List Triangle) (os : List Operation) (s : Packing) → chosenFor h ts ≡ chosen os s
-    → NoFault h (runLoops ts) × (os ≡ run-of ts .operations) × (s ≡ relimit h (run-of ts .last))
-chosen-same h ts os s e = go (judged h (runLoops ts) (chosen (run-of ts .operations) (run-of ts .last)))
+    → NoFault h (runLoops ts) × (os ≡ run-ends ts .operations) × (s ≡ relimit h (run-ends ts .last))
+chosen-same h ts os s e = go (judged h (runLoops ts) (chosen (run-ends ts .operations) (run-ends ts .last)))
   where
-    f : chosen os s ≡ limitedTo h (runLoops ts) (chosen (run-of ts .operations) (run-of ts .last))
+    f : chosen os s ≡ limitedTo h (runLoops ts) (chosen (run-ends ts .operations) (run-ends ts .last))
     f = sym e ∙ chosen-with ts h
 
-    go : Judged h (runLoops ts) (chosen (run-of ts .operations) (run-of ts .last))
-        → NoFault h (runLoops ts) × (os ≡ run-of ts .operations) × (s ≡ relimit h (run-of ts .last))
+    go : Judged h (runLoops ts) (chosen (run-ends ts .operations) (run-ends ts .last))
+        → NoFault h (runLoops ts) × (os ≡ run-ends ts .operations) × (s ≡ relimit h (run-ends ts .last))
     go (at-fault n k x q) = let g = f ∙ q in let z : _≡_ {A = ℕ} 0 1 = cc in absurd (omega arith)
     go (no-fault x q) = let g = f ∙ q in (x, cc, cc)
 
@@ -227,10 +217,10 @@ peak-kept w k a h [] l f n = l
 peak-kept w k a h (ls ∷ lss) l f n = peak-kept w k (max a (w ls)) h lss (omega (arith, f ls (n .0))) f (n .1)
 
 pub peaks-kept : (h : Most) (ts : List Triangle) → NoFault h (runLoops ts)
-    → (run-of ts .last .mostPlaces ≤ h .places) × (run-of ts .last .mostLoops ≤ h .loops)
+    → (run-ends ts .last .mostPlaces ≤ h .places) × (run-ends ts .last .mostLoops ≤ h .loops)
 peaks-kept h ts n = (
-  omega (arith, run-of ts .places, peak-kept places (h .places) 0 h (runLoops ts) (omega arith) (λ ls k. k .0) n),
-  omega (arith, run-of ts .loops, peak-kept length (h .loops) 0 h (runLoops ts) (omega arith) (λ ls k. k .1) n),
+  omega (arith, run-ends ts .places, peak-kept places (h .places) 0 h (runLoops ts) (omega arith) (λ ls k. k .0) n),
+  omega (arith, run-ends ts .loops, peak-kept length (h .loops) 0 h (runLoops ts) (omega arith) (λ ls k. k .1) n),
 )
 
 -- only one operation is the first at fault

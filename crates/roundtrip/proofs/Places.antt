@@ -8,10 +8,13 @@ use lib.ListN.{length}
 use Rattle.rules.specs.declared.Triangle.{Triangle}
 use Rattle.rules.specs.Ring.{Node, Ring, vertex}
 use Rattle.rules.specs.Choice.{turnIn, turnOut, sizeOf, following}
-use Rattle.gap.specs.Turn.{Rotated, at-p, In, here, there, Unused, Once, Links, stop, link, Turn, FanAt}
+use Rattle.fans.specs.Corner.{Rot, at-p, In, here, there}
+use Rattle.fans.specs.Neighbours.{Neighbours}
+use Rattle.gap.specs.Turn.{Unused, Links, stop, link}
 use Rattle.gap.specs.Spots.{OpenAt, Site}
 use Rattle.gap.specs.Trace.{triangleAt}
-use Rattle.gap.proofs.Links.{rot-next, free-rot, turn-cases, Jumped}
+use Rattle.fans.proofs.Corners.{rot-next}
+use Rattle.gap.proofs.Links.{free-rot, turn-cases, Jumped}
 use Rattle.gap.proofs.Core.{Blocked, one-way}
 use Rattle.gap.proofs.Cuts.{links-behind, links-front}
 use Rattle.gap.proofs.Turning.{turn-in, turn-out}
@@ -28,7 +31,7 @@ links-map g (link i l) = link (g _ _ i) (links-map g l)
 
 -- M are all triangles, B those built, b a c is not yet built and R are the others
 module _ (M R B : List Triangle) (e f : Node) (ps : List Node) (ws : List Ring) (c : ℕ)
-    (pk : Packs M (triangleAt e f c ∷ R) B ((e ∷ (f ∷ ps)) ∷ ws)) (fan : FanAt M c)
+    (pk : Packs M (triangleAt e f c ∷ R) B ((e ∷ (f ∷ ps)) ∷ ws)) (fan : Neighbours M c)
     (n : PlaceOf M R ((e ∷ (f ∷ ps)) ∷ ws) (vertex e) (vertex f) c) where
   abbrev ls : List Ring
   ls = (e ∷ (f ∷ ps)) ∷ ws
@@ -42,7 +45,7 @@ module _ (M R B : List Triangle) (e f : Node) (ps : List Node) (ws : List Ring) 
   st : State M (triangleAt e f c ∷ R) B ((e ∷ (f ∷ ps)) ∷ ws)
   st = pk .state
 
-  tri : Rotated (triangleAt e f c) (vertex f) (vertex e) c
+  tri : Rot (triangleAt e f c) (vertex f) (vertex e) c
   tri = at-p refl refl refl
 
   in-M : In (vertex f) (vertex e) c M

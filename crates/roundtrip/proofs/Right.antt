@@ -1,38 +1,38 @@
 -- Claim 1 of the packer's choice: at each step one place is right, and the operation for it is chosen, allowed and within the edge rule.
 -- Assumes nothing.
-use Prim.Native.Nat.{ℕ, suc, _≤_}
+use Prim.Native.Nat.{ℕ}
 use native.Mathlib.Omega.{arith}
 use mathlib.Core.Bool.{Bool, true, false}
 use mathlib.Core.List.{List, [], _∷_}
 use mathlib.Core.Path.{_≡_, refl, sym, ap, _∙_, subst}
-use mathlib.Core.Logic.{_⊎_, inl, inr, _↔_}
+use mathlib.Core.Logic.{_⊎_, inl, inr}
 use lib.ListN.{length}
 use lib.Dec.{leb}
 use Rattle.rules.specs.declared.Triangle.{Triangle}
 use Rattle.rules.specs.declared.Operation.{Operation}
 use Rattle.rules.specs.declared.Operation.the-variants.{New}
-use Rattle.rules.specs.declared.Across.the-variants.{Found, Nothing}
-use Rattle.rules.specs.declared.Checked.the-variants.{Accepted}
+use Rattle.rules.specs.declared.Across.the-variants.{Found}
 use Rattle.rules.specs.Triangle.{tri, trianglesOf}
 use Rattle.rules.specs.Across.{across}
-use Rattle.rules.specs.Check.{check}
-use Rattle.rules.specs.Ring.{Node, Ring, vertex, isOpen, startOr, places, loopAt}
-use Rattle.rules.specs.Table.{Side, glued, builds, effect, edgeRule}
-use Rattle.rules.specs.Choice.{Packing, Next, refuses, takes, has, dropTriangle, operationFor, sizeOf, choosePlace, packingAfter, limited, choose}
-use Rattle.rules.specs.Pack.{Most, nothingBuilt}
-use Rattle.gap.specs.Turn.{at-p, In, here, there, Unused, Once, FanAt}
+use Rattle.rules.specs.Ring.{Node, Ring, vertex, startOr, places, loopAt}
+use Rattle.rules.specs.Table.{glued, builds, effect, edgeRule}
+use Rattle.rules.specs.Choice.{Packing, Next, refuses, takes, has, operationFor, sizeOf, choosePlace, packingAfter, limited, choose}
+use Rattle.rules.specs.Pack.{Most}
+use Rattle.fans.specs.Corner.{In, Once}
+use Rattle.fans.specs.Neighbours.{Neighbours}
+use Rattle.gap.specs.Turn.{Unused}
 use Rattle.gap.specs.Trace.{triangleAt}
 use Rattle.gap.specs.Tally.{gluesA, gluesB, sideOf, newNumbers, unionsOf}
 use Rattle.gap.proofs.Links.{once-func}
-use Rattle.gap.proofs.Turning.{others, others-sub, Finds, across-some, across-none, look}
+use Rattle.gap.proofs.Turning.{others, others-sub, across-some, across-none, look}
 use Rattle.gap.proofs.Dropping.{drop-others}
 use Rattle.gap.proofs.Exists.{PlaceOf}
 use Rattle.gap.proofs.Allowing.{Allowed}
 use Rattle.gap.proofs.Packing.{Packs, choice-place, place, place-allowed}
-use Rattle.gap.proofs.Rules.{Rules, rule-of}
+use Rattle.gap.proofs.Rules.{rule-of}
 use Rattle.gap.proofs.Steps.{Keeps, packs, Packed, pack-old}
 use Rattle.gap.proofs.Bordering.{border-free}
-use Rattle.gap.proofs.Taking.{out, corners, keeps-take}
+use Rattle.gap.proofs.Taking.{out, keeps-take}
 use Rattle.gap.proofs.Progress.{AllGood}
 use Rattle.gap.proofs.Effects.{allows, allows-any}
 use Rattle.gap.proofs.Choosing.{Fits, GoesOn, choose-old, no-new, choose-step}
@@ -60,9 +60,9 @@ pub record Holds (ts : List Triangle) (s : Packing) : Type 0 where
   pub fits : Fits s built rims
   pub mesh : s .mesh ≡ ts
 
-holds-next : (ts : List Triangle) (s s′ : Packing) (o : Operation) → ((c : ℕ) → FanAt ts c) → Holds ts s → choose s ≡ takes o s′ → Holds ts s′
+holds-next : (ts : List Triangle) (s s′ : Packing) (o : Operation) → ((c : ℕ) → Neighbours ts c) → Holds ts s → choose s ≡ takes o s′ → Holds ts s′
 holds-next ts s s′ o fan k e =
-    go (choose-step s (k .built) (k .rims) (k .fits) (subst (λ (M : List Triangle). (c : ℕ) → FanAt M c) (sym (k .mesh)) fan))
+    go (choose-step s (k .built) (k .rims) (k .fits) (subst (λ (M : List Triangle). (c : ℕ) → Neighbours M c) (sym (k .mesh)) fan))
   where
     go : ((s .loops ≡ []) × (s .left ≡ [])) ⊎ GoesOn s (k .built) (k .rims) → Holds ts s′
     go (inl h) = let f = sym (choose-ended s (h .0) (h .1)) ∙ e in let z : _≡_ {A = ℕ} 0 1 = cc in absurd (omega arith)
@@ -70,7 +70,7 @@ holds-next ts s s′ o fan k e =
         let q : s′ ≡ g .after = taken-is (g .o) o (g .after) s′ (sym (g .chooses) ∙ e) in
         subst (Holds ts) (sym q) (record { built = g .built-after; rims = g .rims-after; fits = g .fits; mesh = g .mesh ∙ k .mesh })
 
-pub holds : (h : Most) (ts : List Triangle) (s : Packing) → Once ts → ((c : ℕ) → FanAt ts c) → Reached h ts s → Holds ts s
+pub holds : (h : Most) (ts : List Triangle) (s : Packing) → Once ts → ((c : ℕ) → Neighbours ts c) → Reached h ts s → Holds ts s
 holds h ts s o fan begins = record { built = []; rims = []; fits = fits-begin h ts o; mesh = refl }
 holds h ts s o fan (goes-on {s = s₀} {o = op} r e) = holds-next ts s₀ s op fan (holds h ts s₀ o fan r) e
 
@@ -79,7 +79,7 @@ right-map g (by-entering x j o q w) = by-entering x j o q (links-map g w)
 right-map g (by-leaving y o w) = by-leaving y o (links-map g w)
 
 -- the operation for a place never gives a number
-module _ (s : Packing) (B : List Triangle) (rims : List Ring) (fit : Fits s B rims) (fan : (c : ℕ) → FanAt (s .mesh) c) (e f : Node) (ps : List Node) (ws : List Ring)
+module _ (s : Packing) (B : List Triangle) (rims : List Ring) (fit : Fits s B rims) (fan : (c : ℕ) → Neighbours (s .mesh) c) (e f : Node) (ps : List Node) (ws : List Ring)
     (at : s .loops ≡ (e ∷ (f ∷ ps)) ∷ ws) (c m k : ℕ) (found : across (vertex f) (vertex e) (s .mesh) ≡ Found m k c) (old : has c (s .numbered) ≡ true) where
   abbrev a : ℕ
   a = vertex e
@@ -222,4 +222,4 @@ one-place-is-right h v xs acc s r e ps ws l n k c found old = go ps l found
         → RightChoice s (vertex e) (startOr (vertex e) qs) c
     go [] q g = let z = subst AllGood q (w .fits .good) .0 .1 in absurd (omega arith)
     go (f ∷ qs) q g =
-        right-choice s (w .built) (w .rims) (w .fits) (subst (λ (M : List Triangle). (x : ℕ) → FanAt M x) (sym (w .mesh)) (ok .fans)) e f qs ws q c n k g old
+        right-choice s (w .built) (w .rims) (w .fits) (subst (λ (M : List Triangle). (x : ℕ) → Neighbours M x) (sym (w .mesh)) (ok .fans)) e f qs ws q c n k g old

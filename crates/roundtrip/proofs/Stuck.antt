@@ -5,23 +5,21 @@ use native.Mathlib.Omega.{arith}
 use mathlib.Core.Bool.{Bool, true, false}
 use mathlib.Core.List.{List, []}
 use mathlib.Core.Path.{_≡_, refl, sym, ap, _∙_, subst}
-use mathlib.Core.Logic.{_⊎_, inl, inr, _↔_}
+use mathlib.Core.Logic.{_⊎_, inl, inr}
 use lib.ListN.{length}
 use lib.Dec.{leb}
-use borrow.Author.Tests.{leb-true, leb-false}
+use borrow.Author.Tests.{le-leb, leb-true, leb-false}
 use Rattle.rules.specs.declared.Triangle.{Triangle}
-use Rattle.rules.specs.declared.Operation.{Operation}
 use Rattle.rules.specs.declared.Checked.the-variants.{Accepted}
 use Rattle.rules.specs.Triangle.{trianglesOf}
 use Rattle.rules.specs.Check.{check}
 use Rattle.rules.specs.Answer.{Answer, refusal, accepted, triangle, no-triangle, numbers, packed, unpacked}
-use Rattle.rules.specs.Choice.{Packing}
-use Rattle.rules.specs.Pack.{Chosen, stopped, chosen, Most, nothingBuilt, packOf, newNumbers, PackBuffers, PackResult, packChosen, packRooms, packWithin}
+use Rattle.rules.specs.Pack.{Chosen, stopped, chosen, Most, nothingBuilt, packOf, newNumbers, PackBuffers, PackResult, packDone, packChosen, packRooms, packWithin}
 use Rattle.gap.proofs.Whole.{Complete}
 use Rattle.gap.proofs.RoundTrip.{accepted-complete}
 use Rattle.roundtrip.specs.Run.{unlimited, runLoops, NoFault, FirstFault}
 use Rattle.roundtrip.specs.Claims.{NeverStuck, PackingIsNeverStuck}
-use Rattle.roundtrip.proofs.Limits.{relimit, limitedTo, run-of, chosen-with, Judged, at-fault, no-fault, judged, one-fault, fault-or-none}
+use Rattle.roundtrip.proofs.Limits.{relimit, limitedTo, run-ends, chosen-with, Judged, at-fault, no-fault, judged, one-fault, fault-or-none}
 use Rattle.roundtrip.proofs.Results.{within-checked, stored-done, stored-refused}
 
 -- the answer by a number: 0 for a pack of l bytes, else the refusal
@@ -47,7 +45,7 @@ module _ (h : Most) (v : ℕ) (xs : List ℕ) (r : PackBuffers) (a : check v xs 
   ts = trianglesOf xs
 
   abbrev bytes : List ℕ
-  bytes = packOf v (trianglesOf xs) (run-of (trianglesOf xs) .operations) (run-of (trianglesOf xs) .last)
+  bytes = packOf v (trianglesOf xs) (run-ends (trianglesOf xs) .operations) (run-ends (trianglesOf xs) .last)
 
   -- where the answer k is due
   abbrev Due : ℕ → Type 0
@@ -66,39 +64,50 @@ module _ (h : Most) (v : ℕ) (xs : List ℕ) (r : PackBuffers) (a : check v xs 
   due-one k m (inr (inr x)) (inr (inl y)) = absurd (omega (arith, x .2, y .2))
   due-one k m (inr (inr x)) (inr (inr y)) = x .0 ∙ sym (y .0)
 
-  abbrev answer : Answer
-  answer = packWithin h v xs r .answer
-
-  chose : (c : Chosen) → limitedTo h (runLoops ts) (chosen (run-of ts .operations) (run-of ts .last)) ≡ c → packWithin h v xs r .answer ≡ packChosen v (trianglesOf xs) r c .answer
+  chose : (c : Chosen) → limitedTo h (runLoops ts) (chosen (run-ends ts .operations) (run-ends ts .last)) ≡ c → packWithin h v xs r .answer ≡ packChosen v (trianglesOf xs) r c .answer
   chose c e =
       ap (λ (p : PackResult). p .answer) (within-checked h v xs r a room)
       ∙ ap (λ (x : Chosen). packChosen v (trianglesOf xs) r x .answer) (chosen-with ts h ∙ e)
 
   due : (k : ℕ) × Due k × (packWithin h v xs r .answer ≡ answerFor (length bytes) k)
   unfolding packChosen
-  due = go (judged h (runLoops ts) (chosen (run-of ts .operations) (run-of ts .last)))
+  due = go (judged h (runLoops ts) (chosen (run-ends ts .operations) (run-ends ts .last)))
     where
       fault : (n : ℕ) → (n ≡ 9) ⊎ (n ≡ 10) → refusal n ≡ answerFor (length bytes) n
       fault n (inl e) = ap refusal e ∙ sym (ap (answerFor (length bytes)) e)
       fault n (inr e) = ap refusal e ∙ sym (ap (answerFor (length bytes)) e)
 
       stored : (t : Bool) → leb (length bytes) (length (r .pack)) ≡ t → NoFault h (runLoops ts)
-          → packWithin h v xs r .answer ≡ packChosen v (trianglesOf xs) r (chosen (run-of ts .operations) (relimit h (run-of ts .last))) .answer
+          → packWithin h v xs r .answer ≡ packChosen v (trianglesOf xs) r (chosen (run-ends ts .operations) (relimit h (run-ends ts .last))) .answer
           → (k : ℕ) × Due k × (packWithin h v xs r .answer ≡ answerFor (length bytes) k)
       stored true e x q = (
         0,
         inr (inr (refl, x, leb-true (length bytes) (length (r .pack)) e)),
-        q ∙ ap (λ (p : PackResult). p .answer) (stored-done v (newNumbers v (run-of ts .last .numbered)) bytes r e),
+        q ∙ ap (λ (p : PackResult). p .answer) (stored-done v (newNumbers v (run-ends ts .last .numbered)) bytes r e),
       )
       stored false e x q = (
         11,
         inr (inl (refl, x, (let k = leb-false (length bytes) (length (r .pack)) e in omega arith))),
-        q ∙ ap (λ (p : PackResult). p .answer) (stored-refused v (newNumbers v (run-of ts .last .numbered)) bytes r e),
+        q ∙ ap (λ (p : PackResult). p .answer) (stored-refused v (newNumbers v (run-ends ts .last .numbered)) bytes r e),
       )
 
-      go : Judged h (runLoops ts) (chosen (run-of ts .operations) (run-of ts .last)) → (k : ℕ) × Due k × (packWithin h v xs r .answer ≡ answerFor (length bytes) k)
+      go : Judged h (runLoops ts) (chosen (run-ends ts .operations) (run-ends ts .last)) → (k : ℕ) × Due k × (packWithin h v xs r .answer ≡ answerFor (length bytes) k)
       go (at-fault n w x e) = (n, inl (w, x), chose (stopped n) e ∙ fault n w)
-      go (no-fault x e) = stored (leb (length bytes) (length (r .pack))) refl x (chose (chosen (run-of ts .operations) (relimit h (run-of ts .last))) e)
+      go (no-fault x e) = stored (leb (length bytes) (length (r .pack))) refl x (chose (chosen (run-ends ts .operations) (relimit h (run-ends ts .last))) e)
+
+  -- with no operation at fault and a buffer that is long enough
+  done : NoFault h (runLoops ts) → length bytes ≤ length (r .pack)
+      → packWithin h v xs r ≡ packDone (newNumbers v (run-ends (trianglesOf xs) .last .numbered)) bytes r
+  unfolding packChosen
+  done x l = go (judged h (runLoops ts) (chosen (run-ends ts .operations) (run-ends ts .last)))
+    where
+      go : Judged h (runLoops ts) (chosen (run-ends ts .operations) (run-ends ts .last))
+          → packWithin h v xs r ≡ packDone (newNumbers v (run-ends ts .last .numbered)) bytes r
+      go (at-fault n w y e) = absurd (fault-or-none h n (runLoops ts) y x)
+      go (no-fault y e) =
+          within-checked h v xs r a room
+          ∙ (ap (packChosen v (trianglesOf xs) r) (chosen-with ts h ∙ e)
+          ∙ stored-done v (newNumbers v (run-ends ts .last .numbered)) bytes r (le-leb (length bytes) (length (r .pack)) l))
 
   told : (k : ℕ) → packWithin h v xs r .answer ≡ answerFor (length bytes) k → Due k
   told k e =
@@ -135,20 +144,21 @@ module _ (h : Most) (v : ℕ) (xs : List ℕ) (r : PackBuffers) (a : check v xs 
   by-number k (inr (inl x)) q = inr (inr (inr (q ∙ ap (answerFor (length bytes)) (x .0))))
   by-number k (inr (inr x)) q = inl (q ∙ ap (answerFor (length bytes)) (x .0))
 
-  whole : Complete (nothingBuilt (unlimited (trianglesOf xs)) (trianglesOf xs)) [] [] (run-of ts .operations) (run-of ts .last)
-  whole = accepted-complete (unlimited (trianglesOf xs)) v xs (run-of ts .operations) (run-of ts .last) a (run-of ts .does)
+  whole : Complete (nothingBuilt (unlimited (trianglesOf xs)) (trianglesOf xs)) [] [] (run-ends ts .operations) (run-ends ts .last)
+  whole = accepted-complete (unlimited (trianglesOf xs)) v xs (run-ends ts .operations) (run-ends ts .last) a (run-ends ts .does)
 
-  pub stuck-never : NeverStuck h v xs r (run-of ts .operations) (run-of ts .last)
+  pub stuck-never : NeverStuck h v (trianglesOf xs) r (packWithin h v xs r) (run-ends ts .operations) (run-ends ts .last)
   stuck-never = record {
-    run = run-of ts .does;
+    run = run-ends ts .does;
     none-left = whole .none-left;
     no-loop = whole .no-loop;
     nine = (λ e. faulty 9 (inl refl) (told 9 e), λ x. tells 9 (inl (inl refl, x)));
     ten = (λ e. faulty 10 (inr refl) (told 10 e), λ x. tells 10 (inl (inr refl, x)));
     eleven = (λ e. short (told 11 e), λ x. tells 11 (inr (inl (refl, x .0, x .1))));
     packs = (λ e. long (told 0 e), λ x. tells 0 (inr (inr (refl, x .0, x .1))));
+    packs-them = λ e. (let k = long (told 0 e) in done (k .0) (k .1));
     no-other = by-number (due .0) (due .1) (due .2);
   }
 
 pub packing-is-never-stuck : PackingIsNeverStuck
-packing-is-never-stuck h v xs r a room = (run-of (trianglesOf xs) .operations, run-of (trianglesOf xs) .last, stuck-never h v xs r a room)
+packing-is-never-stuck h v xs r a room = (run-ends (trianglesOf xs) .operations, run-ends (trianglesOf xs) .last, stuck-never h v xs r a room)

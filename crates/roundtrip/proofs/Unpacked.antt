@@ -2,14 +2,12 @@
 -- Assumes nothing.
 use Prim.Native.Nat.{ℕ}
 use mathlib.Core.List.{List, [], _∷_}
-use mathlib.Core.Path.{_≡_, refl, sym, ap, _∙_, subst}
-use lib.ListN.{length}
-use Rattle.rules.specs.declared.Counts.{Counts}
+use mathlib.Core.Path.{sym, ap, _∙_, subst}
 use Rattle.rules.specs.declared.Model.{Model}
 use Rattle.rules.specs.declared.Operation.{Operation}
 use Rattle.rules.specs.Triangle.{Edge}
 use Rattle.rules.specs.Machine.{Machine, totals}
-use Rattle.rules.specs.Book.{Book, entered, recounted}
+use Rattle.rules.specs.Book.{Book, entered}
 use Rattle.rules.specs.Buffer.{Buffers}
 use Rattle.book.specs.Consistent.{Consistent}
 use Rattle.book.proofs.Kept.{kept, empty-consistent}
@@ -17,7 +15,7 @@ use Rattle.book.proofs.Calls.{recounted-same}
 use Rattle.gap.specs.Works.{Works, w-none, w-built, w-declared}
 use Rattle.roundtrip.specs.Claims.{AcceptedRun, AcceptedUnpackingIsARun}
 use Rattle.roundtrip.proofs.Results.{UnpackedBy, unpacked-by}
-use Rattle.roundtrip.proofs.Back.{held, done, same-counts, used-is, triangles-are, list-is}
+use Rattle.roundtrip.proofs.Back.{held, used-is, triangles-are, list-is, checks}
 
 -- operations that the machine accepts keep the book consistent
 works-consistent : {m n : Machine} {os : List Operation} → Works m os n → (ds : List Edge) → Consistent (record { machine = m; borders = ds })
@@ -49,6 +47,7 @@ module _ (bytes : List ℕ) (r : Buffers) (m : Model) (u : UnpackedBy bytes r m)
         borders = book .0;
         consistent = book .1;
         list = list-is bytes r m u;
+        accepted = checks bytes r m u;
         vertices = sym (used-is bytes r m u) ∙ sym (book .1 .vertices);
         triangles = sym (triangles-are bytes r m u);
         totals = ap (λ (k : Model). k .totals) (u .model) ∙ sym (ap totals (recounted-same b (book .1)));

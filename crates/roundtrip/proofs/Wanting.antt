@@ -4,7 +4,7 @@ use Prim.Native.Nat.{ℕ, zero, suc, _+_, _-_, _≤_}
 use native.Mathlib.Omega.{arith}
 use mathlib.Core.Bool.{Bool, true, false}
 use mathlib.Core.List.{List, [], _∷_, _++_}
-use mathlib.Core.Path.{_≡_, refl, ap, _∙_}
+use mathlib.Core.Path.{_≡_, refl, ap}
 use lib.ListN.{length, take, drop, length-append, length-drop, take-append-drop}
 use lib.Dec.{leb}
 use Rattle.rules.specs.declared.Triangle.{Triangle}
@@ -22,33 +22,33 @@ pub data Want : Type 0 where
   idle : Want
   wants : Operation → List Triangle → List ℕ → List Ring → Want
 
-abbrev wanting : Operation → List Triangle → List ℕ → Effect → Want
+abbrev pub wanting : Operation → List Triangle → List ℕ → Effect → Want
 wanting o ts vs not-allowed = idle
 wanting o ts vs (builds ls t pq qr rp n k u) = wants o ts vs ls
 wanting o ts vs (marks ls d rim) = wants o ts vs ls
 
-abbrev wantTriangle : List Triangle → List Triangle → List ℕ → List Ring → ℕ → ℕ → ℕ → List Node → List Ring → Bool → Want
-wantTriangle M L N ls a b c ps ws t =
+abbrev pub wantTriangle : List Triangle → List ℕ → List Ring → ℕ → ℕ → ℕ → List Node → List Ring → Bool → Want
+wantTriangle L N ls a b c ps ws t =
     let ts = dropTriangle b a L in
     elim t [
       | false ↦ wanting New ts (N ++ (c ∷ [])) (atEdge New c a ps ws)
       | true ↦ let o = choosePlace a b c ts ls in wanting o ts N (atEdge o c a ps ws)
     ]
 
-abbrev wantAt : List Triangle → List Triangle → List ℕ → List Ring → ℕ → ℕ → List Node → List Ring → Across → Want
-wantAt M L N ls a b ps ws m =
+abbrev pub wantAt : List Triangle → List ℕ → List Ring → ℕ → ℕ → List Node → List Ring → Across → Want
+wantAt L N ls a b ps ws m =
     elim m [
       | Nothing ↦ wanting Border L N (atEdge Border 0 a ps ws)
-      | Found n k c ↦ wantTriangle M L N ls a b c ps ws (has c N)
+      | Found n k c ↦ wantTriangle L N ls a b c ps ws (has c N)
     ]
 
-abbrev wantIn : List Triangle → List Triangle → List ℕ → List Ring → List Ring → List Triangle → Want
+abbrev pub wantIn : List Triangle → List Triangle → List ℕ → List Ring → List Ring → List Triangle → Want
 wantIn M L N all [] [] = idle
 wantIn M L N all [] (t ∷ ts) =
     wants Start ts (N ++ (t .p ∷ (t .q ∷ (t .r ∷ [])))) ((opened (t .p) ∷ (opened (t .q) ∷ (opened (t .r) ∷ []))) ∷ [])
 wantIn M L N all ([] ∷ ws) ts = idle
 wantIn M L N all ((e ∷ ps) ∷ ws) ts =
-    wantAt M L N all (vertex e) (startOr (vertex e) ps) ps ws (across (startOr (vertex e) ps) (vertex e) M)
+    wantAt L N all (vertex e) (startOr (vertex e) ps) ps ws (across (startOr (vertex e) ps) (vertex e) M)
 
 abbrev pub want : Packing → Want
 want s = wantIn (s .mesh) (s .left) (s .numbered) (s .loops) (s .loops) (s .left)
@@ -64,7 +64,7 @@ taking-want o s ts vs (builds ls t pq qr rp n k u) = refl
 taking-want o s ts vs (marks ls d rim) = refl
 
 at-want : (s : Packing) (a b : ℕ) (ps : List Node) (ws : List Ring)
-    → chooseAt s a b ps ws ≡ doing s (wantAt (s .mesh) (s .left) (s .numbered) (s .loops) a b ps ws (across b a (s .mesh)))
+    → chooseAt s a b ps ws ≡ doing s (wantAt (s .left) (s .numbered) (s .loops) a b ps ws (across b a (s .mesh)))
 unfolding chooseAt
 at-want s a b ps ws = go (across b a (s .mesh))
   where
@@ -74,7 +74,7 @@ at-want s a b ps ws = go (across b a (s .mesh))
           | false ↦ taking New s (dropTriangle b a (s .left)) (s .numbered ++ (c ∷ [])) (atEdge New c a ps ws)
           | true ↦ taking (choosePlace a b c (dropTriangle b a (s .left)) (s .loops)) s (dropTriangle b a (s .left)) (s .numbered) (atEdge (choosePlace a b c (dropTriangle b a (s .left)) (s .loops)) c a ps ws)
         ])
-        (doing s (wantTriangle (s .mesh) (s .left) (s .numbered) (s .loops) a b c ps ws t))
+        (doing s (wantTriangle (s .left) (s .numbered) (s .loops) a b c ps ws t))
     found c true = taking-want _ s _ _ _
     found c false = taking-want _ s _ _ _
 
@@ -87,7 +87,7 @@ at-want s a b ps ws = go (across b a (s .mesh))
             | true ↦ taking (choosePlace a b c (dropTriangle b a (s .left)) (s .loops)) s (dropTriangle b a (s .left)) (s .numbered) (atEdge (choosePlace a b c (dropTriangle b a (s .left)) (s .loops)) c a ps ws)
           ]
         ])
-        (doing s (wantAt (s .mesh) (s .left) (s .numbered) (s .loops) a b ps ws m))
+        (doing s (wantAt (s .left) (s .numbered) (s .loops) a b ps ws m))
     go Nothing = taking-want Border s (s .left) (s .numbered) (atEdge Border 0 a ps ws)
     go (Found n k c) = found c (has c (s .numbered))
 
@@ -180,12 +180,12 @@ wanting-grown p l o ts vs not-allowed h = tt
 wanting-grown p l o ts vs (builds ls t pq qr rp n k u) h = (omega (arith, h .0), h .1)
 wanting-grown p l o ts vs (marks ls d rim) h = (omega (arith, h .0), h .1)
 
-at-grown : (M L : List Triangle) (N : List ℕ) (all : List Ring) (a b : ℕ) (ps : List Node) (ws : List Ring) (m : Across)
-    → Grown (suc (length ps) + places ws) (suc (length ws)) (wantAt M L N all a b ps ws m)
-at-grown M L N all a b ps ws Nothing = wanting-grown _ _ Border L N (atEdge Border 0 a ps ws) (edge-grows Border 0 a ps ws)
-at-grown M L N all a b ps ws (Found n k c) = go (has c N)
+at-grown : (L : List Triangle) (N : List ℕ) (all : List Ring) (a b : ℕ) (ps : List Node) (ws : List Ring) (m : Across)
+    → Grown (suc (length ps) + places ws) (suc (length ws)) (wantAt L N all a b ps ws m)
+at-grown L N all a b ps ws Nothing = wanting-grown _ _ Border L N (atEdge Border 0 a ps ws) (edge-grows Border 0 a ps ws)
+at-grown L N all a b ps ws (Found n k c) = go (has c N)
   where
-    go : (t : Bool) → Grown (suc (length ps) + places ws) (suc (length ws)) (wantTriangle M L N all a b c ps ws t)
+    go : (t : Bool) → Grown (suc (length ps) + places ws) (suc (length ws)) (wantTriangle L N all a b c ps ws t)
     go true =
         let o = choosePlace a b c (dropTriangle b a L) all in wanting-grown _ _ o (dropTriangle b a L) N (atEdge o c a ps ws) (edge-grows o c a ps ws)
     go false = wanting-grown _ _ New (dropTriangle b a L) (N ++ (c ∷ [])) (atEdge New c a ps ws) (edge-grows New c a ps ws)
@@ -196,7 +196,7 @@ in-grown M L N all [] [] = tt
 in-grown M L N all [] (t ∷ ts) = (omega arith, omega arith)
 in-grown M L N all ([] ∷ ws) ts = tt
 in-grown M L N all ((e ∷ ps) ∷ ws) ts =
-    at-grown M L N all (vertex e) (startOr (vertex e) ps) ps ws (across (startOr (vertex e) ps) (vertex e) M)
+    at-grown L N all (vertex e) (startOr (vertex e) ps) ps ws (across (startOr (vertex e) ps) (vertex e) M)
 
 pub want-grown : (s : Packing) → Grown (places (s .loops)) (length (s .loops)) (want s)
 want-grown s = in-grown (s .mesh) (s .left) (s .numbered) (s .loops) (s .loops) (s .left)

@@ -1,6 +1,6 @@
 -- Demand 2: packing is never stuck, each triangle is unpacked once, every accepted pack is the pack of its list.
 -- Assumes nothing.
-use Prim.Native.Nat.{ℕ, suc, _*_, _≤_, _<_}
+use Prim.Native.Nat.{ℕ, _*_, _≤_, _<_}
 use mathlib.Core.Bool.{true}
 use mathlib.Core.List.{List, [], _∷_}
 use mathlib.Core.Path.{_≡_}
@@ -21,10 +21,10 @@ use Rattle.rules.specs.Across.{across}
 use Rattle.rules.specs.Check.{check}
 use Rattle.rules.specs.Ring.{Node, Ring, vertex, startOr, places}
 use Rattle.rules.specs.Table.{Side, glued, builds, effect, edgeRule}
-use Rattle.rules.specs.Answer.{Answer, refusal, packed, unpacked}
+use Rattle.rules.specs.Answer.{refusal, packed, unpacked}
 use Rattle.rules.specs.Fields.{fields, fieldsOf}
 use Rattle.rules.specs.Choice.{Packing, has, operationFor, sizeOf, limited, choose}
-use Rattle.rules.specs.Pack.{chosen, Most, most, chosenFor, packOf, PackBuffers, PackResult, packRooms, packWithin, pack}
+use Rattle.rules.specs.Pack.{chosen, Most, chosenFor, packOf, newNumbers, PackBuffers, PackResult, packDone, packRooms, packWithin, pack}
 use Rattle.rules.specs.Buffer.{Buffers}
 use Rattle.rules.specs.Machine.{Machine, empty, totals}
 use Rattle.rules.specs.Book.{recounted}
@@ -32,30 +32,32 @@ use Rattle.rules.specs.Bits.{bitsOfBytes}
 use Rattle.rules.specs.Unpack.{numbersOf, UnpackResult, unpack}
 use Rattle.book.specs.Consistent.{Consistent}
 use Rattle.gap.specs.Works.{Works, Reads}
-use Rattle.gap.specs.Turn.{In, Once}
+use Rattle.fans.specs.Corner.{In, Once}
 use Rattle.codes.specs.Shape.{Bytes}
-use Rattle.roundtrip.specs.Run.{unlimited, runLoops, NoFault, FirstFault, peakOf, Reached}
+use Rattle.roundtrip.specs.Run.{unlimited, runLoops, buildOrder, startsOf, NoFault, FirstFault, peakOf, Reached}
 use Rattle.roundtrip.specs.Right.{RightPlace}
 
 -- 1. Never stuck. Without limits the packer comes to the end of an accepted list; what limits change is told by 9 and 10, and
 -- by nothing else but 11.
-pub record NeverStuck (h : Most) (v : ℕ) (xs : List ℕ) (r : PackBuffers) (operations : List Operation) (last : Packing) : Type 0 where
-  pub run : chosenFor (unlimited (trianglesOf xs)) (trianglesOf xs) ≡ chosen operations last
+pub record NeverStuck (h : Most) (v : ℕ) (ts : List Triangle) (r : PackBuffers) (p : PackResult) (operations : List Operation) (last : Packing) : Type 0 where
+  pub run : chosenFor (unlimited ts) ts ≡ chosen operations last
   pub none-left : last .left ≡ []
   pub no-loop : last .loops ≡ []
-  pub nine : (packWithin h v xs r .answer ≡ refusal 9) ↔ FirstFault h 9 (runLoops (trianglesOf xs))
-  pub ten : (packWithin h v xs r .answer ≡ refusal 10) ↔ FirstFault h 10 (runLoops (trianglesOf xs))
-  pub eleven : (packWithin h v xs r .answer ≡ refusal 11)
-      ↔ (NoFault h (runLoops (trianglesOf xs)) × (length (r .pack) < length (packOf v (trianglesOf xs) operations last)))
-  pub packs : (packWithin h v xs r .answer ≡ packed (length (packOf v (trianglesOf xs) operations last)))
-      ↔ (NoFault h (runLoops (trianglesOf xs)) × (length (packOf v (trianglesOf xs) operations last) ≤ length (r .pack)))
-  pub no-other : (packWithin h v xs r .answer ≡ packed (length (packOf v (trianglesOf xs) operations last)))
-      ⊎ ((packWithin h v xs r .answer ≡ refusal 9) ⊎ ((packWithin h v xs r .answer ≡ refusal 10) ⊎ (packWithin h v xs r .answer ≡ refusal 11)))
+  pub nine : (p .answer ≡ refusal 9) ↔ FirstFault h 9 (runLoops ts)
+  pub ten : (p .answer ≡ refusal 10) ↔ FirstFault h 10 (runLoops ts)
+  pub eleven : (p .answer ≡ refusal 11) ↔ (NoFault h (runLoops ts) × (length (r .pack) < length (packOf v ts operations last)))
+  pub packs : (p .answer ≡ packed (length (packOf v ts operations last)))
+      ↔ (NoFault h (runLoops ts) × (length (packOf v ts operations last) ≤ length (r .pack)))
+  -- what it packs is what it would pack without limits
+  pub packs-them : p .answer ≡ packed (length (packOf v ts operations last))
+      → p ≡ packDone (newNumbers v (last .numbered)) (packOf v ts operations last) r
+  pub no-other : (p .answer ≡ packed (length (packOf v ts operations last)))
+      ⊎ ((p .answer ≡ refusal 9) ⊎ ((p .answer ≡ refusal 10) ⊎ (p .answer ≡ refusal 11)))
 
--- on every list that passes 1 to 7 and all buffers that pass 8
+-- on every list that passes 1 to 7 and all buffers that pass 8, for any limits; p is what the packing does
 abbrev pub PackingIsNeverStuck : Type 0
 PackingIsNeverStuck = (h : Most) (v : ℕ) (xs : List ℕ) (r : PackBuffers) → check v xs ≡ Accepted → packRooms v r ≡ true
-    → (operations : List Operation) × (last : Packing) × NeverStuck h v xs r operations last
+    → (operations : List Operation) × (last : Packing) × NeverStuck h v (trianglesOf xs) r (packWithin h v xs r) operations last
 
 -- B are the triangles that a packing has built: those of its list that are not left
 abbrev pub Built : Packing → List Triangle → Type 0
@@ -109,33 +111,36 @@ written n u = trianglesOf (take (3 * n) (u .buffers .triangles))
 abbrev pub newNumber : PackResult → ℕ → ℕ
 newNumber p x = getD (p .buffers .numbering) x 0
 
--- p is what the packing did, u what the unpacking of its pack did
-pub record EachOnce (v : ℕ) (xs : List ℕ) (p : PackResult) (u : UnpackResult) : Type 0 where
+-- unpacking has room for n triangles
+abbrev pub RoomFor : ℕ → Buffers → Type 0
+RoomFor n r = (3 * n ≤ length (r .triangles)) × (maxPlaces ≤ length {A = Place} (r .places))
+
+-- p is what the packing of the triangles ts did, u what the unpacking of its pack did
+pub record EachOnce (v : ℕ) (ts : List Triangle) (p : PackResult) (u : UnpackResult) : Type 0 where
   pub totals : Totals
-  pub accepted : u .answer ≡ unpacked (record { vertices = v; triangles = length (trianglesOf xs); totals = totals })
+  pub accepted : u .answer ≡ unpacked (record { vertices = v; triangles = length ts; totals = totals })
   pub numbering : OneToOne v (newNumber p)
-  -- the list's triangles in the order in which they are built
-  pub order : List Triangle
-  pub rearranged : Rearranged (trianglesOf xs) order
-  pub unpacked : written (length (trianglesOf xs)) u ≡ renumbered (newNumber p) order
-  -- and so the same of the triangles unpacked
-  pub once : Once (written (length (trianglesOf xs)) u)
+  -- the list's triangles, in building order, are those unpacked, under their new numbers
+  pub rearranged : Rearranged ts (buildOrder ts)
+  pub unpacked : written (length ts) u ≡ renumbered (newNumber p) (buildOrder ts)
+  pub once : Once (written (length ts) u)
 
 abbrev pub EachTriangleOnce : Type 0
 EachTriangleOnce = (v : ℕ) (xs : List ℕ) (r : PackBuffers) (n : ℕ) → pack v xs r .answer ≡ packed n
-    → (r′ : Buffers) → 3 * length (trianglesOf xs) ≤ length (r′ .triangles) → maxPlaces ≤ length {A = Place} (r′ .places)
-    → EachOnce v xs (pack v xs r) (unpack (take n (pack v xs r .buffers .pack)) r′)
+    → (r′ : Buffers) → RoomFor (length (trianglesOf xs)) r′
+    → EachOnce v (trianglesOf xs) (pack v xs r) (unpack (take n (pack v xs r .buffers .pack)) r′)
 
--- 3. Every accepted pack is the pack of its list: m is the answer, xs the list that is written
+-- 3. Every accepted pack is the pack of its list. A packing p gives these bytes, and each vertex below v its own number
+pub record Gives (bytes : List ℕ) (v : ℕ) (p : PackResult) : Type 0 where
+  pub same-length : p .answer ≡ packed (length bytes)
+  pub same-bytes : take (length bytes) (p .buffers .pack) ≡ bytes
+  pub same-numbers : (x : ℕ) → x < v → newNumber p x ≡ x
+
+-- m is what the unpacking answers, xs the list that it writes
 pub record PackOf (bytes : List ℕ) (m : Model) (xs : List ℕ) : Type 0 where
   pub accepted : check (m .vertices) xs ≡ Accepted
   pub count : length (trianglesOf xs) ≡ m .triangles
-  pub same-length : (r : PackBuffers) → packRooms (m .vertices) r ≡ true → length bytes ≤ length (r .pack)
-      → pack (m .vertices) xs r .answer ≡ packed (length bytes)
-  pub same-bytes : (r : PackBuffers) → packRooms (m .vertices) r ≡ true → length bytes ≤ length (r .pack)
-      → take (length bytes) (pack (m .vertices) xs r .buffers .pack) ≡ bytes
-  pub same-numbers : (r : PackBuffers) → packRooms (m .vertices) r ≡ true → length bytes ≤ length (r .pack)
-      → (x : ℕ) → x < m .vertices → newNumber (pack (m .vertices) xs r) x ≡ x
+  pub packs : (r : PackBuffers) → packRooms (m .vertices) r ≡ true → length bytes ≤ length (r .pack) → Gives bytes (m .vertices) (pack (m .vertices) xs r)
 
 abbrev pub listIn : Model → UnpackResult → List ℕ
 listIn m u = take (3 * m .triangles) (u .buffers .triangles)
@@ -162,11 +167,36 @@ SameAnswerInAllBuffers = (v : ℕ) (xs : List ℕ) (r r′ : PackBuffers) → le
     → length {A = Place} (r .places) ≡ length {A = Place} (r′ .places) → length (r .pack) ≡ length (r′ .pack)
     → pack v xs r .answer ≡ pack v xs r′ .answer
 
--- the counts that a pack states are V, T and the peaks of its own run
+-- the same triangles, in any order and each from any of its corners on
+abbrev pub SameTriangles : List ℕ → List ℕ → Type 0
+SameTriangles xs ys = (x y z : ℕ) → In x y z (trianglesOf xs) ↔ In x y z (trianglesOf ys)
+
+-- Packing does not depend on the order of the triangles, or on the corner that each is listed from, but for those that a start begins with
+abbrev pub SameStartsSamePacking : Type 0
+SameStartsSamePacking = (v : ℕ) (xs ys : List ℕ) (r : PackBuffers) → check v xs ≡ Accepted → check v ys ≡ Accepted
+    → SameTriangles xs ys → startsOf (trianglesOf xs) ≡ startsOf (trianglesOf ys)
+    → pack v xs r ≡ pack v ys r
+
+-- and lists with the same triangles, whatever their starts, unpack to the same model: up to the numbers of its vertices
+abbrev pub SameTrianglesSameModel : Type 0
+SameTrianglesSameModel = (v : ℕ) (xs ys : List ℕ) (r q : PackBuffers) (n m : ℕ) → pack v xs r .answer ≡ packed n → pack v ys q .answer ≡ packed m
+    → SameTriangles xs ys → (r′ q′ : Buffers) → RoomFor (length (trianglesOf xs)) r′ → RoomFor (length (trianglesOf ys)) q′
+    → (f : ℕ → ℕ) × OneToOne v f
+    × Rearranged (renumbered f (written (length (trianglesOf xs)) (unpack (take n (pack v xs r .buffers .pack)) r′)))
+    (written (length (trianglesOf ys)) (unpack (take m (pack v ys q .buffers .pack)) q′))
+
+-- the counts that a pack states are V, T and the peaks of the list's run
+abbrev pub trueCounts : ℕ → List Triangle → Counts
+trueCounts v ts = record {
+  vertices = v;
+  triangles = length ts;
+  places = peakOf places 0 (runLoops ts);
+  loops = peakOf length 0 (runLoops ts);
+}
+
 abbrev pub StatedPeaksAreTrue : Type 0
 StatedPeaksAreTrue = (v : ℕ) (xs : List ℕ) (r : PackBuffers) (n : ℕ) → pack v xs r .answer ≡ packed n
-    → (ops : List ℕ) × (fieldsOf (take n (pack v xs r .buffers .pack))
-    ≡ fields (record { vertices = v; triangles = length (trianglesOf xs); places = peakOf places 0 (runLoops (trianglesOf xs)); loops = peakOf length 0 (runLoops (trianglesOf xs)) }) ops)
+    → (ops : List ℕ) × (fieldsOf (take n (pack v xs r .buffers .pack)) ≡ fields (trueCounts v (trianglesOf xs)) ops)
 
 -- An accepted unpacking is the machine's run over the operations that are read; its answer is counted anew from its triangles
 pub record AcceptedRun (bytes : List ℕ) (r : Buffers) (m : Model) : Type 0 where
@@ -182,6 +212,7 @@ pub record AcceptedRun (bytes : List ℕ) (r : Buffers) (m : Model) : Type 0 whe
   pub borders : List Edge
   pub consistent : Consistent (record { machine = end; borders = borders })
   pub list : listIn m (unpack bytes r) ≡ numbersOf (end .triangles)
+  pub accepted : check (m .vertices) (listIn m (unpack bytes r)) ≡ Accepted
   pub vertices : m .vertices ≡ different (corners (end .triangles))
   pub triangles : m .triangles ≡ length (end .triangles)
   pub totals : m .totals ≡ totals (recounted end)

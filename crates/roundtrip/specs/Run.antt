@@ -1,20 +1,21 @@
 -- The run of the packer without limits, and the first of its operations that exceeds some limits.
 -- Assumes nothing.
 use Prim.Native.Nat.{ℕ, zero, suc, _+_, _*_, _≤_, _<_, max}
-use mathlib.Core.List.{List, [], _∷_}
+use mathlib.Core.List.{List, [], _∷_, _++_}
 use mathlib.Core.Path.{_≡_}
 use lib.ListN.{length}
 use Rattle.rules.specs.declared.Triangle.{Triangle}
 use Rattle.rules.specs.declared.Operation.{Operation}
 use Rattle.rules.specs.Ring.{Ring, places}
 use Rattle.rules.specs.Choice.{Packing, ended, refuses, takes, choose}
-use Rattle.rules.specs.Pack.{Most, nothingBuilt}
+use Rattle.rules.specs.Pack.{Most, most, nothingBuilt}
+use Rattle.gap.specs.Building.{builtBy}
 
 -- by so many operations a list of triangles is packed
 abbrev pub enough : List Triangle → ℕ
 enough ts = 4 * length ts + 1
 
--- limits that the list's packing never meets (`run-ends`): an operation adds at most three places and one loop
+-- limits that the list's packing never exceeds (`run-ends`): an operation adds at most three places and one loop
 abbrev pub unlimited : List Triangle → Most
 unlimited ts = record { places = 3 * enough ts; loops = enough ts }
 
@@ -26,6 +27,24 @@ loopsAfter (suc n) s = elim (choose s) [ ended ↦ [] | refuses k ↦ [] | takes
 -- and those of the run without limits
 abbrev pub runLoops : List Triangle → List (List Ring)
 runLoops ts = loopsAfter (enough ts) (nothingBuilt (unlimited ts) ts)
+
+-- the list's triangles in the order of building: a start as listed, any other as b a c at the current edge a→b
+abbrev pub buildOrder : List Triangle → List Triangle
+buildOrder ts = builtBy (enough ts) (nothingBuilt most ts)
+
+-- the triangle of a start, where it is one
+abbrev pub startOf : List Ring → List Triangle → List Triangle
+startOf [] [] = []
+startOf [] (t ∷ ts) = t ∷ []
+startOf (l ∷ ls) ts = []
+
+-- those of at most n operations, and of the whole list
+unfoldable pub startsBy : ℕ → Packing → List Triangle
+startsBy zero s = []
+startsBy (suc n) s = elim (choose s) [ ended ↦ [] | refuses k ↦ [] | takes o s′ ↦ startOf (s .loops) (s .left) ++ startsBy n s′ ]
+
+abbrev pub startsOf : List Triangle → List Triangle
+startsOf ts = startsBy (enough ts) (nothingBuilt most ts)
 
 -- no operation exceeds the limits
 abbrev pub NoFault : Most → List (List Ring) → Type 0
