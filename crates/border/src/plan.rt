@@ -39,6 +39,7 @@ fn plan_at(m: &[u16], l: Loops, c: u16, qr: u16, rp: u16, v: u16, k: u16, p: u16
     }
 }
 
+// New: c is the next unused number u, and both a→c and c→b are new edges.
 pub(crate) fn new_plan(m: &[u16], n: usize, l: Loops, u: u16) -> Decided
     requires { ⌜ Near n l (now m) ⌝ }
     ensures { λ r. ⌜ r ≡ newPlan l (now (m .entry)) u ⌝ }
@@ -46,6 +47,7 @@ pub(crate) fn new_plan(m: &[u16], n: usize, l: Loops, u: u16) -> Decided
     Decided::Builds(plan_at(m, l, u, 1, 1, 1, 0, 0))
 }
 
+// Forward, with four places or more and the edge after b open: c is the vertex after b, and a→c is a new edge.
 pub(crate) fn forward_plan(m: &[u16], n: usize, l: Loops) -> Decided
     requires { ⌜ Near n l (now m) ⌝ }
     ensures { λ r. ⌜ r ≡ forwardPlan l (now (m .entry)) ⌝ }
@@ -64,6 +66,7 @@ pub(crate) fn forward_plan(m: &[u16], n: usize, l: Loops) -> Decided
     Decided::Refused(16)
 }
 
+// Backward, with four places or more and the edge into a open: c is the vertex before a, and c→b is a new edge.
 pub(crate) fn backward_plan(m: &[u16], n: usize, l: Loops) -> Decided
     requires { ⌜ Near n l (now m) ⌝ }
     ensures { λ r. ⌜ r ≡ backwardPlan l (now (m .entry)) ⌝ }
@@ -81,6 +84,7 @@ pub(crate) fn backward_plan(m: &[u16], n: usize, l: Loops) -> Decided
     Decided::Refused(16)
 }
 
+// Border: the edge from a to b is to be marked.
 pub(crate) fn border_plan(m: &[u16], n: usize, l: Loops) -> Decided
     requires { ⌜ Near n l (now m) ⌝ }
     ensures { λ r. ⌜ r ≡ borderPlan l (now (m .entry)) ⌝ }
@@ -92,6 +96,7 @@ pub(crate) fn border_plan(m: &[u16], n: usize, l: Loops) -> Decided
     Decided::Marks(a, b)
 }
 
+// Split i, with 2 ≤ i ≤ k − 3 of k places: c is i places after b, and both its edges are new.
 pub(crate) fn split_plan(m: &[u16], n: usize, l: Loops, i: u16) -> Decided
     requires { ⌜ Near n l (now m) ⌝ }
     ensures { λ r. ⌜ r ≡ splitPlan l (now (m .entry)) i ⌝ }
@@ -110,6 +115,7 @@ pub(crate) fn split_plan(m: &[u16], n: usize, l: Loops, i: u16) -> Decided
     Decided::Builds(plan_at(m, l, v, 1, 1, 0, 0, c))
 }
 
+// Close, with three places and all edges open: c is the third, and no edge is new.
 pub(crate) fn close_plan(m: &[u16], n: usize, l: Loops) -> Decided
     requires { ⌜ Near n l (now m) ⌝ }
     ensures { λ r. ⌜ r ≡ closePlan l (now (m .entry)) ⌝ }
@@ -131,6 +137,7 @@ pub(crate) fn close_plan(m: &[u16], n: usize, l: Loops) -> Decided
     Decided::Refused(16)
 }
 
+// Union p j, with waiting loop p there and j below its places: c is j places after the start of its current edge.
 pub(crate) fn union_plan(m: &[u16], n: usize, l: Loops, p: u16, j: u16) -> Decided
     requires { ⌜ Near n l (now m) ⌝ }
     ensures { λ r. ⌜ r ≡ unionPlan n l (now (m .entry)) p j ⌝ }
@@ -153,6 +160,7 @@ pub(crate) fn union_plan(m: &[u16], n: usize, l: Loops, p: u16, j: u16) -> Decid
     Decided::Refused(16)
 }
 
+// Start: the triangle of the next three unused numbers, all of whose edges are new.
 pub(crate) fn start_plan(u: u16) -> Decided
     requires { ⌜ u ≤ 4096 ⌝ }
     ensures { λ r. ⌜ r ≡ startPlan u ⌝ }

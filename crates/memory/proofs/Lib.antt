@@ -18,3 +18,4 @@ pub mod Ready
 pub mod Performing
 pub mod Performed
 pub mod Fresh
+pub mod Next

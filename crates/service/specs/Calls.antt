@@ -1,0 +1,24 @@
+-- What the service's calls over the lent list of place records promise.
+-- Assumes nothing.
+use Prim.Native.Nat.{ℕ}
+use mathlib.Core.List.{List}
+use mathlib.Core.Path.{_≡_}
+use Rattle.rules.specs.declared.Place.{Place}
+use Rattle.rules.specs.declared.Unpacked.{Unpacked}
+use Rattle.rules.specs.Answer.{unpackedAnswer}
+use Rattle.rules.specs.Buffer.{Buffers}
+use Rattle.rules.specs.Unpack.{unpack}
+use Rattle.unpacking.specs.Lent.{UnpackedOn}
+
+abbrev pub lentTo : List ℕ → List Place → Buffers
+lentTo ts ps = record { triangles = ts; places = ps }
+
+-- what the core promises, its arguments in the order of the call
+abbrev pub UnpacksOn : List ℕ → List ℕ → List ℕ → ℕ → Unpacked → List ℕ → List ℕ → Type 0
+UnpacksOn bytes ts m n r ts′ m′ = UnpackedOn bytes n ts m r ts′ m′
+
+-- an unpacking: its answer, and both buffers afterwards, accepted and refused alike
+pub record Unpacks (bytes ts : List ℕ) (ps : List Place) (r : Unpacked) (ts′ : List ℕ) (ps′ : List Place) : Type 0 where
+  pub answer : unpackedAnswer r ≡ unpack bytes (lentTo ts ps) .answer
+  pub triangles : ts′ ≡ unpack bytes (lentTo ts ps) .buffers .triangles
+  pub places : ps′ ≡ unpack bytes (lentTo ts ps) .buffers .places

@@ -1,0 +1,64 @@
+-- `unpacker::step::build_triangle` meets its contract: 18 leaves all as it was; else buffer, chains and memory hold the triangle.
+-- Assumes nothing.
+use mathlib.Core.Path.{refl}
+use borrow.Author.Needs.{needs}
+use Rattle.unpacking.proofs.Operating.{held-ready, operate-ruled, operate-room, operate-beyond, operate-built}
+use Rattle.unpacker.proofs.step.build_triangle.Statement.{statement}
+use Rattle.unpacker.proofs.step.build_triangle.Tie as tie
+
+is-ruled-requires : tie.Need-is-ruled-requires
+is-ruled-requires c κs = search needs
+
+same-length : tie.Need-same-length
+same-length c = search needs
+
+returns : tie.Need-returns
+returns c =
+    let a = c .before .before .before .before .before .before in
+    (operate-ruled (a .args .o) (a .args .next) (a .args .s) (a .args .triangles .now) (a .args .m .now) (a .args .chains .now) (a .args .p) (a .pre .1) _ (c .before .is-ruled .ensures) (c .if1 .taken), refl)
+
+cast-n : tie.Need-cast-n
+cast-n c = search needs
+
+put-triangle-requires : tie.Need-put-triangle-requires
+put-triangle-requires c κs =
+    let e = c .before .before .before in
+    let a = e .before .before .before .before .before .before in
+    operate-room (a .args .o) (a .args .next) (a .args .s) (a .args .triangles .now) (a .args .m .now) (a .args .chains .now) (a .args .p) (a .pre .1) _ (e .before .is-ruled .ensures) (e .if1 .left) (a .pre .0)
+
+link-requires : tie.Need-link-requires
+link-requires c κs = search needs
+
+build-requires : tie.Need-build-requires
+build-requires c κs = let a = c .before .before .before .before .before .before .before .before .before .before .before .before .before .before .before in (held-ready (a .args .s) (a .args .triangles .now) (a .args .m .now) (a .args .chains .now) (a .pre .0), a .pre .1)
+
+same-length-2 : tie.Need-same-length-2
+same-length-2 c = search needs
+
+same-length-3 : tie.Need-same-length-3
+same-length-3 c = search needs
+
+returns-2 : tie.Need-returns-2
+returns-2 c =
+    let e = c .before .before .before .before .before .before .before .before .before .before .before .before in
+    let a = e .before .before .before .before .before .before in
+    let t = c .before .before .before .before .before .before .before .before .put-triangle .ensures in (
+      operate-built (a .args .o) (a .args .next) (a .args .s) (a .args .triangles .now) (a .args .m .now) (a .args .chains .now) (a .args .p) (a .pre .1) _ (e .before .is-ruled .ensures) (e .if1 .left) _ (c .before .before .build .ensures .0) _ t _
+          (c .before .before .build .ensures .1) _ (c .before .before .before .before .link .ensures),
+      operate-beyond (a .args .o) (a .args .next) (a .args .s) (a .args .triangles .now) (a .args .m .now) (a .args .chains .now) (a .args .p) (a .pre .1) _ (e .before .is-ruled .ensures) (e .if1 .left) (a .pre .0) _ t,
+    )
+
+pub build-triangle-spec : {M : Type 1} → statement M
+build-triangle-spec =
+    tie.close
+    (tie.spec
+    is-ruled-requires
+    same-length
+    returns
+    cast-n
+    put-triangle-requires
+    link-requires
+    build-requires
+    same-length-2
+    same-length-3
+    returns-2)

@@ -1,0 +1,73 @@
+// Unpacking: a pack's operations are run on the cut-border, and the model is tested. What the contracts cite stands in the crate
+// unpacking.
+mod buffers; // what the buffers are left with
+mod conclude; // 19, 20, and the answer
+mod rule; // the edge rule
+pub mod step; // one operation, and the run of them
+
+use crate::buffers::clear;
+use crate::buffers::tidy;
+use crate::conclude::answer_of;
+use crate::step::run;
+use border::begin;
+use mesh::CORNERS;
+use mesh::VERTICES;
+use rules::Counts;
+use rules::Unpacked;
+use wire::fields::PackFields;
+use wire::fields::fields_of;
+ghost use mathlib.Core.Path.{_≡_};
+ghost use Prim.Native.Nat.{ℕ};
+ghost use Rattle.rules.specs.declared.Unpacked.the-variants as Unpacks;
+ghost use Rattle.wire.specs.declared.fields.PackFields.the-variants as Packs;
+ghost use Rattle.unpacking.specs.Lent.{UnpackedOn, Fitting, RunGives};
+
+// How many places the memory has, how many numbers their records are, and how many all the memory has.
+const PLACES: usize = 1024;
+
+const RECORDS: usize = 4096;
+
+const MEMORY: usize = 5320;
+
+// The refusal of a pack's fields, 12 or 13, as the unpacking's.
+fn refusal_of(f: PackFields) -> Unpacked
+    ensures { λ r. ⌜ ((k : ℕ) → f ≡ Packs.Refused k → r ≡ Unpacks.Refused k) ⌝ }
+{
+    match f {
+        PackFields::Refused(k) => Unpacked::Refused(k),
+        PackFields::Found(_, _, _) => Unpacked::Refused(12),
+    }
+}
+
+// Unpacks operations that got past 14: the model is built and tested, and the memory's records are left zero.
+fn unpack_operations(ops: &[u8], stated: Counts, triangles: &mut [u16], m: &mut [u16]) -> Unpacked
+    requires { ⌜ Fitting stated (now ops) (now triangles) (now m) ⌝ }
+    ensures { λ r. ⌜ RunGives stated (now (ops .entry)) (now (triangles .entry)) r (now (triangles .exit)) (now (m .exit)) ⌝ }
+{
+    let mut chains = [0u16; VERTICES + CORNERS];
+    let start = begin(m, PLACES, stated);
+    let budget = 8 * ops.len() + 1;
+    let end = run(ops, start, budget, triangles, m, &mut chains);
+    clear(m, RECORDS);
+    let answer = answer_of(ops, end, triangles, &chains);
+    tidy(triangles, 3 * (stated.triangles as usize), answer);
+    answer
+}
+
+// Unpacks any bytes into any triangle buffer, with n place records that were lent: m has the first 1,024 of them as numbers, and
+// room after them to work in. Past 14 the records are left zero; before it nothing changes.
+pub fn unpack_on(pack: &[u8], triangles: &mut [u16], m: &mut [u16; MEMORY], n: usize) -> Unpacked
+    ensures { λ r. ⌜ UnpackedOn (now (pack .entry)) n (now (triangles .entry)) (now (m .entry)) r (now (triangles .exit)) (now (m .exit)) ⌝ }
+{
+    let fields = fields_of(pack);
+    let PackFields::Found(stated, from, to) = fields else {
+        return refusal_of(fields);
+    };
+    if triangles.len() < 3 * (stated.triangles as usize) {
+        return Unpacked::Refused(14);
+    }
+    if n < PLACES {
+        return Unpacked::Refused(14);
+    }
+    unpack_operations(&pack[from..to], stated, triangles, m)
+}

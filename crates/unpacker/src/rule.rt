@@ -1,0 +1,85 @@
+// The edge rule (18), by look-ups in the corner chains: a side that glues nothing joins two vertices that no triangle joins yet.
+use memory::Plan;
+use mesh::Links;
+use mesh::is_free;
+use rules::Operation;
+use rules::Triangle;
+ghost use mathlib.Core.Path.{_≡_};
+ghost use Rattle.rules.specs.Triangle.{distinct};
+ghost use Rattle.unpacking.specs.Rule.{isTested, UnjoinedIs, SideIs, PlanIs, RuleIs};
+
+// Whether no triangle in the chains joins x and y, either way round.
+fn is_unjoined(list: &[u16], chains: &Links, x: u16, y: u16) -> bool
+    ensures { λ b. ⌜ UnjoinedIs (now (list .entry)) (now (chains .entry)) x y b ⌝ }
+{
+    if !is_free(list, chains, x, y) {
+        return false;
+    }
+    is_free(list, chains, y, x)
+}
+
+// Whether a side x→y of a plan passes: it glues an edge (0), or joins what is not joined.
+fn is_side(list: &[u16], chains: &Links, side: u16, x: u16, y: u16) -> bool
+    ensures { λ b. ⌜ SideIs (now (list .entry)) (now (chains .entry)) side x y b ⌝ }
+{
+    if side == 0 {
+        return true;
+    }
+    is_unjoined(list, chains, x, y)
+}
+
+// Whether a triangle's vertices differ.
+fn is_distinct(t: Triangle) -> bool
+    ensures { λ b. ⌜ b ≡ distinct t ⌝ }
+{
+    if t.p == t.q {
+        return false;
+    }
+    if t.q == t.r {
+        return false;
+    }
+    t.r != t.p
+}
+
+// Whether the edge rule holds of a plan.
+fn is_plan(list: &[u16], chains: &Links, p: Plan) -> bool
+    ensures { λ b. ⌜ PlanIs (now (list .entry)) (now (chains .entry)) p b ⌝ }
+{
+    let t = p.triangle;
+    if !is_distinct(t) {
+        return false;
+    }
+    if !is_side(list, chains, p.pq, t.p, t.q) {
+        return false;
+    }
+    if !is_side(list, chains, p.qr, t.q, t.r) {
+        return false;
+    }
+    is_side(list, chains, p.rp, t.r, t.p)
+}
+
+// Whether the rule can fail at an operation of this kind.
+fn is_tested(o: Operation) -> bool
+    ensures { λ b. ⌜ b ≡ isTested o ⌝ }
+{
+    match o {
+        Operation::New => false,
+        Operation::Forward => true,
+        Operation::Backward => true,
+        Operation::Border => false,
+        Operation::Split(_) => true,
+        Operation::Close => false,
+        Operation::Union(_, _) => true,
+        Operation::Start => false,
+    }
+}
+
+// Whether the edge rule holds of the plan of an operation.
+pub(crate) fn is_ruled(list: &[u16], chains: &Links, o: Operation, p: Plan) -> bool
+    ensures { λ b. ⌜ RuleIs (now (list .entry)) (now (chains .entry)) o p b ⌝ }
+{
+    if is_tested(o) {
+        return is_plan(list, chains, p);
+    }
+    true
+}

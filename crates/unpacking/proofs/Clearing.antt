@@ -1,0 +1,80 @@
+-- The loop that makes numbers zero, and the tests of a state: laws for the code.
+-- Assumes nothing.
+use Prim.Native.Nat.{ℕ, zero, suc, _+_, _*_, _≤_, _<_}
+use native.Mathlib.Omega.{arith}
+use mathlib.Core.Bool.{Bool, true, false, _&&_, not}
+use mathlib.Core.List.{List, [], _∷_, _++_}
+use mathlib.Core.Path.{_≡_, refl, sym, ap, ap₂, _∙_, subst}
+use lib.ListN.{length, take, drop, set, replicate, length-set, length-replicate}
+use lib.Seq.{take-at}
+use lib.Dec.{eqb}
+use borrow.Author.Fill.{fill-none, fill-more}
+use borrow.Author.Tests.{eq-eqb, ne-eqb}
+use Rattle.rules.specs.declared.Unpacked.{Unpacked}
+use Rattle.rules.specs.declared.Unpacked.the-variants as U
+use Rattle.rules.specs.Answer.{refusal}
+use Rattle.rules.specs.Buffer.{zeroed}
+use Rattle.memory.specs.declared.Front.{Front}
+use Rattle.unpacking.specs.declared.Stepped.{Stepped}
+use Rattle.unpacking.specs.declared.Stepped.the-variants.{Going, Refused}
+use Rattle.unpacking.specs.Runs.{isComplete, isAsStated, tidied}
+
+-- i numbers are zero
+pub record Clearing (xs₀ xs : List ℕ) (n i : ℕ) : Type 0 where
+  pub upto : i ≤ n
+  pub enough : n ≤ length xs₀
+  pub long : length xs ≡ length xs₀
+  pub holds : xs ≡ zeroed i xs₀
+
+pub clearing-start : (xs : List ℕ) (n : ℕ) → n ≤ length xs → Clearing xs xs n 0
+clearing-start xs n h = record { upto = omega arith; enough = h; long = refl; holds = fill-none xs 0 }
+
+pub clearing-more : (xs₀ xs : List ℕ) (n i : ℕ) → Clearing xs₀ xs n i → i < n → Clearing xs₀ (set xs i 0) n (i + 1)
+clearing-more xs₀ xs n i c l = record {
+  upto = omega arith;
+  enough = c .enough;
+  long = length-set xs i 0 ∙ c .long;
+  holds = ap (λ (ys : List ℕ). set ys i 0) (c .holds) ∙ fill-more i 0 xs₀ (omega (arith, c .enough));
+}
+
+pub clearing-done : (xs₀ xs : List ℕ) (n i : ℕ) → Clearing xs₀ xs n i → n ≤ i → xs ≡ zeroed n xs₀
+clearing-done xs₀ xs n i c l = let e : i ≡ n = omega (arith, c .upto) in c .holds ∙ ap (λ (k : ℕ). zeroed k xs₀) e
+
+-- the numbers that are zero then
+pub cleared-take : (n : ℕ) (xs ys : List ℕ) → ys ≡ zeroed n xs → take n ys ≡ replicate n 0
+cleared-take n xs ys e = ap (take n) e ∙ take-at (replicate n 0) (drop n xs) n (length-replicate n 0)
+
+-- after an answer, and after a refusal
+pub tidied-model : (r : Unpacked) (n : ℕ) (ts : List ℕ) (x : _) → r ≡ U.Model x → ts ≡ tidied r n ts
+tidied-model r n ts x e = sym (ap (λ (q : Unpacked). tidied q n ts) e)
+
+pub tidied-refusal : (r : Unpacked) (n k : ℕ) (ts ts′ : List ℕ) → r ≡ U.Refused k → ts′ ≡ zeroed n ts → ts′ ≡ tidied r n ts
+tidied-refusal r n k ts ts′ e h = h ∙ sym (ap (λ (q : Unpacked). tidied q n ts) e)
+
+-- the tests of a state
+pub incomplete : (s : Front) → (s .built ≡ s .stated .triangles → ⊥) → false ≡ isComplete s
+incomplete s h = sym (ap (λ (b : Bool). elim b [ true ↦ eqb (s .loops .live) 0 | false ↦ false ]) (ne-eqb (s .built) (s .stated .triangles) h))
+
+pub all-made : (s : Front) → s .built ≡ s .stated .triangles → eqb (s .loops .live) 0 ≡ isComplete s
+all-made s h = sym (ap (λ (b : Bool). elim b [ true ↦ eqb (s .loops .live) 0 | false ↦ false ]) (eq-eqb (s .built) (s .stated .triangles) h))
+
+module _ (s : Front) where
+  abbrev tests : Bool → Bool → Bool
+  tests a b = a && b && eqb (s .peaks .loops) (s .stated .loops)
+
+  pub other-vertices : (s .used ≡ s .stated .vertices → ⊥) → false ≡ isAsStated s
+  other-vertices h = sym (ap (λ (a : Bool). tests a (eqb (s .peaks .places) (s .stated .places))) (ne-eqb (s .used) (s .stated .vertices) h))
+
+  pub other-places : s .used ≡ s .stated .vertices → (s .peaks .places ≡ s .stated .places → ⊥) → false ≡ isAsStated s
+  other-places h k = sym (ap₂ tests (eq-eqb (s .used) (s .stated .vertices) h) (ne-eqb (s .peaks .places) (s .stated .places) k))
+
+  pub other-loops : s .used ≡ s .stated .vertices → s .peaks .places ≡ s .stated .places
+      → eqb (s .peaks .loops) (s .stated .loops) ≡ isAsStated s
+  other-loops h k = sym (ap₂ tests (eq-eqb (s .used) (s .stated .vertices) h) (eq-eqb (s .peaks .places) (s .stated .places) k))
+
+-- a run's refusal is passed up
+pub same-refusal : (e : Stepped) (j k : ℕ) → e ≡ Refused j → e ≡ Refused k → refusal j ≡ refusal k
+same-refusal e j k p q = cc
+
+pub no-refusal : (e : Stepped) (s : Front) (at j k : ℕ) → e ≡ Going s at → e ≡ Refused k → refusal j ≡ refusal k
+no-refusal e s at j k p q = let z : _≡_ {A = ℕ} 0 1 = cc in absurd (omega arith)

@@ -1,0 +1,14 @@
+pub mod Order
+pub mod Turns
+pub mod Starting
+pub mod Writing
+pub mod Ending
+pub mod Stepping
+pub mod Ruling
+pub mod Looping
+pub mod Lending
+pub mod Clearing
+pub mod Concluding
+pub mod Euler
+pub mod Operating
+pub mod Unpacking

@@ -1,0 +1,88 @@
+-- One law for each way through the loop of a run.
+-- Assumes nothing.
+use Prim.Native.Nat.{ℕ, _-_, _≤_, _<_}
+use mathlib.Core.Bool.{Bool, true, false}
+use mathlib.Core.List.{List}
+use mathlib.Core.Path.{_≡_, refl, sym, ap, _∙_, subst}
+use lib.ListN.{length}
+use Rattle.rules.specs.declared.Counts.{Counts}
+use Rattle.rules.specs.Machine.{Machine, complete}
+use Rattle.rules.specs.Unpack.{Ran, stopped, runAll}
+use Rattle.memory.specs.declared.Front.{Front}
+use Rattle.unpacking.specs.declared.Stepped.{Stepped}
+use Rattle.unpacking.specs.declared.Stepped.the-variants.{Going, Refused}
+use Rattle.unpacking.specs.Turn.{turn}
+use Rattle.unpacking.specs.Runs.{Runs, Held, isComplete, bitsFrom, Beyond, Steps, StepOf, Comes, ComesFrom, Ends, RunOf, Ended}
+use Rattle.unpacking.proofs.Turns.{ran-complete, ran-stops, ran-goes, ran-out}
+use Rattle.unpacking.proofs.Ending.{complete-same}
+
+module _ (ops : List ℕ) (budget : ℕ) (s₀ : Front) (ts₀ m₀ cs₀ : List ℕ) where
+  pub comes-first : ComesFrom ops budget s₀ ts₀ m₀ cs₀ budget s₀ 0 ts₀ m₀ cs₀
+  comes-first M g = record { machine = M; ran = refl; runs = g; stated = refl }
+
+  module _ (left : ℕ) (s : Front) (at : ℕ) (ts m cs : List ℕ) (come : ComesFrom ops budget s₀ ts₀ m₀ cs₀ left s at ts m cs) where
+    pub comes-held : Held s₀ ts₀ m₀ cs₀ → Held s ts m cs
+    comes-held h = let k = come (h .machine) (h .runs) in record { machine = k .machine; runs = k .runs }
+
+    pub comes-stated : Held s₀ ts₀ m₀ cs₀ → s .stated ≡ s₀ .stated
+    comes-stated h = come (h .machine) (h .runs) .stated
+
+    pub comes-end : left ≤ 0 → RunOf ops budget s₀ ts₀ m₀ cs₀ (Refused 15) ts m cs
+    comes-end l M g = let k = come M g in k .ran ∙ ran-out left (k .machine) (bitsFrom ops at) l
+
+    pub comes-complete : 0 < left → (b : Bool) → b ≡ isComplete s → b ≡ true → RunOf ops budget s₀ ts₀ m₀ cs₀ (Going s at) ts m cs
+    comes-complete l b e h M g =
+        let k = come M g in
+        let done = complete-same _ s m (k .machine) (k .runs .keeps) ∙ sym e ∙ h in
+        record {
+          last = k .machine;
+          ran = k .ran ∙ ran-complete left (k .machine) (bitsFrom ops at) l done;
+          runs = k .runs;
+          stated = k .stated;
+          complete = done;
+        }
+
+    module _ (l : 0 < left) (b : Bool) (e : b ≡ isComplete s) (h : b ≡ false) (r : Stepped) (ts′ m′ cs′ : List ℕ)
+        (step : StepOf ops at s ts m cs r ts′ m′ cs′) where
+      going : (M : Machine) → Runs M s ts m cs → complete M ≡ false
+      going M g = complete-same _ s m M (g .keeps) ∙ sym e ∙ h
+
+      pub comes-stopped : (k : ℕ) → r ≡ Refused k → RunOf ops budget s₀ ts₀ m₀ cs₀ r ts′ m′ cs′
+      comes-stopped k q M g =
+          let c = come M g in
+          let t = subst (λ (x : Stepped). Steps (turn (c .machine) (bitsFrom ops at)) ops (s .stated) x ts′ m′ cs′) q (step (c .machine) (c .runs)) in
+          subst (λ (x : Stepped). Ends (runAll budget M (bitsFrom ops 0)) ops (s₀ .stated) x ts′ m′ cs′) (sym q)
+          (c .ran ∙ ran-stops left (c .machine) (bitsFrom ops at) k l (going (c .machine) (c .runs)) t)
+
+      pub comes-on : (s′ : Front) (at′ : ℕ) → r ≡ Going s′ at′ → ComesFrom ops budget s₀ ts₀ m₀ cs₀ (left - 1) s′ at′ ts′ m′ cs′
+      comes-on s′ at′ q M g =
+          let c = come M g in
+          let t = subst (λ (x : Stepped). Steps (turn (c .machine) (bitsFrom ops at)) ops (s .stated) x ts′ m′ cs′) q (step (c .machine) (c .runs)) in
+          record {
+            machine = t .next;
+            ran = c .ran ∙ ran-goes left (c .machine) (t .next) (bitsFrom ops at) (bitsFrom ops at′) l (going (c .machine) (c .runs)) (t .turns);
+            runs = t .runs;
+            stated = t .stated ∙ c .stated;
+          }
+
+-- the invariant of the loop
+pub record Loop (ops : List ℕ) (budget : ℕ) (s₀ : Front) (ts₀ m₀ cs₀ : List ℕ) (left : ℕ) (s : Front) (at : ℕ) (ts m cs : List ℕ) : Type 0 where
+  pub come : ComesFrom ops budget s₀ ts₀ m₀ cs₀ left s at ts m cs
+  pub beyond : Beyond (s₀ .stated) ts₀ ts
+  pub triangles-long : length ts ≡ length ts₀
+  pub memory-long : length m ≡ length m₀
+
+pub loop-first : (ops : List ℕ) (budget : ℕ) (s : Front) (ts m cs : List ℕ) → Loop ops budget s ts m cs budget s 0 ts m cs
+loop-first ops budget s ts m cs = record { come = comes-first ops budget s ts m cs; beyond = refl; triangles-long = refl; memory-long = refl }
+
+-- what lies beyond the triangles stated stays as it was
+pub beyond-none : (c : Counts) (ts : List ℕ) → Beyond c ts ts
+beyond-none c ts = refl
+
+pub beyond-more : (c d : Counts) (ts ts′ ts″ : List ℕ) → d ≡ c → Beyond c ts ts′ → Beyond d ts′ ts″ → Beyond c ts ts″
+beyond-more c d ts ts′ ts″ e h k = subst (λ (x : Counts). Beyond x ts′ ts″) e k ∙ h
+
+-- a run that has ended can be concluded
+pub ends-ended : (R : Ran) (ops : List ℕ) (c : Counts) (r : Stepped) (ts m cs : List ℕ) → Ends R ops c r ts m cs → Ended r ts cs
+ends-ended R ops c (Refused k) ts m cs e = tt
+ends-ended R ops c (Going s at) ts m cs e = record { machine = e .last; memory = m; runs = e .runs; complete = e .complete }

@@ -1,0 +1,84 @@
+-- From the run's answer to the unpacking's.
+-- Assumes nothing.
+use Prim.Native.Nat.{ℕ, suc, _+_, _*_, _≤_, _<_}
+use native.Mathlib.Omega.{arith}
+use mathlib.Core.Bool.{true, false, _&&_}
+use mathlib.Core.List.{List}
+use mathlib.Core.Path.{_≡_, refl, sym, ap, _∙_, subst}
+use lib.ListN.{length, take, replicate}
+use lib.Dec.{leb}
+use Rattle.rules.specs.declared.Counts.{Counts}
+use Rattle.rules.specs.declared.Unpacked.{Unpacked}
+use Rattle.rules.specs.declared.Unpacked.the-variants as U
+use Rattle.rules.specs.Limits.{maxPlaces, inRange}
+use Rattle.rules.specs.Bits.{bitsOfBytes}
+use Rattle.rules.specs.Fields.{Fields, no-pack, fields, fieldsOf}
+use Rattle.rules.specs.Machine.{empty}
+use Rattle.rules.specs.Answer.{unpackedAnswer}
+use Rattle.rules.specs.Buffer.{zeroed}
+use Rattle.rules.specs.Unpack.{UnpackResult, turnedDown, runAll, runOf, unpackRun, unpackFields}
+use Rattle.codes.proofs.Bytes.{length-bits-of-bytes}
+use Rattle.chains.specs.Chains.{Chains}
+use Rattle.memory.specs.declared.Front.{Front}
+use Rattle.memory.specs.Fresh.{allFree, freshFront}
+use Rattle.unpacking.specs.declared.Stepped.{Stepped}
+use Rattle.unpacking.specs.Runs.{Runs, Held, Beyond, Ends, RunOf, Ended, Answers, tidied, bitsFrom}
+use Rattle.unpacking.specs.Lent.{lent, unpackOn, isPast, recordNumbers, ClearedIf, UnpackedOn, Fitting, RunGives}
+use Rattle.unpacking.proofs.Starting.{starts-empty}
+use Rattle.unpacking.proofs.Looping.{ends-ended}
+use Rattle.unpacking.proofs.Clearing.{cleared-take}
+use Rattle.unpacking.proofs.Lending.{short-is, short-past, roomy-is, roomy-past, run-answer, run-triangles}
+
+-- the first state, as the code makes it
+module _ (c : Counts) (ops ts m : List ℕ) (f : Fitting c ops ts m) (s : Front) (es : s ≡ freshFront maxPlaces c) (m₁ : List ℕ)
+    (em : m₁ ≡ allFree maxPlaces m maxPlaces) (cs : List ℕ) (none : Chains ts 0 cs) where
+  first : Runs (empty c) s ts m₁ cs
+  first = rw (es, em) (starts-empty c (f .ranges) m (f .whole) ts (f .room) cs none)
+
+  pub first-held : Held s ts m₁ cs
+  first-held = record { machine = empty c; runs = first }
+
+  module _ (budget : ℕ) (eb : budget ≡ 8 * length ops + 1) (e : Stepped) (ts₁ m₂ cs₁ : List ℕ) (ran : RunOf ops budget s ts m₁ cs e ts₁ m₂ cs₁) where
+    fuel : budget ≡ suc (length (bitsOfBytes ops))
+    fuel = omega (arith, eb, length-bits-of-bytes ops)
+
+    ends : Ends (runOf c ops) ops c e ts₁ m₂ cs₁
+    ends =
+        subst (λ (k : ℕ). Ends (runAll k (empty c) (bitsOfBytes ops)) ops c e ts₁ m₂ cs₁) fuel
+        (subst (λ (d : Counts). Ends (runAll budget (empty c) (bitsOfBytes ops)) ops d e ts₁ m₂ cs₁) (ap (λ (x : Front). x .stated) es) (ran (empty c) first))
+
+    pub first-ended : Ended e ts₁ cs₁
+    first-ended = ends-ended (runOf c ops) ops c e ts₁ m₂ cs₁ ends
+
+    pub run-gives : Beyond (s .stated) ts ts₁ → (r : Unpacked) → Answers ops e ts₁ cs₁ (unpackedAnswer r) → (ts′ : List ℕ)
+        → ts′ ≡ tidied r (3 * c .triangles) ts₁ → (m′ : List ℕ) → m′ ≡ zeroed recordNumbers m₂ → RunGives c ops ts r ts′ m′
+    run-gives b r a ts′ et m′ ez = record {
+      answer = λ n. run-answer c ops ts n (runOf c ops) r e ts₁ m₂ cs₁ ends a;
+      triangles = λ n.
+          et
+          ∙ run-triangles c ops ts n (runOf c ops) r e ts₁ m₂ cs₁ ends (subst (λ (d : Counts). Beyond d ts ts₁) (ap (λ (x : Front). x .stated) es) b) a;
+      memory = cleared-take recordNumbers m₂ m′ ez;
+    }
+
+-- an unpacking that is turned down changes nothing
+pub turned-on : (bytes : List ℕ) (n : ℕ) (ts m : List ℕ) (k : ℕ) → unpackOn bytes n ts ≡ turnedDown k (lent n ts)
+    → isPast (fieldsOf bytes) n (length ts) ≡ false → UnpackedOn bytes n ts m (U.Refused k) ts m
+turned-on bytes n ts m k e h = record {
+  answer = sym (ap (λ (x : UnpackResult). x .answer) e);
+  triangles = sym (ap (λ (x : UnpackResult). x .buffers .triangles) e);
+  memory = rw h refl;
+}
+
+module _ (bytes : List ℕ) (n : ℕ) (ts m : List ℕ) (c : Counts) (ops : List ℕ) (found : fieldsOf bytes ≡ fields c ops) (ranges : inRange c ≡ true) where
+  -- 14
+  pub short-on : leb (3 * c .triangles) (length ts) && leb maxPlaces n ≡ false → UnpackedOn bytes n ts m (U.Refused 14) ts m
+  short-on h = turned-on bytes n ts m 14 (short-is bytes n ts c ops found ranges h) (short-past bytes n ts c ops found ranges h)
+
+  -- past it
+  pub run-on : 3 * c .triangles ≤ length ts → maxPlaces ≤ n → (r : Unpacked) (ts′ m′ : List ℕ) → RunGives c ops ts r ts′ m′
+      → UnpackedOn bytes n ts m r ts′ m′
+  run-on l k r ts′ m′ g = record {
+    answer = g .answer n ∙ sym (ap (λ (x : UnpackResult). x .answer) (roomy-is bytes n ts c ops found ranges l k));
+    triangles = g .triangles n ∙ sym (ap (λ (x : UnpackResult). x .buffers .triangles) (roomy-is bytes n ts c ops found ranges l k));
+    memory = rw (roomy-past bytes n ts c ops found ranges l k) (g .memory);
+  }

@@ -1,0 +1,4 @@
+pub mod Turn
+pub mod Runs
+pub mod Rule
+pub mod Lent
