@@ -2,9 +2,10 @@
 //!
 //! Nanoseconds a triangle, the median over many calls; buffers are reused and not cleared between calls.
 
-use cutborder::fast::Packer;
+use cutborder::fast::{Packer, Unpacker};
 use cutborder::gen::{self, Model};
 use cutborder::rng::Rng;
+use cutborder::Place;
 use std::hint::black_box;
 use std::time::Instant;
 
@@ -45,8 +46,9 @@ fn medians(repeats: usize, mut ours: impl FnMut(), mut theirs: impl FnMut()) -> 
 
 fn main() {
     let repeats = std::env::args().nth(1).and_then(|a| a.parse().ok()).unwrap_or(500);
-    println!("nanoseconds a triangle, median of {repeats} calls; check: refusals 1 to 7 here, linking with 1 to 6 there");
-    println!("{:<16} {:>6} {:>6}  {:>8} {:>8} {:>6}", "model", "V", "T", "check", "link", "ratio");
+    println!("nanoseconds a triangle, median of {repeats} calls, ours and the second program's fast engine, and their ratio");
+    println!("check: refusals 1 to 7 here, linking with 1 to 6 there");
+    println!("{:<16} {:>6} {:>6}  {:>8} {:>8} {:>6}  {:>8} {:>8} {:>6}", "model", "V", "T", "check", "link", "ratio", "unpack", "unpack", "ratio");
     let mut packer = Packer::new();
     for (name, m) in models() {
         let t = (m.list.len() / 3) as f64;
@@ -57,6 +59,26 @@ fn main() {
                 black_box(packer.link(m.v, black_box(&m.list))).expect("an accepted list");
             },
         );
-        println!("{name:<16} {:>6} {:>6}  {:>8.1} {:>8.1} {:>6.2}", m.v, t, ours / t, theirs / t, ours / theirs);
+        print!("{name:<16} {:>6} {:>6}  {:>8.1} {:>8.1} {:>6.2}", m.v, t, ours / t, theirs / t, ours / theirs);
+        let (ours, theirs) = unpackings(&m, repeats);
+        println!("  {:>8.1} {:>8.1} {:>6.2}", ours / t, theirs / t, ours / theirs);
     }
+}
+
+/// Unpacking the model's pack.
+fn unpackings(m: &Model, repeats: usize) -> (f64, f64) {
+    let pack = gen::packed(m).expect("a pack");
+    let (mut triangles, mut expected) = (vec![0u16; m.list.len()], vec![0u16; m.list.len()]);
+    let mut memory = [0u16; compare::MEMORY];
+    let mut places = vec![Place::default(); 1_024];
+    let mut unpacker = Unpacker::new();
+    medians(
+        repeats,
+        || {
+            black_box(compare::unpack(black_box(&pack), &mut triangles, &mut memory, 1_024)).expect("an accepted pack");
+        },
+        || {
+            black_box(unpacker.unpack(black_box(&pack), &mut expected, &mut places)).expect("an accepted pack");
+        },
+    )
 }

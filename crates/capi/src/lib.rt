@@ -1,6 +1,8 @@
 // The service for tests and benchmarks in Rust: numbers and slices only, an answer as its number in the rules, 0 for acceptance.
 use rules::Checked;
+use rules::Model;
 use rules::Operation;
+use rules::Unpacked;
 use wire::fields::PackFields;
 use wire::reader::OperationRead;
 
@@ -127,4 +129,34 @@ pub extern "C" fn service_write(
     let w = wire::writer::write_operation(pack, at, o);
     out[0] = (w.next % 4294967296) as u32;
     if w.fits { 1 } else { 0 }
+}
+
+// An unpacking with n place records, whose numbers m holds: vertices, triangles, edges, rims, unions and the Euler number.
+#[no_mangle]
+pub extern "C" fn service_unpack(
+    pack: &[u8],
+    triangles: &mut [u16],
+    m: &mut [u16; 5320],
+    n: usize,
+    out: &mut [i32; 6],
+) -> u32 {
+    let r = unpacker::unpack_on(pack, triangles, m, n);
+    match r {
+        Unpacked::Model(model) => {
+            store_model(model, out);
+            0
+        }
+        Unpacked::Refused(k) => k as u32,
+    }
+}
+
+fn store_model(model: Model, out: &mut [i32; 6]) {
+    let totals = model.totals;
+    out[0] = model.vertices as i32;
+    out[1] = model.triangles as i32;
+    out[2] = totals.edges as i32;
+    out[3] = totals.rims as i32;
+    out[4] = totals.unions as i32;
+    let euler = totals.euler;
+    out[5] = euler;
 }

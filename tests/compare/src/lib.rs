@@ -1,13 +1,26 @@
 //! The service as Rust sees it: each exported function behind a safe one.
 
 use cutborder::ops::{Counts, Op};
-use cutborder::Refusal;
+use cutborder::{Answer, Refusal};
+
+/// The plain memory of an unpacking: four numbers for each of 1,024 place records, and room to work in.
+pub const MEMORY: usize = 5_320;
+pub const RECORDS: usize = 4_096;
 
 extern "C" {
     fn service_check(v: usize, list: *const u16, len: usize) -> u32;
     fn service_fields(pack: *const u8, len: usize, out: *mut [u32; 6]) -> u32;
     fn service_read(ops: *const u8, len: usize, at: usize, out: *mut [u32; 4]) -> u32;
     fn service_operation(pack: *const u8, len: usize, at: usize, out: *mut [u32; 4]) -> u32;
+    fn service_unpack(
+        pack: *const u8,
+        len: usize,
+        triangles: *mut u16,
+        triangles_len: usize,
+        m: *mut [u16; MEMORY],
+        n: usize,
+        out: *mut [i32; 6],
+    ) -> u32;
     fn service_write(pack: *mut u8, len: usize, at: usize, code: u32, p: u32, j: u32, out: *mut [u32; 1]) -> u32;
 }
 
@@ -70,4 +83,12 @@ pub fn write(pack: &mut [u8], at: usize, op: Op) -> (bool, usize) {
     let mut out = [0u32; 1];
     let fits = unsafe { service_write(pack.as_mut_ptr(), pack.len(), at, op.code(), p, j, &mut out) };
     (fits == 1, out[0] as usize)
+}
+
+/// An unpacking with n place records.
+pub fn unpack(pack: &[u8], triangles: &mut [u16], m: &mut [u16; MEMORY], n: usize) -> Result<Answer, Refusal> {
+    let mut out = [0i32; 6];
+    verdict(unsafe { service_unpack(pack.as_ptr(), pack.len(), triangles.as_mut_ptr(), triangles.len(), m, n, &mut out) })?;
+    let [v, t, edges, rims, unions] = [out[0], out[1], out[2], out[3], out[4]].map(|x| x as u32);
+    Ok(Answer { v, t, edges, rims, unions, euler: out[5] })
 }

@@ -2,11 +2,11 @@
 //!
 //! Prints a line for each part; stops at the first difference with the input that shows it.
 
-use compare::{check, fields, read, read_in_pack, write};
+use compare::{check, fields, read, read_in_pack, unpack, write, MEMORY, RECORDS};
 use cutborder::gen::{self, Model};
 use cutborder::ops::{encode_ops, split_fields, BitReader, Op};
-use cutborder::plain;
 use cutborder::rng::Rng;
+use cutborder::{plain, Place};
 use std::collections::BTreeMap;
 use std::time::Instant;
 
@@ -198,6 +198,32 @@ fn writes(rng: &mut Rng, rounds: usize) -> usize {
     n
 }
 
+/// Packs of all kinds, sound and spoilt, in buffers of all lengths: the answer and every buffer afterwards.
+fn unpacks(rng: &mut Rng, rounds: usize) -> (usize, Tally) {
+    let mut tally = Tally::new();
+    for i in 0..rounds {
+        let b = match i % 4 {
+            0 => bytes(rng),
+            1 => gen::packed(&gen::sound(rng, 200)).unwrap_or_default(),
+            _ => gen::pack(rng, 120),
+        };
+        let t = split_fields(&b).map_or(1, |(c, _)| c.t as usize);
+        let room = if rng.chance(1, 16) { rng.below(3 * t + 1) } else { 3 * t + rng.below(4) };
+        let records = if rng.chance(1, 16) { rng.below(1_025) } else { 1_024 };
+        let (mut triangles, mut expected) = (vec![7u16; room], vec![7u16; room]);
+        let mut m = [9u16; MEMORY];
+        let mut places = vec![Place { vertex: 9, before: 9, after: 9, open: true }; records];
+        let answer = plain::unpack(&b, &mut expected, &mut places);
+        assert_eq!(unpack(&b, &mut triangles, &mut m, records), answer, "pack {b:02x?}");
+        assert_eq!(triangles, expected, "triangles of pack {b:02x?}");
+        let cleared = records == 1_024 && places[0] == Place::default();
+        assert!(m[..RECORDS].iter().all(|&x| x == if cleared { 0 } else { 9 }), "memory after pack {b:02x?}");
+        count(&mut tally, &answer);
+    }
+    met(&tally, &[0, 12, 13, 14, 15, 16, 17, 18, 19, 20]);
+    (rounds, tally)
+}
+
 fn main() {
     let args: Vec<u64> = std::env::args().skip(1).filter_map(|a| a.parse().ok()).collect();
     let [seed, scale] = args[..] else {
@@ -215,6 +241,9 @@ fn main() {
     println!("fields: {n} byte strings alike, answers {tally:?}, {:.1} s", t.elapsed().as_secs_f64());
     let t = Instant::now();
     println!("reads: {} alike, {:.1} s", reads(&mut rng, 2_000 * scale), t.elapsed().as_secs_f64());
+    let t = Instant::now();
+    let (n, tally) = unpacks(&mut rng, 4_000 * scale);
+    println!("unpacks: {n} alike, answers {tally:?}, {:.1} s", t.elapsed().as_secs_f64());
     let t = Instant::now();
     println!("writes: {} alike, {:.1} s", writes(&mut rng, 2_000 * scale), t.elapsed().as_secs_f64());
 }
