@@ -5,23 +5,24 @@ use Prim.Native.Nat.{ℕ}
 use mathlib.Core.Bool.{Bool, true, false, _&&_, not}
 use mathlib.Core.List.{List, [], _∷_, _++_}
 use lib.ListN.{replicate}
-use lib.Dec.{T}
+use lib.Dec.{T, eqb}
 use Rattle.rules.specs.declared.Counts.{Counts}
 use Rattle.rules.specs.declared.Place.{Place}
 use Rattle.rules.specs.declared.Builder.{Builder}
 use Rattle.rules.specs.declared.Operation.the-variants.{New, Border, Split, Start}
-use Rattle.rules.specs.Triangle.{corners, edgesOf}
+use Rattle.rules.specs.Triangle.{tri, corners, edgesOf}
 use Rattle.rules.specs.Count.{same, hit, occurs, count}
 use Rattle.rules.specs.Check.{allBelow}
 use Rattle.rules.specs.Ring.{allOpen, vertexAt, lastOpen, lastVertex, front, onward, places, loopAt, without}
 use Rattle.rules.specs.Table.{allowed, inOrder, atEdge, atRest, effect}
-use Rattle.rules.specs.Machine.{test, done, beginning}
+use Rattle.rules.specs.Machine.{Step, refused, begun, built, declared, finished, test, done, beginning, finish}
 use Rattle.rules.specs.Unpack.{numbersOf}
 use Rattle.rules.specs.Book.{begin, operate, emptyBook, afterAll}
-use Rattle.rules.specs.Buffer.{freePlace, Buffers}
+use Rattle.rules.specs.Buffer.{freePlace, cleared, Buffers}
+use Rattle.rules.specs.Build.{operates, finishes, begunBuffers, withTriangle}
 use Rattle.rules.specs.View.{follow, followed, placesOf, nodes, loopsOf, trianglesBuilt, view}
 use Rattle.rules.specs.Test21.{sizesOf, apart, placesFit, loopsFit, linksFit, sound}
-use Rattle.rules.proofs.Rows.{equal, place, counts, rooms, allRight, writtenRing, writtenRings, writtenMachine}
+use Rattle.rules.proofs.Rows.{equal, equalPlaces, place, counts, rooms, allRight, writtenRing, writtenRings, writtenMachine}
 
 -- a state and its buffers, and whether 21 lets it pass
 pub record StateRow : Type 0 where
@@ -185,3 +186,29 @@ viewRight =
 pub states : T (allRight stateRight stateRows && viewRight)
 unfolding same hit corners edgesOf numbersOf occurs count allBelow allOpen vertexAt lastOpen lastVertex front onward places loopAt without allowed inOrder atEdge atRest effect test done beginning afterAll follow followed nodes loopsOf trianglesBuilt view placesOf sizesOf apart placesFit loopsFit linksFit sound equal allRight stateRows writtenRing writtenRings viewRight
 states = tt
+
+-- The building calls: 21 before 16 and before 15, on a state that does not pass; 16 and 15 on one that does.
+abbrev pub stepNumber : Step → ℕ
+stepNumber (refused n) = n
+stepNumber (begun m) = 0
+stepNumber (built t m) = 0
+stepNumber (declared d m) = 0
+stepNumber (finished x) = 0
+
+abbrev pub whole : Buffers
+whole = record { triangles = numbers; places = memory }
+
+abbrev pub short : Buffers
+short = record { triangles = 0 ∷ []; places = memory }
+
+-- what they leave: triangle n stands at 3n, and a beginning clears the place records and nothing else
+unfoldable pub callsRight : Bool
+callsRight =
+    eqb (stepNumber (operates good short (Split 9))) 21 && eqb (stepNumber (finishes good short)) 21
+    && eqb (stepNumber (operates good whole (Split 9))) 16 && eqb (stepNumber (finishes good whole)) 15
+    && equal (withTriangle 1 (tri 7 8 9) (0 ∷ 1 ∷ 2 ∷ 3 ∷ 4 ∷ 5 ∷ 6 ∷ [])) (0 ∷ 1 ∷ 2 ∷ 7 ∷ 8 ∷ 9 ∷ 6 ∷ [])
+    && equal (begunBuffers whole .triangles) numbers && equalPlaces (begunBuffers whole .places) (replicate 1024 freePlace)
+
+pub calls : T callsRight
+unfolding same hit corners edgesOf numbersOf occurs count allBelow allOpen vertexAt lastOpen lastVertex front onward places loopAt without allowed inOrder atEdge atRest effect test done finish follow followed placesOf nodes loopsOf trianglesBuilt view sizesOf apart placesFit loopsFit linksFit sound equal equalPlaces cleared callsRight
+calls = tt
