@@ -10,6 +10,8 @@ use Rattle.rules.specs.declared.Packed.{Packed}
 use Rattle.rules.specs.declared.Packed.the-variants as P
 use Rattle.rules.specs.declared.Unpacked.{Unpacked}
 use Rattle.rules.specs.declared.Unpacked.the-variants as U
+use Rattle.rules.specs.declared.Begun.{Begun}
+use Rattle.rules.specs.declared.Begun.the-variants as B
 use Rattle.rules.specs.declared.Operated.{Operated}
 use Rattle.rules.specs.declared.Operated.the-variants as O
 use Rattle.rules.specs.declared.Finished.{Finished}
@@ -30,10 +32,13 @@ pub data Answer : Type 0 where
   -- of an unpacking
   unpacked : Model → Answer
 
--- a beginning too answers a `Checked`
 abbrev pub checkedAnswer : Checked → Answer
 checkedAnswer Accepted = accepted
 checkedAnswer (Refused n) = refusal n
+
+abbrev pub begunAnswer : Begun → Answer
+begunAnswer (B.Accepted b) = accepted
+begunAnswer (B.Refused n) = refusal n
 
 abbrev pub operatedAnswer : Operated → Answer
 operatedAnswer (O.Built t) = triangle t

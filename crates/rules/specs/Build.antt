@@ -10,11 +10,13 @@ use Rattle.rules.specs.declared.Counts.{Counts}
 use Rattle.rules.specs.declared.Operation.{Operation}
 use Rattle.rules.specs.declared.Place.{Place}
 use Rattle.rules.specs.declared.Builder.{Builder}
+use Rattle.rules.specs.declared.Begun.{Begun}
+use Rattle.rules.specs.declared.Begun.the-variants.{Accepted, Refused}
 use Rattle.rules.specs.Limits.{maxPlaces, maxLoops}
 use Rattle.rules.specs.Machine.{Machine, Step, refused, begun, built, declared, finished, beginning, operation, finish}
 use Rattle.rules.specs.Buffer.{cleared, Buffers, lengths}
 use Rattle.rules.specs.View.{view}
-use Rattle.rules.specs.Test21.{sound}
+use Rattle.rules.specs.Test21.{sumsFit, sound}
 
 -- the machine that a state and its buffers are read as
 abbrev pub viewed : Builder → Buffers → Machine
@@ -54,15 +56,21 @@ emptyBuilder = begunBuilder (record { vertices = 0; triangles = 0; places = 0; l
 abbrev pub begunBuffers : Buffers → Buffers
 begunBuffers r = record { triangles = r .triangles; places = cleared (r .places) }
 
+-- what a beginning with the counts s leaves: a refused one changes nothing
+abbrev pub Begins : Buffers → Counts → Begun → Buffers → Type 0
+Begins r s (Accepted b) r′ = (b ≡ begunBuilder s) × (r′ ≡ begunBuffers r)
+Begins r s (Refused n) r′ = r′ ≡ r
+
 -- the triangle buffer with t as triangle n
 abbrev pub withTriangle : ℕ → Triangle → List ℕ → List ℕ
 withTriangle n t xs = take (3 * n) xs ++ ((t .p ∷ (t .q ∷ (t .r ∷ []))) ++ drop (3 * n + 3) xs)
 
--- What an accepted operation leaves: the triangle buffer xs; a state that passes 21 and is read as the machine m; no record beyond
--- the first 1,024 changed. Free is which of these the places use, and what the records hold that no loop uses.
+-- What an accepted operation leaves: the triangle buffer xs; a state that is read as the machine m and that passes 21, unless its
+-- edges, starts, unions or rims now exceed 3T, as no list of calls leads to; no record beyond the first 1,024 changed. Free is which
+-- of these the places use, and what the records hold that no loop uses.
 pub record Leaves (r : Buffers) (xs : List ℕ) (m : Machine) (b′ : Builder) (r′ : Buffers) : Type 0 where
   pub triangles : r′ .triangles ≡ xs
-  pub passes : sound b′ r′ ≡ true
+  pub passes : sumsFit b′ ≡ true → sound b′ r′ ≡ true
   pub machine : viewed b′ r′ ≡ m
   pub long : length {A = Place} (r′ .places) ≡ length {A = Place} (r .places)
   pub beyond : drop {A = Place} maxPlaces (r′ .places) ≡ drop maxPlaces (r .places)

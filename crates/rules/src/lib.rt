@@ -133,10 +133,21 @@ pub enum Unpacked {
     Refused(u8),
 }
 
+pub enum Begun {
+    Accepted(Builder),
+    Refused(u8),
+}
+
 pub enum Operated {
     Built(Triangle),
     Marked,
     Refused(u8),
+}
+
+// An operation gives the state back, changed or as it was.
+pub struct Performed {
+    pub state: Builder,
+    pub answer: Operated,
 }
 
 pub enum Finished {
