@@ -20,7 +20,7 @@ use Rattle.book.specs.Sums.{loopsSum}
 use Rattle.book.specs.Consistent.{Consistent, Ranges}
 use Rattle.book.proofs.Counting.{and-left, and-right, ifFresh}
 use Rattle.book.proofs.Kept.{test-law}
-use Rattle.book.proofs.Effects.{Law, effect-law}
+use Rattle.book.proofs.Effects.{Law, sound-current, effect-law}
 
 -- the open edges of the loops
 abbrev opens : List Ring → ℕ
@@ -122,7 +122,7 @@ bounded-by b c (marks ls d rim) l =
     })
 
 pub bounded-kept : (b : Book) → Consistent b → Bounded b → (o : Operation) → Bounded (entered b (operation (b .machine) o))
-bounded-kept b c k o = bounded-by b k (effect o (b .machine .used) (b .machine .loops)) (effect-law o (b .machine .used) (b .machine .loops) (c .loops))
+bounded-kept b c k o = bounded-by b k (effect o (b .machine .used) (b .machine .loops)) (effect-law o (b .machine .used) (b .machine .loops) (sound-current (b .machine .loops) (c .loops)))
 
 pub empty-bounded : (s : Counts) → inRange s ≡ true → Bounded (emptyBook s)
 unfolding loopsSum places

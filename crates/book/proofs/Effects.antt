@@ -12,11 +12,11 @@ use Rattle.rules.specs.declared.Triangle.{Triangle}
 use Rattle.rules.specs.declared.Operation.{Operation}
 use Rattle.rules.specs.declared.Operation.the-variants.{New, Forward, Backward, Border, Split, Close, Union, Start}
 use Rattle.rules.specs.Triangle.{tri, Edge, edge}
-use Rattle.rules.specs.Ring.{Node, opened, marked, Ring, vertex, allOpen, startOr, vertexAt, lastOpen, lastVertex, front, onward, loopAt, without}
+use Rattle.rules.specs.Ring.{Node, opened, marked, Ring, vertex, isOpen, firstOpen, allOpen, startOr, vertexAt, lastOpen, lastVertex, front, onward, loopAt, without}
 use Rattle.rules.specs.Table.{Side, glued, fresh, Effect, not-allowed, builds, marks, allowed, inOrder, marking, atEdge, atRest, effect}
 use Rattle.rules.specs.Machine.{freshSides}
 use Rattle.book.specs.Sums.{Weight, pathSum, ringSum, loopsSum}
-use Rattle.book.specs.Consistent.{Sound, AllSound}
+use Rattle.book.specs.Consistent.{Sound, AllSound, AllCurrent}
 use Rattle.book.proofs.Counting.{and-left, and-right, ifFresh, ifGlued}
 use Rattle.book.proofs.Sums.{start-append, sum-append, sum-turn, front-last, length-front, start-drop, sum-without, length-without, Turned, turned}
 
@@ -35,7 +35,8 @@ pub record Builds (u : ℕ) (before ls : List Ring) (t : Triangle) (pq qr rp : S
   pub sums : (w : Weight)
       → loopsSum w ls + (ifGlued pq (w (t .q) (t .p) true) + (ifGlued qr (w (t .r) (t .q) true) + ifGlued rp (w (t .p) (t .r) true)))
       ≡ loopsSum w before + (ifFresh pq (w (t .p) (t .q) true) + (ifFresh qr (w (t .q) (t .r) true) + ifFresh rp (w (t .r) (t .p) true)))
-  pub sound : AllSound ls
+  pub current : AllCurrent ls
+  pub sound : AllSound before → AllSound ls
   pub numbers : Corners before u n (t .p) (t .q) (t .r)
   pub lives : n + 1 + length ls + 2 * k ≡ length before + (freshSides pq + freshSides qr + freshSides rp) + 2 * s
   pub small : s + k ≤ 1
@@ -48,7 +49,8 @@ pub record Marking (w : Weight) (before ls : List Ring) (d : Edge) : Type 0 wher
 
 pub record Marks (before ls : List Ring) (d : Edge) (rim : ℕ) : Type 0 where
   pub sums : (w : Weight) → Marking w before ls d
-  pub sound : AllSound ls
+  pub current : AllCurrent ls
+  pub sound : AllSound before → AllSound ls
   pub lives : length ls + rim ≡ length before
   pub small : rim ≤ 1
 
@@ -85,11 +87,26 @@ unfolding inOrder
 sound-order true l m ws x y z = (x, (y, z))
 sound-order false l m ws x y z = (y, (x, z))
 
+current-order : (t : Bool) (l m : Ring) (ws : List Ring) → firstOpen l ≡ true → firstOpen m ≡ true → AllCurrent ws → AllCurrent (inOrder t l m ws)
+unfolding inOrder
+current-order true l m ws x y z = (x, (y, z))
+current-order false l m ws x y z = (y, (x, z))
+
 sound-without : (ws : List Ring) (n : ℕ) → AllSound ws → AllSound (without ws n)
 unfolding without
 sound-without [] n h = tt
 sound-without (l ∷ ws) zero h = h .1
 sound-without (l ∷ ws) (suc n) h = (h .0, sound-without ws n (h .1))
+
+current-without : (ws : List Ring) (n : ℕ) → AllCurrent ws → AllCurrent (without ws n)
+unfolding without
+current-without [] n h = tt
+current-without (l ∷ ws) zero h = h .1
+current-without (l ∷ ws) (suc n) h = (h .0, current-without ws n (h .1))
+
+pub sound-current : (ls : List Ring) → AllSound ls → AllCurrent ls
+sound-current [] h = tt
+sound-current (l ∷ ls) h = (h .0 .current, sound-current ls (h .1))
 
 -- a ring that is cut open at its place j
 pub spliced-start : (b : ℕ) (l : Ring) (j : ℕ) → j < length l → startOr b (drop j l ++ take j l) ≡ vertexAt l j
@@ -101,10 +118,14 @@ spliced w l j h =
     ap (pathSum w (drop j l ++ take j l)) (sym (spliced-start 0 l j h)) ∙ sum-turn w (drop j l) (take j l)
     ∙ ap (ringSum w) (take-append-drop j l)
 
--- the ring after a border is sound, if it is still there
+-- the ring after a border is sound if it was, and its current edge is open, if it is still there
 abbrev SoundOr : Ring → Type 0
 SoundOr [] = Unit {0}
 SoundOr (p ∷ ps) = Sound (p ∷ ps)
+
+abbrev CurrentOr : Ring → Type 0
+CurrentOr [] = Unit {0}
+CurrentOr (p ∷ ps) = isOpen p ≡ true
 
 onward-sound : (back ps : List Node) → 3 ≤ length back + length ps → SoundOr (onward back ps)
 unfolding onward
@@ -112,82 +133,96 @@ onward-sound back [] h = tt
 onward-sound back (opened v ∷ ps) h = record { long = simp length-append (omega arith); current = refl }
 onward-sound back (marked v ∷ ps) h = onward-sound (back ++ (marked v ∷ [])) ps (simp length-append (omega arith))
 
-module _ (u a : ℕ) (ws : List Ring) (sw : AllSound ws) where
-  at-a : (f : Node) (ps : List Node) → At ((opened a ∷ (f ∷ ps)) ∷ ws) a
-  unfolding loopsSum ringSum pathSum
-  at-a f ps g = omega arith
+onward-current : (back ps : List Node) → CurrentOr (onward back ps)
+unfolding onward
+onward-current back [] = tt
+onward-current back (opened v ∷ ps) = refl
+onward-current back (marked v ∷ ps) = onward-current (back ++ (marked v ∷ [])) ps
 
-  at-b : (f : Node) (ps : List Node) → At ((opened a ∷ (f ∷ ps)) ∷ ws) (vertex f)
+module _ (u a : ℕ) (ws : List Ring) (cw : AllCurrent ws) where
+  at-a : (ps : List Node) → At ((opened a ∷ ps) ∷ ws) a
   unfolding loopsSum ringSum pathSum
-  at-b f ps g = omega arith
+  at-a ps g = omega arith
 
-  at-c : (f : Node) (ps : List Node) (i : ℕ) → i < length (f ∷ ps) → At ((opened a ∷ (f ∷ ps)) ∷ ws) (vertexAt (f ∷ ps) i)
+  at-b : (ps : List Node) → At ((opened a ∷ ps) ∷ ws) (startOr a ps)
   unfolding loopsSum ringSum pathSum
-  at-c f ps i h g = omega (arith, at-path g (f ∷ ps) i a h)
+  at-b [] g = omega arith
+  at-b (f ∷ ps) g = omega arith
 
-  law-new : (f : Node) (ps : List Node) → Law u ((opened a ∷ (f ∷ ps)) ∷ ws) (atEdge New u a (f ∷ ps) ws)
+  at-c : (ps : List Node) (i : ℕ) → i < length ps → At ((opened a ∷ ps) ∷ ws) (vertexAt ps i)
+  unfolding loopsSum ringSum pathSum
+  at-c ps i h g = omega (arith, at-path g ps i a h)
+
+  law-new : (ps : List Node) → Law u ((opened a ∷ ps) ∷ ws) (atEdge New u a ps ws)
   unfolding atEdge loopsSum ringSum pathSum
-  law-new f ps = record {
-    sums = λ w. omega (arith, sum-append w (f ∷ ps) (opened a ∷ []) u);
-    sound = (record { long = simp length-append (omega arith); current = refl }, sw);
-    numbers = third (at-b f ps) (at-a f ps);
+  law-new ps = record {
+    sums = λ w. omega (arith, sum-append w ps (opened a ∷ []) u, ap (λ (x : ℕ). w u x true) (start-append u ps (opened a ∷ [])));
+    current = (refl, cw);
+    sound = λ s. (record { long = simp length-append (omega (arith, s .0 .long)); current = refl }, s .1);
+    numbers = third (at-b ps) (at-a ps);
     lives = omega arith;
     small = omega arith;
   }
 
-  law-forward : (f : Node) (ps : List Node) → Law u ((opened a ∷ (f ∷ ps)) ∷ ws) (atEdge Forward u a (f ∷ ps) ws)
+  law-forward : (ps : List Node) → Law u ((opened a ∷ ps) ∷ ws) (atEdge Forward u a ps ws)
   unfolding allowed atEdge loopsSum ringSum pathSum vertexAt
-  law-forward f [] = tt
-  law-forward f (g ∷ []) = tt
-  law-forward (marked b) (g ∷ (h ∷ ps)) = rw (no-right (leb 4 (suc (length (marked b ∷ (g ∷ (h ∷ ps))))))) tt
+  law-forward [] = tt
+  law-forward (f ∷ []) = tt
+  law-forward (f ∷ (g ∷ [])) = tt
+  law-forward (marked b ∷ (g ∷ (h ∷ ps))) = rw (no-right (leb 4 (suc (length (marked b ∷ (g ∷ (h ∷ ps))))))) tt
     where
       no-right : (t : Bool) → t && false ≡ false
       no-right true = refl
       no-right false = refl
-  law-forward (opened b) (g ∷ (h ∷ ps)) =
+  law-forward (opened b ∷ (g ∷ (h ∷ ps))) =
       allowed-law u ((opened a ∷ (opened b ∷ (g ∷ (h ∷ ps)))) ∷ ws) (leb 4 (suc (length (opened b ∷ (g ∷ (h ∷ ps))))) && true)
       (builds ((opened a ∷ (g ∷ (h ∷ ps))) ∷ ws) (tri b a (vertex g)) glued fresh glued 0 0 0)
       (λ t. record {
         sums = λ w. omega arith;
-        sound = (record { long = omega arith; current = refl }, sw);
-        numbers = none (at-b (opened b) (g ∷ (h ∷ ps))) (at-a (opened b) (g ∷ (h ∷ ps))) (at-c (opened b) (g ∷ (h ∷ ps)) 1 (omega arith));
+        current = (refl, cw);
+        sound = λ s. (record { long = omega arith; current = refl }, s .1);
+        numbers = none (at-b (opened b ∷ (g ∷ (h ∷ ps)))) (at-a (opened b ∷ (g ∷ (h ∷ ps)))) (at-c (opened b ∷ (g ∷ (h ∷ ps))) 1 (omega arith));
         lives = omega arith;
         small = omega arith;
       })
 
-  law-backward : (f : Node) (ps : List Node) → Law u ((opened a ∷ (f ∷ ps)) ∷ ws) (atEdge Backward u a (f ∷ ps) ws)
+  law-backward : (ps : List Node) → Law u ((opened a ∷ ps) ∷ ws) (atEdge Backward u a ps ws)
   unfolding allowed atEdge loopsSum ringSum pathSum front lastOpen lastVertex
-  law-backward f [] = tt
-  law-backward f (g ∷ ps) =
+  law-backward [] = tt
+  law-backward (f ∷ []) = tt
+  law-backward (f ∷ (g ∷ ps)) =
       let c = lastVertex (g ∷ ps) in
       allowed-law u ((opened a ∷ (f ∷ (g ∷ ps))) ∷ ws) (leb 4 (suc (length (f ∷ (g ∷ ps)))) && lastOpen (g ∷ ps))
       (builds ((opened c ∷ (f ∷ front (g ∷ ps))) ∷ ws) (tri (vertex f) a c) glued glued fresh 0 0 0)
       (λ t.
       let k : 4 ≤ suc (length (f ∷ (g ∷ ps))) = leb-true 4 (suc (length (f ∷ (g ∷ ps)))) (and-left (leb 4 (suc (length (f ∷ (g ∷ ps))))) (lastOpen (g ∷ ps)) t) in
-      let e = front-last g ps (and-right (leb 4 (suc (length (f ∷ (g ∷ ps))))) (lastOpen (g ∷ ps)) t) in
+      let e = front-last (g ∷ ps) (and-right (leb 4 (suc (length (f ∷ (g ∷ ps))))) (lastOpen (g ∷ ps)) t) in
       record {
         sums = λ w. omega (arith, sum-append w (f ∷ front (g ∷ ps)) (opened c ∷ []) a, ap (λ (l : List Node). pathSum w (f ∷ l) a) e);
-        sound = (record { long = omega (arith, length-front g ps); current = refl }, sw);
+        current = (refl, cw);
+        sound = λ s. (record { long = omega (arith, length-front g ps); current = refl }, s .1);
         numbers =
-            none (at-b f (g ∷ ps)) (at-a f (g ∷ ps))
+            none (at-b (f ∷ (g ∷ ps))) (at-a (f ∷ (g ∷ ps)))
             (λ n. omega (arith, sum-append (λ x y o. n x) (f ∷ front (g ∷ ps)) (opened c ∷ []) a, ap (λ (l : List Node). pathSum (λ x y o. n x) (f ∷ l) a) e));
         lives = omega arith;
         small = omega arith;
       })
 
-  law-close : (f : Node) (ps : List Node) → Law u ((opened a ∷ (f ∷ ps)) ∷ ws) (atEdge Close u a (f ∷ ps) ws)
+  law-close : (ps : List Node) → Law u ((opened a ∷ ps) ∷ ws) (atEdge Close u a ps ws)
   unfolding allowed atEdge loopsSum ringSum pathSum vertexAt allOpen
-  law-close f [] = tt
-  law-close f (g ∷ (h ∷ ps)) =
+  law-close [] = tt
+  law-close (f ∷ []) = tt
+  law-close (f ∷ (g ∷ (h ∷ ps))) =
       allowed-law u ((opened a ∷ (f ∷ (g ∷ (h ∷ ps)))) ∷ ws) (eqb (suc (length (f ∷ (g ∷ (h ∷ ps))))) 3 && allOpen (f ∷ (g ∷ (h ∷ ps))))
       (builds ws (tri (vertex f) a (vertex g)) glued glued glued 0 0 0)
       (λ t. absurd (omega (arith, eqb-true (suc (length (f ∷ (g ∷ (h ∷ ps))))) 3 (and-left (eqb (suc (length (f ∷ (g ∷ (h ∷ ps))))) 3) (allOpen (f ∷ (g ∷ (h ∷ ps)))) t))))
-  law-close (marked b) (g ∷ []) = tt
-  law-close (opened b) (marked c ∷ []) = tt
-  law-close (opened b) (opened c ∷ []) = record {
+  law-close (marked b ∷ (g ∷ [])) = tt
+  law-close (opened b ∷ (marked c ∷ [])) = tt
+  law-close (opened b ∷ (opened c ∷ [])) = record {
     sums = λ w. omega arith;
-    sound = sw;
-    numbers = none (at-b (opened b) (opened c ∷ [])) (at-a (opened b) (opened c ∷ [])) (at-c (opened b) (opened c ∷ []) 1 (omega arith));
+    current = cw;
+    sound = λ s. s .1;
+    numbers = none (at-b (opened b ∷ (opened c ∷ []))) (at-a (opened b ∷ (opened c ∷ []))) (at-c (opened b ∷ (opened c ∷ [])) 1 (omega arith));
     lives = omega arith;
     small = omega arith;
   }
@@ -212,30 +247,33 @@ module _ (u a : ℕ) (ws : List Ring) (sw : AllSound ws) where
               ap (pathSum w (take j (f ∷ ps))) (start-drop a (f ∷ ps) j (omega arith)),
               ap (λ (x : ℕ). w a x true) (start-drop a (f ∷ ps) j (omega arith)),
             );
-        sound =
+        current = current-order t lo hi ws refl refl cw;
+        sound = λ s.
             sound-order t lo hi ws (record { long = omega (arith, length-take j (f ∷ ps)); current = refl })
-            (record { long = omega (arith, length-drop j (f ∷ ps)); current = refl }) sw;
-        numbers = none (at-b f ps) (at-a f ps) (at-c f ps j (omega arith));
+            (record { long = omega (arith, length-drop j (f ∷ ps)); current = refl }) (s .1);
+        numbers = none (at-b (f ∷ ps)) (at-a (f ∷ ps)) (at-c (f ∷ ps) j (omega arith));
         lives = omega (arith, length-order t lo hi ws);
         small = omega arith;
       }
 
-  law-split : (f : Node) (ps : List Node) (i : ℕ) → Law u ((opened a ∷ (f ∷ ps)) ∷ ws) (atEdge (Split i) u a (f ∷ ps) ws)
+  law-split : (ps : List Node) (i : ℕ) → Law u ((opened a ∷ ps) ∷ ws) (atEdge (Split i) u a ps ws)
   unfolding allowed atEdge
-  law-split f ps zero = tt
-  law-split f ps (suc zero) = tt
-  law-split f ps (suc (suc i)) =
+  law-split ps zero = tt
+  law-split ps (suc zero) = tt
+  law-split [] (suc (suc i)) =
       let j = suc (suc i) in
-      let c = vertexAt (f ∷ ps) j in
+      allowed-law u ((opened a ∷ []) ∷ ws) _ _ (λ t. absurd (omega (arith, leb-true (j + 3) 1 (and-right (leb 2 j) _ t))))
+  law-split (f ∷ ps) (suc (suc i)) =
+      let j = suc (suc i) in
       allowed-law u ((opened a ∷ (f ∷ ps)) ∷ ws) _ _ (λ t. halves _ f ps i (leb-true (j + 3) (suc (length (f ∷ ps))) (and-right (leb 2 j) _ t)))
 
-  law-union : (f : Node) (ps : List Node) (n j : ℕ) → Law u ((opened a ∷ (f ∷ ps)) ∷ ws) (atEdge (Union n j) u a (f ∷ ps) ws)
+  law-union : (ps : List Node) (n j : ℕ) → Law u ((opened a ∷ ps) ∷ ws) (atEdge (Union n j) u a ps ws)
   unfolding atEdge loopsSum ringSum pathSum
-  law-union f ps n j =
+  law-union ps n j =
       let l = loopAt ws (n - 1) in
       let c = vertexAt l j in
-      allowed-law u ((opened a ∷ (f ∷ ps)) ∷ ws) (leb 1 n && leb n (length ws) && ltb j (length l))
-      (builds ((opened c ∷ (f ∷ (ps ++ (opened a ∷ (drop j l ++ take j l))))) ∷ without ws (n - 1)) (tri (vertex f) a c) glued fresh fresh 0 0 1)
+      allowed-law u ((opened a ∷ ps) ∷ ws) (leb 1 n && leb n (length ws) && ltb j (length l))
+      (builds ((opened c ∷ (ps ++ (opened a ∷ (drop j l ++ take j l)))) ∷ without ws (n - 1)) (tri (startOr a ps) a c) glued fresh fresh 0 0 1)
       (λ t.
       let t′ = and-left (leb 1 n && leb n (length ws)) (ltb j (length l)) t in
       let h : j < length l = ltb-true j (length l) (and-right (leb 1 n && leb n (length ws)) (ltb j (length l)) t) in
@@ -245,63 +283,70 @@ module _ (u a : ℕ) (ws : List Ring) (sw : AllSound ws) where
         sums = λ w.
             omega (
               arith,
-              sum-append w (f ∷ ps) (opened a ∷ (drop j l ++ take j l)) c,
+              sum-append w ps (opened a ∷ (drop j l ++ take j l)) c,
+              ap (λ (x : ℕ). w c x true) (start-append c ps (opened a ∷ (drop j l ++ take j l))),
               spliced w l j h,
               ap (λ (x : ℕ). w a x true) (spliced-start c l j h),
               sum-without w ws (n - 1) (omega arith),
             );
-        sound = (record { long = simp length-append (omega arith); current = refl }, sound-without ws (n - 1) sw);
+        current = (refl, current-without ws (n - 1) cw);
+        sound = λ s. (record { long = simp length-append (omega (arith, s .0 .long)); current = refl }, sound-without ws (n - 1) (s .1));
         numbers =
-            none (at-b f ps) (at-a f ps)
+            none (at-b ps) (at-a ps)
             (λ g. omega (arith, at-path g l j (startOr 0 l) h, sum-without (λ x y o. g x) ws (n - 1) (omega arith)));
         lives = omega (arith, length-without ws (n - 1) (omega arith));
         small = omega arith;
       })
 
-  law-border : (f : Node) (ps : List Node) → 1 ≤ length ps → Law u ((opened a ∷ (f ∷ ps)) ∷ ws) (atEdge Border u a (f ∷ ps) ws)
+  law-border : (ps : List Node) → Law u ((opened a ∷ ps) ∷ ws) (atEdge Border u a ps ws)
   unfolding atEdge loopsSum ringSum pathSum
-  law-border f ps k = go (onward [] (f ∷ (ps ++ (marked a ∷ [])))) refl
+  law-border ps = go (onward [] (ps ++ (marked a ∷ []))) refl
     where
-      total : (w : Weight) → Turned w [] (f ∷ (ps ++ (marked a ∷ [])))
-      total w = turned w [] (f ∷ (ps ++ (marked a ∷ [])))
+      total : (w : Weight) → Turned w [] (ps ++ (marked a ∷ []))
+      total w = turned w [] (ps ++ (marked a ∷ []))
 
-      whole : SoundOr (onward [] (f ∷ (ps ++ (marked a ∷ []))))
-      whole = onward-sound [] (f ∷ (ps ++ (marked a ∷ []))) (simp length-append (omega arith))
+      sums : (w : Weight) (ls : List Ring) → loopsSum w ls ≡ ringSum w (onward [] (ps ++ (marked a ∷ []))) + loopsSum w ws
+          → Marking w ((opened a ∷ ps) ∷ ws) ls (edge a (startOr a ps))
+      sums w ls e = record {
+        lost = total w .lost;
+        total =
+            omega (
+              arith,
+              e,
+              total w .total,
+              sum-append w ps (marked a ∷ []) (startOr 0 (ps ++ (marked a ∷ []))),
+              ap (λ (x : ℕ). w a x false) (start-append 0 ps (marked a ∷ [])),
+            );
+        no-open = λ z. total w .no-open z tt;
+      }
 
-      go : (r : Ring) → onward [] (f ∷ (ps ++ (marked a ∷ []))) ≡ r → Law u ((opened a ∷ (f ∷ ps)) ∷ ws) (marking r ws (edge a (vertex f)))
+      go : (r : Ring) → onward [] (ps ++ (marked a ∷ [])) ≡ r → Law u ((opened a ∷ ps) ∷ ws) (marking r ws (edge a (startOr a ps)))
       go [] e = record {
-        sums = λ w. record {
-          lost = total w .lost;
-          total = omega (arith, total w .total, ap (ringSum w) e, sum-append w (f ∷ ps) (marked a ∷ []) (vertex f));
-          no-open = λ z. total w .no-open z tt;
-        };
-        sound = sw;
+        sums = λ w. sums w ws (omega (arith, ap (ringSum w) e));
+        current = cw;
+        sound = λ s. s .1;
         lives = omega arith;
         small = omega arith;
       }
       go (p ∷ qs) e = record {
-        sums = λ w. record {
-          lost = total w .lost;
-          total = omega (arith, total w .total, ap (ringSum w) e, sum-append w (f ∷ ps) (marked a ∷ []) (vertex f));
-          no-open = λ z. total w .no-open z tt;
-        };
-        sound = (subst SoundOr e whole, sw);
+        sums = λ w. sums w ((p ∷ qs) ∷ ws) (omega (arith, ap (ringSum w) e));
+        current = (subst CurrentOr e (onward-current [] (ps ++ (marked a ∷ []))), cw);
+        sound = λ s. (subst SoundOr e (onward-sound [] (ps ++ (marked a ∷ [])) (simp length-append (omega (arith, s .0 .long)))), s .1);
         lives = omega arith;
         small = omega arith;
       }
 
 -- the law of each operation
-pub at-edge-law : (o : Operation) (u a : ℕ) (f : Node) (ps : List Node) (ws : List Ring) → 1 ≤ length ps → AllSound ws
-    → Law u ((opened a ∷ (f ∷ ps)) ∷ ws) (atEdge o u a (f ∷ ps) ws)
+pub at-edge-law : (o : Operation) (u a : ℕ) (ps : List Node) (ws : List Ring) → AllCurrent ws → Law u ((opened a ∷ ps) ∷ ws) (atEdge o u a ps ws)
 unfolding atEdge
-at-edge-law New u a f ps ws k s = law-new u a ws s f ps
-at-edge-law Forward u a f ps ws k s = law-forward u a ws s f ps
-at-edge-law Backward u a f ps ws k s = law-backward u a ws s f ps
-at-edge-law Border u a f ps ws k s = law-border u a ws s f ps k
-at-edge-law (Split i) u a f ps ws k s = law-split u a ws s f ps i
-at-edge-law Close u a f ps ws k s = law-close u a ws s f ps
-at-edge-law (Union n j) u a f ps ws k s = law-union u a ws s f ps n j
-at-edge-law Start u a f ps ws k s = tt
+at-edge-law New u a ps ws c = law-new u a ws c ps
+at-edge-law Forward u a ps ws c = law-forward u a ws c ps
+at-edge-law Backward u a ps ws c = law-backward u a ws c ps
+at-edge-law Border u a ps ws c = law-border u a ws c ps
+at-edge-law (Split i) u a ps ws c = law-split u a ws c ps i
+at-edge-law Close u a ps ws c = law-close u a ws c ps
+at-edge-law (Union n j) u a ps ws c = law-union u a ws c ps n j
+at-edge-law Start u a ps ws c = tt
 
 at-rest-law : (o : Operation) (u : ℕ) → Law u [] (atRest o u)
 unfolding atRest loopsSum ringSum pathSum
@@ -314,17 +359,17 @@ at-rest-law Close u = tt
 at-rest-law (Union n j) u = tt
 at-rest-law Start u = record {
   sums = λ w. omega arith;
-  sound = (record { long = omega arith; current = refl }, tt);
+  current = (refl, tt);
+  sound = λ s. (record { long = omega arith; current = refl }, tt);
   numbers = three;
   lives = omega arith;
   small = omega arith;
 }
 
--- on loops that are sound
-pub effect-law : (o : Operation) (u : ℕ) (ls : List Ring) → AllSound ls → Law u ls (effect o u ls)
+-- on loops whose current edges are open
+pub effect-law : (o : Operation) (u : ℕ) (ls : List Ring) → AllCurrent ls → Law u ls (effect o u ls)
 unfolding effect
-effect-law o u [] s = at-rest-law o u
-effect-law o u ([] ∷ ws) s = tt
-effect-law o u ((e ∷ []) ∷ ws) s = absurd (omega (arith, s .0 .long))
-effect-law o u ((opened a ∷ (f ∷ ps)) ∷ ws) s = at-edge-law o u a f ps ws (omega (arith, s .0 .long)) (s .1)
-effect-law o u ((marked a ∷ (f ∷ ps)) ∷ ws) s = absurd (false≢true (s .0 .current))
+effect-law o u [] c = at-rest-law o u
+effect-law o u ([] ∷ ws) c = tt
+effect-law o u ((opened a ∷ ps) ∷ ws) c = at-edge-law o u a ps ws (c .1)
+effect-law o u ((marked a ∷ ps) ∷ ws) c = absurd (false≢true (c .0))

@@ -19,7 +19,7 @@ use Rattle.rules.specs.Book.{Book, entered}
 use Rattle.book.specs.Sums.{Weight, pathSum, ringSum, loopsSum, openHit, markHit, openEdges, markedEdges}
 use Rattle.book.specs.Consistent.{Consistent}
 use Rattle.book.proofs.Counting.{and-left, and-right, same-is, same-yes, hit-yes, hit-proper, if-fresh-le, Fits, rule-unjoined, triangle-fits, triangle-pairs, Numbered, add-old, add-next, uses-from}
-use Rattle.book.proofs.Effects.{At, Corners, none, third, three, Builds, Marks, Law, effect-law}
+use Rattle.book.proofs.Effects.{At, Corners, none, third, three, Builds, Marks, Law, sound-current, effect-law}
 
 -- an edge of the loops that has weight
 pub record Found (w : Weight) (count : (ℕ → ℕ → ℕ)) : Type 0 where
@@ -137,7 +137,7 @@ kept-built b c ls t pq qr rp n s k l rule =
       proper = λ x. omega (arith, c .proper x, hit-proper x (t .p) (t .q) p-q, hit-proper x (t .q) (t .r) q-r, hit-proper x (t .r) (t .p) r-p);
       all = g .all;
       marks = λ x y. omega (arith, l .sums (markHit x y), c .marks x y, if-fresh-le pq 0, if-fresh-le qr 0, if-fresh-le rp 0);
-      loops = l .sound;
+      loops = l .sound (c .loops);
       edges = omega (arith, e, c .edges);
       euler = omega (arith, l .lives, c .euler);
     }
@@ -154,7 +154,7 @@ kept-marked b c ls d rim l = record {
   proper = c .proper;
   all = λ x y. let s = l .sums (openHit x y) in omega (arith, s .total, s .no-open (λ p q. refl), c .all x y);
   marks = λ x y. omega (arith, l .sums (markHit x y) .total, c .marks x y);
-  loops = l .sound;
+  loops = l .sound (c .loops);
   edges = c .edges;
   euler = omega (arith, l .lives, c .euler);
 }
@@ -175,7 +175,7 @@ kept-by b c (marks ls d rim) l = test-law (λ (x : Step). Consistent (entered b 
 
 -- an operation, accepted or refused
 pub kept : (b : Book) → Consistent b → (o : Operation) → Consistent (entered b (operation (b .machine) o))
-kept b c o = kept-by b c (effect o (b .machine .used) (b .machine .loops)) (effect-law o (b .machine .used) (b .machine .loops) (c .loops))
+kept b c o = kept-by b c (effect o (b .machine .used) (b .machine .loops)) (effect-law o (b .machine .used) (b .machine .loops) (sound-current (b .machine .loops) (c .loops)))
 
 -- the empty book
 pub empty-consistent : (s : Counts) → Consistent (record { machine = empty s; borders = [] })

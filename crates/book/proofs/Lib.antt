@@ -1,6 +1,7 @@
 pub mod Counting
 pub mod Sums
 pub mod Effects
+pub mod Numbers
 pub mod Kept
 pub mod Bounds
 pub mod Calls

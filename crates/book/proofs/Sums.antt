@@ -27,11 +27,12 @@ sum-turn w (p ∷ ps) (q ∷ qs) =
     rw (sum-append w (p ∷ ps) (q ∷ qs) (vertex p), sum-append w (q ∷ qs) (p ∷ ps) (vertex q)) (omega arith)
 
 -- the last place
-pub front-last : (p : Node) (ps : List Node) → lastOpen (p ∷ ps) ≡ true → front (p ∷ ps) ++ (opened (lastVertex (p ∷ ps)) ∷ []) ≡ p ∷ ps
+pub front-last : (ps : List Node) → lastOpen ps ≡ true → front ps ++ (opened (lastVertex ps) ∷ []) ≡ ps
 unfolding front lastOpen lastVertex
-front-last (opened v) [] h = refl
-front-last (marked v) [] h = absurd (false≢true h)
-front-last p (q ∷ ps) h = ap (λ (l : List Node). p ∷ l) (front-last q ps h)
+front-last [] h = absurd (false≢true h)
+front-last (opened v ∷ []) h = refl
+front-last (marked v ∷ []) h = absurd (false≢true h)
+front-last (p ∷ (q ∷ ps)) h = ap (λ (l : List Node). p ∷ l) (front-last (q ∷ ps) h)
 
 pub length-front : (p : Node) (ps : List Node) → length (front (p ∷ ps)) ≡ length ps
 unfolding front

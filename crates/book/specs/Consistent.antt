@@ -33,6 +33,11 @@ abbrev pub AllSound : List Ring → Type 0
 AllSound [] = Unit {0}
 AllSound (l ∷ ls) = Sound l × AllSound ls
 
+-- the current edge of each loop is open; a loop may have one place or two, which no list of calls leads to, but 21 lets pass
+abbrev pub AllCurrent : List Ring → Type 0
+AllCurrent [] = Unit {0}
+AllCurrent (l ∷ ls) = (firstOpen l ≡ true) × AllCurrent ls
+
 pub record Consistent (b : Book) : Type 0 where
   -- the numbers in triangles are those below `used`
   pub below : (v : ℕ) → 1 ≤ occurs v (corners (b .machine .triangles)) → v < b .machine .used

@@ -1,5 +1,6 @@
 pub mod Sums
 pub mod Below
 pub mod Consistent
+pub mod Numbers
 pub mod Promises
 pub mod Demand

@@ -58,11 +58,9 @@ onward-named vs e ps = named-onward vs [] (ps ++ (marked e ∷ [])) ∙ ap (onwa
 
 last-ring : (vs : List ℕ) (ps : List Node) (ws : List Ring) → 1 ≤ length ps
     → namedRing vs (opened (lastVertex ps) ∷ front ps) ∷ namedLoops vs ws ≡ (opened (lastVertex (namedRing vs ps)) ∷ front (namedRing vs ps)) ∷ namedLoops vs ws
-last-ring vs [] ws h = absurd (omega arith)
-last-ring vs (p ∷ ps) ws h = ap (λ (l : Ring). l ∷ namedLoops vs ws) both
-  where
-    both : namedRing vs (opened (lastVertex (p ∷ ps)) ∷ front (p ∷ ps)) ≡ opened (lastVertex (namedRing vs (p ∷ ps))) ∷ front (namedRing vs (p ∷ ps))
-    both = named-cons vs (lastVertex (p ∷ ps)) (front (p ∷ ps)) ∙ ap₂ (λ (v : ℕ) (l : List Node). opened v ∷ l) (sym (named-last vs p ps)) (named-front vs (p ∷ ps))
+last-ring vs ps ws h =
+    ap (λ (l : Ring). l ∷ namedLoops vs ws)
+    (named-cons vs (lastVertex ps) (front ps) ∙ ap₂ (λ (v : ℕ) (l : List Node). opened v ∷ l) (sym (named-last vs ps h)) (named-front vs ps))
 
 module _ (vs : List ℕ) (u q e : ℕ) (ps : List Node) (ws : List Ring) (b : q < length vs)
     (z : loopsSum (λ p r o. same q p) ((opened e ∷ ps) ∷ ws) ≡ 0) where

@@ -1,6 +1,6 @@
 -- Laws of rings of places named by their vertices: naming goes through each function on rings.
 -- Assumes nothing.
-use Prim.Native.Nat.{ℕ, zero, suc, _<_}
+use Prim.Native.Nat.{ℕ, zero, suc, _≤_, _<_}
 use native.Mathlib.Omega.{arith}
 use mathlib.Core.Bool.{Bool, true, false}
 use mathlib.Core.List.{List, [], _∷_, _++_}
@@ -59,10 +59,11 @@ module _ (vs : List ℕ) where
   named-at (p ∷ ps) zero h = named-vertex p
   named-at (p ∷ ps) (suc i) h = named-at ps i (omega arith)
 
-  pub named-last : (p : Node) (ps : List Node) → lastVertex (namedRing vs (p ∷ ps)) ≡ getD vs (lastVertex (p ∷ ps)) 0
+  pub named-last : (ps : List Node) → 1 ≤ length ps → lastVertex (namedRing vs ps) ≡ getD vs (lastVertex ps) 0
   unfolding namedRing lastVertex
-  named-last p [] = named-vertex p
-  named-last p (q ∷ ps) = named-last q ps
+  named-last [] h = absurd (omega arith)
+  named-last (p ∷ []) h = named-vertex p
+  named-last (p ∷ (q ∷ ps)) h = named-last (q ∷ ps) (omega arith)
 
   pub named-lastOpen : (ps : List Node) → lastOpen (namedRing vs ps) ≡ lastOpen ps
   unfolding namedRing lastOpen

@@ -4,15 +4,15 @@ use Prim.Native.Nat.{ℕ, _+_, _≤_, _<_}
 use native.Mathlib.Omega.{arith}
 use mathlib.Core.Bool.{Bool, true, false}
 use mathlib.Core.List.{List, [], _∷_, _++_}
-use mathlib.Core.Path.{_≡_, refl}
+use mathlib.Core.Path.{_≡_, refl, ap}
 use lib.Dec.{eqb}
 use borrow.Author.Tests.{eqb-true, eqb-false}
 use Rattle.rules.specs.Count.{same}
-use Rattle.rules.specs.Ring.{Node, opened, marked, Ring, vertex, lastOpen, lastVertex}
+use Rattle.rules.specs.Ring.{Node, opened, marked, Ring, vertex, startOr, lastOpen, lastVertex}
 use Rattle.rules.specs.Table.{inOrder}
 use Rattle.book.specs.Sums.{Weight, pathSum, ringSum, loopsSum}
 use Rattle.book.proofs.Counting.{same-yes, same-no, same-le}
-use Rattle.book.proofs.Sums.{sum-append}
+use Rattle.book.proofs.Sums.{start-append, sum-append}
 use Rattle.book.proofs.Effects.{sum-order}
 use Rattle.links.specs.Memory.{Memory, Long, arc, arcHit, among, Holds, placed, Apart, stored}
 use Rattle.links.proofs.Relink.{arc-yes, relink}
@@ -59,56 +59,59 @@ pub record Done (m : Memory) (ls : List Ring) : Type 0 where
   pub holds : Holds m ls
 
 module _ (n : ℕ) (m : Memory) (long : Long n m) (ws : List Ring) where
-  pub do-new : (e q : ℕ) (f : Node) (ps : List Node) → Apart ((opened e ∷ (f ∷ ps)) ∷ ws) → placed q ((opened e ∷ (f ∷ ps)) ∷ ws) ≡ 0
-      → e < n → q < n → vertex f < n → Holds m ((opened e ∷ (f ∷ ps)) ∷ ws)
-      → Done (stored (arc e q true ∷ (arc q (vertex f) true ∷ [])) m) ((opened q ∷ (f ∷ (ps ++ (opened e ∷ [])))) ∷ ws)
-  unfolding loopsSum ringSum pathSum among
-  do-new e q f ps a z be bq bf h =
-      let new = (opened q ∷ (f ∷ (ps ++ (opened e ∷ [])))) ∷ ws in
-      let old = (opened e ∷ (f ∷ ps)) ∷ ws in
-      let s : (w : Weight) → pathSum w (f ∷ (ps ++ (opened e ∷ []))) q ≡ pathSum w (f ∷ ps) e + (w e q true + 0) =
-      λ w. sum-append w (f ∷ ps) (opened e ∷ []) q in
-      let a′ : Apart new = apart-more old new q a z (λ x. omega (arith, s (λ p r o. same x p))) in
+  pub do-new : (e q : ℕ) (ps : List Node) → Apart ((opened e ∷ ps) ∷ ws) → placed q ((opened e ∷ ps) ∷ ws) ≡ 0
+      → e < n → q < n → startOr e ps < n → Holds m ((opened e ∷ ps) ∷ ws)
+      → Done (stored (arc e q true ∷ (arc q (startOr e ps) true ∷ [])) m) ((opened q ∷ (ps ++ (opened e ∷ []))) ∷ ws)
+  unfolding among
+  do-new e q ps a z be bq bf h =
+      let new = (opened q ∷ (ps ++ (opened e ∷ []))) ∷ ws in
+      let old = (opened e ∷ ps) ∷ ws in
+      let f = startOr e ps in
+      let after : (w : Weight) → loopsSum w new ≡ w q f true + (pathSum w ps e + w e q true) + loopsSum w ws =
+      λ w. unfold loopsSum ringSum pathSum in
+      omega (arith, sum-append w ps (opened e ∷ []) q, ap (λ (x : ℕ). w q x true) (start-append q ps (opened e ∷ []))) in
+      let before : (w : Weight) → loopsSum w old ≡ w e f true + pathSum w ps e + loopsSum w ws =
+      λ w. unfold loopsSum ringSum pathSum in refl in
+      let a′ : Apart new = apart-more old new q a z (λ x. omega (arith, after (λ p r o. same x p), before (λ p r o. same x p))) in
       record {
         apart = a′;
         holds =
-            relink new a′ n m long old h (arc e q true ∷ (arc q (vertex f) true ∷ [])) (
-              omega (arith, s (arcHit e q true), arc-yes e q true),
+            relink new a′ n m long old h (arc e q true ∷ (arc q f true ∷ [])) (
+              omega (arith, after (arcHit e q true), arc-yes e q true),
               be,
               bq,
-              (omega (arith, arc-yes q (vertex f) true), bq, bf, tt),
+              (omega (arith, after (arcHit q f true), arc-yes q f true), bq, bf, tt),
             )
-            (λ x y o. omega (arith, s (arcHit x y o)));
+            (λ x y o. omega (arith, after (arcHit x y o), before (arcHit x y o)));
       }
 
-  pub do-forward : (e : ℕ) (f g : Node) (ps : List Node) → Apart ((opened e ∷ (f ∷ (g ∷ ps))) ∷ ws) → e < n → vertex g < n
-      → Holds m ((opened e ∷ (f ∷ (g ∷ ps))) ∷ ws) → Done (stored (arc e (vertex g) true ∷ []) m) ((opened e ∷ (g ∷ ps)) ∷ ws)
+  pub do-forward : (e : ℕ) (f : Node) (ps : List Node) → Apart ((opened e ∷ (f ∷ ps)) ∷ ws) → e < n → startOr e ps < n
+      → Holds m ((opened e ∷ (f ∷ ps)) ∷ ws) → Done (stored (arc e (startOr e ps) true ∷ []) m) ((opened e ∷ ps) ∷ ws)
   unfolding loopsSum ringSum pathSum among
-  do-forward e f g ps a be bg h =
-      let new = (opened e ∷ (g ∷ ps)) ∷ ws in
-      let old = (opened e ∷ (f ∷ (g ∷ ps))) ∷ ws in
+  do-forward e f ps a be bg h =
+      let new = (opened e ∷ ps) ∷ ws in
+      let old = (opened e ∷ (f ∷ ps)) ∷ ws in
       let a′ : Apart new = apart-less old new a (λ x. omega arith) in
       record {
         apart = a′;
         holds =
-            relink new a′ n m long old h (arc e (vertex g) true ∷ []) (omega (arith, arc-yes e (vertex g) true), be, bg, tt)
+            relink new a′ n m long old h (arc e (startOr e ps) true ∷ []) (omega (arith, arc-yes e (startOr e ps) true), be, bg, tt)
             (λ x y o. omega arith);
       }
 
-  pub do-backward : (e l : ℕ) (f : Node) (ps : List Node) → Apart ((opened e ∷ (f ∷ (ps ++ (opened l ∷ [])))) ∷ ws) → l < n → vertex f < n
-      → Holds m ((opened e ∷ (f ∷ (ps ++ (opened l ∷ [])))) ∷ ws) → Done (stored (arc l (vertex f) true ∷ []) m) ((opened l ∷ (f ∷ ps)) ∷ ws)
+  pub do-backward : (e l : ℕ) (ps : List Node) → Apart ((opened e ∷ (ps ++ (opened l ∷ []))) ∷ ws) → l < n → startOr l ps < n
+      → Holds m ((opened e ∷ (ps ++ (opened l ∷ []))) ∷ ws) → Done (stored (arc l (startOr l ps) true ∷ []) m) ((opened l ∷ ps) ∷ ws)
   unfolding loopsSum ringSum pathSum among
-  do-backward e l f ps a bl bf h =
-      let new = (opened l ∷ (f ∷ ps)) ∷ ws in
-      let old = (opened e ∷ (f ∷ (ps ++ (opened l ∷ [])))) ∷ ws in
-      let s : (w : Weight) → pathSum w (f ∷ (ps ++ (opened l ∷ []))) e ≡ pathSum w (f ∷ ps) l + (w l e true + 0) =
-      λ w. sum-append w (f ∷ ps) (opened l ∷ []) e in
+  do-backward e l ps a bl bf h =
+      let new = (opened l ∷ ps) ∷ ws in
+      let old = (opened e ∷ (ps ++ (opened l ∷ []))) ∷ ws in
+      let s : (w : Weight) → pathSum w (ps ++ (opened l ∷ [])) e ≡ pathSum w ps l + (w l e true + 0) = λ w. sum-append w ps (opened l ∷ []) e in
       let sources : (x : ℕ) → placed x new ≤ placed x old = λ x. omega (arith, s (λ p r o. same x p)) in
       let a′ : Apart new = apart-less old new a sources in
       record {
         apart = a′;
         holds =
-            relink new a′ n m long old h (arc l (vertex f) true ∷ []) (omega (arith, arc-yes l (vertex f) true), bl, bf, tt)
+            relink new a′ n m long old h (arc l (startOr l ps) true ∷ []) (omega (arith, arc-yes l (startOr l ps) true), bl, bf, tt)
             (λ x y o. omega (arith, s (arcHit x y o)));
       }
 
@@ -149,20 +152,22 @@ module _ (n : ℕ) (m : Memory) (long : Long n m) (ws : List Ring) where
       }
 
   -- the waiting loop is c ∷ cs from the place c on; l is before c, and q becomes c's second place
-  pub do-union : (e q : ℕ) (f : Node) (ps : List Node) (c : Node) (cs : List Node)
-      → Apart ((opened e ∷ (f ∷ ps)) ∷ ((c ∷ cs) ∷ ws)) → placed q ((opened e ∷ (f ∷ ps)) ∷ ((c ∷ cs) ∷ ws)) ≡ 0
-      → e < n → q < n → vertex f < n → vertex c < n → lastVertex (c ∷ cs) < n → Holds m ((opened e ∷ (f ∷ ps)) ∷ ((c ∷ cs) ∷ ws))
-      → Done (stored (arc q (vertex f) true ∷ (arc (lastVertex (c ∷ cs)) q (lastOpen (c ∷ cs)) ∷ (arc e (vertex c) true ∷ []))) m)
-      ((opened q ∷ (f ∷ (ps ++ (opened e ∷ (c ∷ cs))))) ∷ ws)
+  pub do-union : (e q : ℕ) (ps : List Node) (c : Node) (cs : List Node)
+      → Apart ((opened e ∷ ps) ∷ ((c ∷ cs) ∷ ws)) → placed q ((opened e ∷ ps) ∷ ((c ∷ cs) ∷ ws)) ≡ 0
+      → e < n → q < n → startOr e ps < n → vertex c < n → lastVertex (c ∷ cs) < n → Holds m ((opened e ∷ ps) ∷ ((c ∷ cs) ∷ ws))
+      → Done (stored (arc q (startOr e ps) true ∷ (arc (lastVertex (c ∷ cs)) q (lastOpen (c ∷ cs)) ∷ (arc e (vertex c) true ∷ []))) m)
+      ((opened q ∷ (ps ++ (opened e ∷ (c ∷ cs)))) ∷ ws)
   unfolding among
-  do-union e q f ps c cs a z be bq bf bc bl h =
-      let new = (opened q ∷ (f ∷ (ps ++ (opened e ∷ (c ∷ cs))))) ∷ ws in
-      let old = (opened e ∷ (f ∷ ps)) ∷ ((c ∷ cs) ∷ ws) in
+  do-union e q ps c cs a z be bq bf bc bl h =
+      let new = (opened q ∷ (ps ++ (opened e ∷ (c ∷ cs)))) ∷ ws in
+      let old = (opened e ∷ ps) ∷ ((c ∷ cs) ∷ ws) in
+      let f = startOr e ps in
       let l = lastVertex (c ∷ cs) in
       let o = lastOpen (c ∷ cs) in
-      let after : (w : Weight) → loopsSum w new ≡ w q (vertex f) true + (pathSum w (f ∷ ps) e + (w e (vertex c) true + pathSum w (c ∷ cs) q)) + loopsSum w ws =
-      λ w. unfold loopsSum ringSum pathSum in omega (arith, sum-append w (f ∷ ps) (opened e ∷ (c ∷ cs)) q) in
-      let before : (w : Weight) → loopsSum w old ≡ w e (vertex f) true + pathSum w (f ∷ ps) e + (pathSum w (c ∷ cs) (vertex c) + loopsSum w ws) =
+      let after : (w : Weight) → loopsSum w new ≡ w q f true + (pathSum w ps e + (w e (vertex c) true + pathSum w (c ∷ cs) q)) + loopsSum w ws =
+      λ w. unfold loopsSum ringSum pathSum in
+      omega (arith, sum-append w ps (opened e ∷ (c ∷ cs)) q, ap (λ (x : ℕ). w q x true) (start-append q ps (opened e ∷ (c ∷ cs)))) in
+      let before : (w : Weight) → loopsSum w old ≡ w e f true + pathSum w ps e + (pathSum w (c ∷ cs) (vertex c) + loopsSum w ws) =
       λ w. unfold loopsSum ringSum pathSum in refl in
       let a′ : Apart new =
       apart-more old new q a z
@@ -170,8 +175,8 @@ module _ (n : ℕ) (m : Memory) (long : Long n m) (ws : List Ring) where
       record {
         apart = a′;
         holds =
-            relink new a′ n m long old h (arc q (vertex f) true ∷ (arc l q o ∷ (arc e (vertex c) true ∷ []))) (
-              omega (arith, after (arcHit q (vertex f) true), arc-yes q (vertex f) true),
+            relink new a′ n m long old h (arc q f true ∷ (arc l q o ∷ (arc e (vertex c) true ∷ []))) (
+              omega (arith, after (arcHit q f true), arc-yes q f true),
               bq,
               bf,
               (
@@ -185,22 +190,28 @@ module _ (n : ℕ) (m : Memory) (long : Long n m) (ws : List Ring) where
       }
 
   -- the edge is marked, before the ring is turned to its next open edge
-  pub do-mark : (e : ℕ) (f : Node) (ps : List Node) → Apart ((opened e ∷ (f ∷ ps)) ∷ ws) → e < n → vertex f < n
-      → Holds m ((opened e ∷ (f ∷ ps)) ∷ ws) → Done (stored (arc e (vertex f) false ∷ []) m) ((f ∷ (ps ++ (marked e ∷ []))) ∷ ws)
+  pub do-mark : (e : ℕ) (ps : List Node) → Apart ((opened e ∷ ps) ∷ ws) → e < n → startOr e ps < n
+      → Holds m ((opened e ∷ ps) ∷ ws) → Done (stored (arc e (startOr e ps) false ∷ []) m) ((ps ++ (marked e ∷ [])) ∷ ws)
   unfolding among
-  do-mark e f ps a be bf h =
-      let new = (f ∷ (ps ++ (marked e ∷ []))) ∷ ws in
-      let old = (opened e ∷ (f ∷ ps)) ∷ ws in
-      let after : (w : Weight) → loopsSum w new ≡ pathSum w (f ∷ ps) e + w e (vertex f) false + loopsSum w ws =
-      λ w. unfold loopsSum ringSum pathSum in omega (arith, sum-append w (f ∷ ps) (marked e ∷ []) (vertex f)) in
-      let before : (w : Weight) → loopsSum w old ≡ w e (vertex f) true + pathSum w (f ∷ ps) e + loopsSum w ws =
+  do-mark e ps a be bf h =
+      let new = (ps ++ (marked e ∷ [])) ∷ ws in
+      let old = (opened e ∷ ps) ∷ ws in
+      let f = startOr e ps in
+      let after : (w : Weight) → loopsSum w new ≡ pathSum w ps e + w e f false + loopsSum w ws =
+      λ w. unfold loopsSum ringSum pathSum in
+      omega (
+        arith,
+        sum-append w ps (marked e ∷ []) (startOr 0 (ps ++ (marked e ∷ []))),
+        ap (λ (x : ℕ). w e x false) (start-append 0 ps (marked e ∷ [])),
+      ) in
+      let before : (w : Weight) → loopsSum w old ≡ w e f true + pathSum w ps e + loopsSum w ws =
       λ w. unfold loopsSum ringSum pathSum in refl in
       let a′ : Apart new = apart-less old new a (λ x. omega (arith, after (λ p r o. same x p), before (λ p r o. same x p))) in
       record {
         apart = a′;
         holds =
-            relink new a′ n m long old h (arc e (vertex f) false ∷ [])
-            (omega (arith, after (arcHit e (vertex f) false), arc-yes e (vertex f) false), be, bf, tt)
+            relink new a′ n m long old h (arc e f false ∷ [])
+            (omega (arith, after (arcHit e f false), arc-yes e f false), be, bf, tt)
             (λ x y r. omega (arith, after (arcHit x y r), before (arcHit x y r)));
       }
 

@@ -15,7 +15,7 @@ use Rattle.rules.specs.Triangle.{Edge}
 use Rattle.rules.specs.Ring.{Ring, places}
 use Rattle.rules.specs.Table.{Side, glued, fresh, Effect, not-allowed, builds, marks, effect, edgeRule}
 use Rattle.rules.specs.Machine.{Machine, freshSides, afterBuild, afterMark, built, declared, test, within, done, operation}
-use Rattle.book.specs.Consistent.{AllSound, Ranges}
+use Rattle.book.specs.Consistent.{AllCurrent, Ranges}
 use Rattle.book.proofs.Counting.{and-left, and-right}
 use Rattle.book.proofs.Effects as effects
 use Rattle.links.specs.Memory.{namedLoops}
@@ -32,7 +32,7 @@ use Rattle.memory.specs.Decision.{proposed, newEdges, roomFor, roomBy, d
 use Rattle.memory.specs.Keeps.{Keeps, Decides}
 use Rattle.memory.proofs.Standing.{rings-read}
 use Rattle.memory.proofs.Room.{room}
-use Rattle.memory.proofs.Relinked.{Moved, sound-names}
+use Rattle.memory.proofs.Relinked.{Moved, current-names}
 use Rattle.memory.proofs.Counts.{places-named, places-after, places-sum, leb-same}
 use Rattle.memory.proofs.Proposing.{PlanIs, Proposes}
 use Rattle.memory.proofs.Proposed.{proposes}
@@ -216,7 +216,7 @@ module _ (n : ℕ) (s : Front) (m : List ℕ) (M : Machine) (k : Keeps n s m M) 
   unfolding decided
   decides o r =
       let E : Effect = effect o (s .used) (M .loops) in
-      let sound : AllSound (M .loops) = rw (k .loops) (sound-names (verticesOf n m) (ringsIn n (s .loops) m) (k .stands .sound)) in
+      let current : AllCurrent (M .loops) = rw (k .loops) (current-names (verticesOf n m) (ringsIn n (s .loops) m) (k .stands .sound)) in
       decides-by o E (proposed n s m o) (ap (λ (u : ℕ). done M (effect o u (M .loops))) (k .used)) (r .counts)
-      (effects.effect-law o (s .used) (M .loops) sound)
+      (effects.effect-law o (s .used) (M .loops) current)
       (subst (λ (ls : List Ring). Proposes n s m o (proposed n s m o) (effect o (s .used) ls)) (sym (k .loops)) (proposes n s m o (ringsIn n (s .loops) m) (k .stands)))

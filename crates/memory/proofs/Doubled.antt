@@ -6,6 +6,7 @@ use mathlib.Core.Bool.{Bool, true, false}
 use mathlib.Core.List.{List, [], _∷_, _++_}
 use mathlib.Core.Path.{_≡_, refl, sym, ap, _∙_, subst}
 use lib.ListN.{length, getD, set, take, drop, length-set, length-append, length-drop, take-append-drop}
+use lib.Seq.{length-take-le}
 use Rattle.rules.specs.Count.{num}
 use Rattle.rules.specs.Ring.{Node, opened, Ring, vertex, isOpen, startOr, vertexAt, lastOpen, lastVertex}
 use Rattle.rules.specs.Table.{Effect, allowed}
@@ -16,7 +17,7 @@ use Rattle.memory.specs.Layout.{at, vertexOf, beforeOf, afterOf, openOf,
 use Rattle.memory.specs.Stands.{StandsAt}
 use Rattle.memory.specs.Moves.{topFree, doubled}
 use Rattle.memory.proofs.Columns.{EdgesStored, column-at, edges-stored, named-vertices, named-links, named-above}
-use Rattle.memory.proofs.Standing.{Hop, Trail, trails, last-trail, top-free}
+use Rattle.memory.proofs.Standing.{Hop, Trail, trails, last-trail, start-trail, top-free}
 use Rattle.memory.proofs.Relinked.{Goes}
 use Rattle.memory.proofs.Ended.{trail-append}
 
@@ -31,14 +32,13 @@ trail-join n m b (p ∷ ps) qs t v =
     (subst (λ (y : ℕ). Hop n m (vertex p) y (isOpen p)) (sym (start-append b ps qs)) (t .0), trail-join n m b ps qs (t .1) v)
 
 -- the place before the one that is i places after the first of a ring's rest
-pub split-hop : (n : ℕ) (m : List ℕ) (b : ℕ) (f : Node) (ps : List Node) (i : ℕ) → 1 ≤ i → i < length (f ∷ ps) → Trail n m (f ∷ ps) b
-    → Hop n m (lastVertex (take i (f ∷ ps))) (vertexAt (f ∷ ps) i) (lastOpen (take i (f ∷ ps)))
-split-hop n m b f ps zero k h t = absurd (omega (arith, k))
-split-hop n m b f ps (suc i) k h t =
-    let w : take (suc i) (f ∷ ps) ++ drop (suc i) (f ∷ ps) ≡ f ∷ ps = take-append-drop (suc i) (f ∷ ps) in
-    let r = trail-append n m b (take (suc i) (f ∷ ps)) (drop (suc i) (f ∷ ps)) (subst (λ (l : List Node). Trail n m l b) (sym w) t) in
-    subst (λ (y : ℕ). Hop n m (lastVertex (take (suc i) (f ∷ ps))) y (lastOpen (take (suc i) (f ∷ ps)))) (start-drop b (f ∷ ps) (suc i) h)
-    (last-trail n m (startOr b (drop (suc i) (f ∷ ps))) f (take i ps) (r .0))
+pub split-hop : (n : ℕ) (m : List ℕ) (b : ℕ) (ps : List Node) (i : ℕ) → 1 ≤ i → i < length ps → Trail n m ps b
+    → Hop n m (lastVertex (take i ps)) (vertexAt ps i) (lastOpen (take i ps))
+split-hop n m b ps i k h t =
+    let w : take i ps ++ drop i ps ≡ ps = take-append-drop i ps in
+    let r = trail-append n m b (take i ps) (drop i ps) (subst (λ (l : List Node). Trail n m l b) (sym w) t) in
+    subst (λ (y : ℕ). Hop n m (lastVertex (take i ps)) y (lastOpen (take i ps))) (start-drop b ps i h)
+    (last-trail n m (startOr b (drop i ps)) (take i ps) (r .0) (omega (arith, k, h, length-take-le i ps (omega (arith, h)))))
 
 -- the place before the one at j of a ring
 turned-start : (c : ℕ) (w : Ring) (j : ℕ) → j < length w → vertexAt w j ≡ c → startOr c (take j w) ≡ startOr 0 w
@@ -47,10 +47,6 @@ turned-start c [] j h e = absurd (omega arith)
 turned-start c (p ∷ w) zero h e = sym e
 turned-start c (p ∷ w) (suc j) h e = refl
 
-last-any : (n : ℕ) (m : List ℕ) (b : ℕ) (ps : List Node) → 1 ≤ length ps → Trail n m ps b → Hop n m (lastVertex ps) b (lastOpen ps)
-last-any n m b [] h t = absurd (omega (arith, h))
-last-any n m b (p ∷ ps) h t = last-trail n m b p ps t
-
 pub union-hop : (n : ℕ) (m : List ℕ) (w : Ring) (j : ℕ) → j < length w → Trail n m w (startOr 0 w)
     → Hop n m (lastVertex (drop j w ++ take j w)) (vertexAt w j) (lastOpen (drop j w ++ take j w))
 union-hop n m w j h t =
@@ -58,19 +54,19 @@ union-hop n m w j h t =
     let r = trail-append n m (startOr 0 w) (take j w) (drop j w) (subst (λ (l : List Node). Trail n m l (startOr 0 w)) (sym (take-append-drop j w)) t) in
     let front : Trail n m (take j w) c = subst (Trail n m (take j w)) (start-drop (startOr 0 w) w j h) (r .0) in
     let back : Trail n m (drop j w) (startOr c (take j w)) = subst (Trail n m (drop j w)) (sym (turned-start c w j h refl)) (r .1) in
-    last-any n m c (drop j w ++ take j w) (simp (length-append, length-drop) (omega (arith, h))) (trail-join n m c (drop j w) (take j w) back front)
+    last-trail n m c (drop j w ++ take j w) (trail-join n m c (drop j w) (take j w) back front) (simp (length-append, length-drop) (omega (arith, h)))
 
-module _ (n : ℕ) (s : Loops) (m : List ℕ) (e : ℕ) (f g : Node) (ps : List Node) (ws : List Ring)
-    (st : StandsAt n s m ((opened e ∷ (f ∷ (g ∷ ps))) ∷ ws)) (some : 1 ≤ s .free) where
+module _ (n : ℕ) (s : Loops) (m : List ℕ) (e : ℕ) (ps : List Node) (ws : List Ring)
+    (st : StandsAt n s m ((opened e ∷ ps) ∷ ws)) (some : 1 ≤ s .free) where
   unfoldable pub q : ℕ
   q = topFree n s m
 
-  pub free : (placed q ((opened e ∷ (f ∷ (g ∷ ps))) ∷ ws) ≡ 0) × (q < n)
+  pub free : (placed q ((opened e ∷ ps) ∷ ws) ≡ 0) × (q < n)
   unfolding q
-  free = top-free n s m ((opened e ∷ (f ∷ (g ∷ ps))) ∷ ws) st some
+  free = top-free n s m ((opened e ∷ ps) ∷ ws) st some
 
-  pub ring : Trail n m (opened e ∷ (f ∷ (g ∷ ps))) e
-  ring = trails n s m ((opened e ∷ (f ∷ (g ∷ ps))) ∷ ws) st .0
+  pub ring : Trail n m (opened e ∷ ps) e
+  ring = trails n s m ((opened e ∷ ps) ∷ ws) st .0
 
   long : 4 * n ≤ length m
   long = omega (arith, st .long)
@@ -78,13 +74,13 @@ module _ (n : ℕ) (s : Loops) (m : List ℕ) (e : ℕ) (f g : Node) (ps : List 
   -- the place l before c, and c's second place
   module _ (l c : ℕ) (o : Bool) (hop : Hop n m l c o) (near : c < n) where
     unfoldable pub arcs : List Arc
-    arcs = arc q (vertex f) true ∷ (arc l q o ∷ (arc e c true ∷ []))
+    arcs = arc q (startOr e ps) true ∷ (arc l q o ∷ (arc e c true ∷ []))
 
     doubled-is : doubled n s m c ≡ edgesStored arcs (set m (4 * q) (vertexOf m c))
     unfolding doubled edgesStored arcs q
     doubled-is =
         let a : s .current ≡ e = st .heads .current in
-        let b : afterOf m e ≡ vertex f = ring .0 .fore in
+        let b : afterOf m e ≡ startOr e ps = ring .0 .fore in
         let d : beforeOf m c ≡ l = hop .back in
         let o : openOf m l ≡ num o = hop .mark in
         rw (a, b, d, o)
@@ -93,7 +89,7 @@ module _ (n : ℕ) (s : Loops) (m : List ℕ) (e : ℕ) (f g : Node) (ps : List 
     unfolding arcs
     made =
         edges-stored n (set m (4 * q) (vertexOf m c)) arcs (simp length-set long)
-        (free .1, ring .1 .0 .near, (hop .near, free .1, (ring .0 .near, near, tt)))
+        (free .1, start-trail n m e (ring .0 .near) ps (ring .1), (hop .near, free .1, (ring .0 .near, near, tt)))
 
     pub doubled-length : length (doubled n s m c) ≡ length m
     doubled-length = ap length doubled-is ∙ made .lengths ∙ length-set m (4 * q) (vertexOf m c)

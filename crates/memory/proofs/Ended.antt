@@ -15,7 +15,7 @@ use Rattle.rules.specs.Count.{num, same}
 use Rattle.rules.specs.Ring.{Node, opened, marked, Ring, vertex, isOpen, startOr, onward, places}
 use Rattle.rules.specs.Table.{Effect, marking, atEdge}
 use Rattle.book.specs.Sums.{Weight, pathSum, ringSum, loopsSum}
-use Rattle.book.specs.Consistent.{AllSound}
+use Rattle.book.specs.Consistent.{AllCurrent}
 use Rattle.book.proofs.Sums.{sum-append, sum-turn, start-append}
 use Rattle.links.specs.Memory.{Memory, Arc, arc, Holds, placed, stored, namedRing, namedLoops}
 use Rattle.links.specs.Stores.{alive, placesAfter, stores, verticesAfter, HasLoops}
@@ -25,7 +25,7 @@ use Rattle.memory.specs.Layout.{at, afterOf, openOf, verticesOf, linksOf
 use Rattle.memory.specs.Stands.{Waits, StandsAt}
 use Rattle.memory.specs.Moves.{Held, held, endedHeld, turnedBy, markedHeld}
 use Rattle.memory.proofs.Columns.{EdgesStored, edges-stored, links-long, same-vertices, same-links}
-use Rattle.memory.proofs.Standing.{Hop, Trail, trails, trails-by, apart, below}
+use Rattle.memory.proofs.Standing.{Hop, Trail, start-trail, trails, trails-by, apart, below}
 use Rattle.memory.proofs.Room.{room}
 use Rattle.memory.proofs.Relinked.{Goes, Moved, effectAt, Relinked, relinked, stacked-same, stacked-freed, waits-same}
 
@@ -35,16 +35,12 @@ trail-same n m m′ h b k [] t = tt
 trail-same n m m′ h b k (p ∷ ps) t = (
   record {
     fore = h (4 * vertex p + 2) (omega (arith, t .0 .near)) ∙ t .0 .fore;
-    back = h (4 * startOr b ps + 1) (omega (arith, next ps (t .1))) ∙ t .0 .back;
+    back = h (4 * startOr b ps + 1) (omega (arith, start-trail n m b k ps (t .1))) ∙ t .0 .back;
     mark = h (4 * vertex p + 3) (omega (arith, t .0 .near)) ∙ t .0 .mark;
     near = t .0 .near;
   },
   trail-same n m m′ h b k ps (t .1),
 )
-  where
-    next : (ps : List Node) → Trail n m ps b → startOr b ps < n
-    next [] t = k
-    next (q ∷ qs) t = t .0 .near
 
 pub trail-append : (n : ℕ) (m : List ℕ) (b : ℕ) (ps qs : List Node) → Trail n m (ps ++ qs) b → Trail n m ps (startOr b qs) × Trail n m qs b
 trail-append n m b [] qs t = (tt, t)
@@ -101,11 +97,11 @@ module _ (n : ℕ) (s : Loops) (m : List ℕ) (ps : List Node) (b : ℕ) (long :
       subst (λ (k : ℕ). Released n m (s .free) ps b (released n m (s .free) k (s .current))) (sym es)
       (released-by n m (s .free) ps b (s .current) bn t ec fits (omega arith))
 
-  pub ended : (ws : List Ring) → s .live ≡ suc (length ws) → Waits n m ws → AllSound ws
+  pub ended : (ws : List Ring) → s .live ≡ suc (length ws) → Waits n m ws → AllCurrent ws
       → ((x : ℕ) → pathSum (λ p q o. same x p) ps b + placed x ws + stacked n m (s .free) x ≡ num (ltb x n))
       → Holds (linksOf n m) ws → Ended n (endedHeld n s m) m ws
   unfolding endedHeld left
-  ended [] el waiting sound each holds =
+  ended [] el waiting current each holds =
       let f : leb (s .live) 1 ≡ true = le-leb (s .live) 1 (omega (arith, el)) in
       let e : s .free + s .size ≡ s .free + length ps = omega (arith, es) in
       rw f
@@ -122,7 +118,7 @@ module _ (n : ℕ) (s : Loops) (m : List ℕ) (ps : List Node) (b : ℕ) (long :
         };
         vertices = same-vertices n m left (λ i j. gone .records i (omega arith));
       })
-  ended (w ∷ ws) el waiting sound each holds =
+  ended (w ∷ ws) el waiting current each holds =
       let f : leb (s .live) 1 ≡ false = lt-leb (s .live) 1 (omega (arith, el)) in
       let e : s .free + s .size ≡ s .free + length ps = omega (arith, es) in
       let d : s .live - 2 ≡ length ws = omega (arith, el) in
@@ -141,7 +137,7 @@ module _ (n : ℕ) (s : Loops) (m : List ℕ) (ps : List Node) (b : ℕ) (long :
             size = ap (λ (k : ℕ). at m (5 * n + 2 * k + 1)) d ∙ waiting .1;
             waiting = waits-same n m left (gone .rest) ws (waiting .2);
           };
-          sound = sound;
+          sound = current;
         };
         vertices = same-vertices n m left (λ i j. gone .records i (omega arith));
       })
@@ -149,32 +145,32 @@ module _ (n : ℕ) (s : Loops) (m : List ℕ) (ps : List Node) (b : ℕ) (long :
 has-same : (vs vs′ : List ℕ) (rs : List Ring) (E : Effect) → vs ≡ vs′ → HasLoops (namedLoops vs′ rs) E → HasLoops (namedLoops vs rs) E
 has-same vs vs′ rs E e h = subst (λ (v : List ℕ). HasLoops (namedLoops v rs) E) (sym e) h
 
-module _ (n : ℕ) (s : Loops) (m : List ℕ) (u e : ℕ) (f g : Node) (ps : List Node) (ws : List Ring)
-    (st : StandsAt n s m ((opened e ∷ (f ∷ (g ∷ ps))) ∷ ws)) where
-  ring : Trail n m (opened e ∷ (f ∷ (g ∷ ps))) e
-  ring = trails n s m ((opened e ∷ (f ∷ (g ∷ ps))) ∷ ws) st .0
+module _ (n : ℕ) (s : Loops) (m : List ℕ) (u e : ℕ) (ps : List Node) (ws : List Ring)
+    (st : StandsAt n s m ((opened e ∷ ps) ∷ ws)) where
+  ring : Trail n m (opened e ∷ ps) e
+  ring = trails n s m ((opened e ∷ ps) ∷ ws) st .0
 
-  enough : s .free + length (opened e ∷ (f ∷ (g ∷ ps))) ≤ n
+  enough : s .free + length (opened e ∷ ps) ≤ n
   unfolding places
-  enough = omega (arith, room n s m ((opened e ∷ (f ∷ (g ∷ ps))) ∷ ws) st)
+  enough = omega (arith, room n s m ((opened e ∷ ps) ∷ ws) st)
 
-  whole : (x : ℕ) → pathSum (λ p q o. same x p) (opened e ∷ (f ∷ (g ∷ ps))) e + placed x ws + stacked n m (s .free) x ≡ num (ltb x n)
+  whole : (x : ℕ) → pathSum (λ p q o. same x p) (opened e ∷ ps) e + placed x ws + stacked n m (s .free) x ≡ num (ltb x n)
   unfolding loopsSum ringSum
   whole x = omega (arith, st .each x)
 
-  pub moved-close : Goes (effectAt Close u n m e (f ∷ (g ∷ ps)) ws) → Moved n s m (endedHeld n s m) (effectAt Close u n m e (f ∷ (g ∷ ps)) ws)
+  pub moved-close : Goes (effectAt Close u n m e ps ws) → Moved n s m (endedHeld n s m) (effectAt Close u n m e ps ws)
   unfolding stores verticesAfter placesAfter stored
   moved-close goes =
-      let r = relinked Close n s m u 0 e f g ps ws st goes (λ t. absurd t) m refl refl in
+      let r = relinked Close n s m u 0 e ps ws st goes (λ t. absurd t) m refl refl in
       let d =
-      ended n s m (opened e ∷ (f ∷ (g ∷ ps))) e (st .long) (ring .0 .near) ring (st .heads .current) (st .heads .size) enough ws (st .heads .live)
-      (st .heads .waiting) (r .sound) whole (r .holds) in
+      ended n s m (opened e ∷ ps) e (st .long) (ring .0 .near) ring (st .heads .current) (st .heads .size) enough ws (st .heads .live)
+      (st .heads .waiting) (r .current) whole (r .holds) in
       record {
         rings = ws;
         lengths = d .lengths;
         rest = λ i h. d .rest i (omega arith);
         stands = d .stands;
-        loops = has-same (verticesOf n (endedHeld n s m .memory)) (verticesOf n m) ws (effectAt Close u n m e (f ∷ (g ∷ ps)) ws) (d .vertices) (r .loops);
+        loops = has-same (verticesOf n (endedHeld n s m .memory)) (verticesOf n m) ws (effectAt Close u n m e ps ws) (d .vertices) (r .loops);
       }
 
 -- where the ring goes on after its first edge is marked
@@ -206,23 +202,28 @@ way n m b back (marked v ∷ ps) t = go (way n m b (back ++ (marked v ∷ [])) p
         on x qs e (step ∙ f) o (l ∙ simp length-append (omega arith)) (λ k. w k ∙ ap (ringSum k) (append-assoc back (marked v ∷ []) ps))
     go (off e f) = off e (step ∙ f)
 
+first-marked : (n : ℕ) (m : List ℕ) (b : ℕ) (ps : List Node) → Trail n m ps b → onward [] ps ≡ [] → 1 ≤ length ps → openOf m (startOr b ps) ≡ 0
+first-marked n m b [] t h k = absurd (omega (arith, k))
+first-marked n m b (marked v ∷ ps) t h k = t .0 .mark
+first-marked n m b (opened v ∷ ps) t h k = absurd (unfold onward in omega (arith, ap {B = ℕ} length h))
+
 marking-goes : (r : Ring) (ws : List Ring) (d : Edge) → Goes (marking r ws d)
 marking-goes [] ws d = tt
 marking-goes (p ∷ r) ws d = tt
 
-module _ (n : ℕ) (s : Loops) (m : List ℕ) (u e : ℕ) (f g : Node) (ps : List Node) (ws : List Ring)
-    (st : StandsAt n s m ((opened e ∷ (f ∷ (g ∷ ps))) ∷ ws)) where
-  pub goes-border : Goes (effectAt Border u n m e (f ∷ (g ∷ ps)) ws)
+module _ (n : ℕ) (s : Loops) (m : List ℕ) (u e : ℕ) (ps : List Node) (ws : List Ring)
+    (st : StandsAt n s m ((opened e ∷ ps) ∷ ws)) where
+  pub goes-border : Goes (effectAt Border u n m e ps ws)
   unfolding atEdge
   goes-border =
-      marking-goes (onward [] (namedRing (verticesOf n m) (f ∷ (g ∷ ps)) ++ (marked (getD (verticesOf n m) e 0) ∷ []))) (namedLoops (verticesOf n m) ws)
-      (edge (getD (verticesOf n m) e 0) (startOr (getD (verticesOf n m) e 0) (namedRing (verticesOf n m) (f ∷ (g ∷ ps)))))
+      marking-goes (onward [] (namedRing (verticesOf n m) ps ++ (marked (getD (verticesOf n m) e 0) ∷ []))) (namedLoops (verticesOf n m) ws)
+      (edge (getD (verticesOf n m) e 0) (startOr (getD (verticesOf n m) e 0) (namedRing (verticesOf n m) ps)))
 
   around : List Node
-  around = f ∷ ((g ∷ ps) ++ (marked e ∷ []))
+  around = ps ++ (marked e ∷ [])
 
   marking-arcs : List Arc
-  marking-arcs = arc e (vertex f) false ∷ []
+  marking-arcs = arc e (startOr e ps) false ∷ []
 
   marked-memory : List ℕ
   marked-memory = edgesStored marking-arcs m
@@ -230,32 +231,40 @@ module _ (n : ℕ) (s : Loops) (m : List ℕ) (u e : ℕ) (f g : Node) (ps : Lis
   long₄ : 4 * n ≤ length m
   long₄ = omega (arith, st .long)
 
+  after-near : startOr e ps < n
+  after-near = start-trail n m e (ring n s m u e ps ws st .0 .near) ps (ring n s m u e ps ws st .1)
+
+  around-start : (b : ℕ) → startOr b around ≡ startOr e ps
+  unfolding around
+  around-start b = start-append b ps (marked e ∷ [])
+
   made : EdgesStored n m marking-arcs
   unfolding marking-arcs
-  made = edges-stored n m marking-arcs long₄ (ring n s m u e f g ps ws st .0 .near, ring n s m u e f g ps ws st .1 .0 .near, tt)
+  made = edges-stored n m marking-arcs long₄ (ring n s m u e ps ws st .0 .near, after-near, tt)
 
-  around-placed : (x : ℕ) → placed x (around ∷ ws) ≡ placed x ((opened e ∷ (f ∷ (g ∷ ps))) ∷ ws)
+  around-placed : (x : ℕ) → placed x (around ∷ ws) ≡ placed x ((opened e ∷ ps) ∷ ws)
   unfolding around loopsSum ringSum pathSum
-  around-placed x = omega (arith, sum-append (λ p r o. same x p) (f ∷ (g ∷ ps)) (marked e ∷ []) (vertex f))
+  around-placed x = omega (arith, sum-append (λ p r o. same x p) ps (marked e ∷ []) (startOr 0 around))
 
-  around-trail : Trail n marked-memory around (vertex f)
+  around-trail : Trail n marked-memory around (startOr e ps)
   unfolding marked-memory marking-arcs around
   around-trail =
-      trails-by n marked-memory (around ∷ ws) (λ x h. below n s m ((opened e ∷ (f ∷ (g ∷ ps))) ∷ ws) st x (omega (arith, around-placed x)))
+      subst (Trail n marked-memory around) (around-start 0)
+      (trails-by n marked-memory (around ∷ ws) (λ x h. below n s m ((opened e ∷ ps) ∷ ws) st x (omega (arith, around-placed x)))
       (subst (λ (M : Memory). Holds M (around ∷ ws)) (sym (made .links))
-      (do-mark n (linksOf n m) (links-long n m) ws e f (g ∷ ps) (apart n s m ((opened e ∷ (f ∷ (g ∷ ps))) ∷ ws) st)
-      (ring n s m u e f g ps ws st .0 .near) (ring n s m u e f g ps ws st .1 .0 .near) (st .holds) .holds)) .0
+      (do-mark n (linksOf n m) (links-long n m) ws e ps (apart n s m ((opened e ∷ ps) ∷ ws) st)
+      (ring n s m u e ps ws st .0 .near) after-near (st .holds) .holds)) .0)
 
-  linked : Relinked n marked-memory (alive (onward [] around) ws) (effectAt Border u n m e (f ∷ (g ∷ ps)) ws)
+  linked : Relinked n marked-memory (alive (onward [] around) ws) (effectAt Border u n m e ps ws)
   unfolding marked-memory marking-arcs around stores verticesAfter placesAfter
-  linked = relinked Border n s m u 0 e f g ps ws st goes-border (λ t. absurd t) marked-memory (made .links) (made .vertices)
+  linked = relinked Border n s m u 0 e ps ws st goes-border (λ t. absurd t) marked-memory (made .links) (made .vertices)
 
   around-length : s .size ≡ length around
   unfolding around
   around-length = simp length-append (omega (arith, st .heads .size))
 
   marked-held : markedHeld n s m
-      ≡ turnedBy (eqb (openOf marked-memory (sought marked-memory (length around) (vertex f))) 0) n s marked-memory (sought marked-memory (length around) (vertex f))
+      ≡ turnedBy (eqb (openOf marked-memory (sought marked-memory (length around) (startOr e ps))) 0) n s marked-memory (sought marked-memory (length around) (startOr e ps))
   unfolding markedHeld marked-memory marking-arcs
   marked-held =
       let at-edge : ℕ → ℕ → ℕ → Held =
@@ -263,8 +272,8 @@ module _ (n : ℕ) (s : Loops) (m : List ℕ) (u e : ℕ) (f g : Node) (ps : Lis
       turnedBy (eqb (openOf (edgesStored (arc c x false ∷ []) m) (sought (edgesStored (arc c x false ∷ []) m) k x)) 0) n s (edgesStored (arc c x false ∷ []) m)
       (sought (edgesStored (arc c x false ∷ []) m) k x) in
       let a : s .current ≡ e = st .heads .current in
-      let b : afterOf m e ≡ vertex f = ring n s m u e f g ps ws st .0 .fore in
-      ap (λ (c : ℕ). at-edge c (afterOf m c) (s .size)) a ∙ ap (λ (x : ℕ). at-edge e x (s .size)) b ∙ ap (at-edge e (vertex f)) around-length
+      let b : afterOf m e ≡ startOr e ps = ring n s m u e ps ws st .0 .fore in
+      ap (λ (c : ℕ). at-edge c (afterOf m c) (s .size)) a ∙ ap (λ (x : ℕ). at-edge e x (s .size)) b ∙ ap (at-edge e (startOr e ps)) around-length
 
   above : (i : ℕ) → 4 * n ≤ i → at marked-memory i ≡ at m i
   unfolding marked-memory
@@ -276,10 +285,10 @@ module _ (n : ℕ) (s : Loops) (m : List ℕ) (u e : ℕ) (f g : Node) (ps : Lis
 
   goes-on : (v : ℕ) (qs : List Node) → onward [] around ≡ opened v ∷ qs → length (opened v ∷ qs) ≡ length around
       → ((w : Weight) → ringSum w (opened v ∷ qs) ≡ ringSum w around)
-      → Moved n s m (held (s .live) v (s .size) (s .free) marked-memory) (effectAt Border u n m e (f ∷ (g ∷ ps)) ws)
+      → Moved n s m (held (s .live) v (s .size) (s .free) marked-memory) (effectAt Border u n m e ps ws)
   unfolding loopsSum
   goes-on v qs eo el sums =
-      let l = subst (λ (r : Ring). Relinked n marked-memory (alive r ws) (effectAt Border u n m e (f ∷ (g ∷ ps)) ws)) eo linked in
+      let l = subst (λ (r : Ring). Relinked n marked-memory (alive r ws) (effectAt Border u n m e ps ws)) eo linked in
       record {
         rings = (opened v ∷ qs) ∷ ws;
         lengths = same-long;
@@ -301,56 +310,56 @@ module _ (n : ℕ) (s : Loops) (m : List ℕ) (u e : ℕ) (f g : Node) (ps : Lis
             size = around-length ∙ sym el;
             waiting = waits-same n m marked-memory (λ i h. above i (omega arith)) ws (st .heads .waiting);
           };
-          sound = l .sound;
+          sound = l .current;
         };
         loops = l .loops;
       }
 
-  turned-trail : Trail n marked-memory (marked e ∷ (f ∷ (g ∷ ps))) e
+  turned-trail : Trail n marked-memory (marked e ∷ ps) e
   unfolding around
   turned-trail =
-      let r = trail-append n marked-memory (vertex f) (f ∷ (g ∷ ps)) (marked e ∷ []) around-trail in
+      let r = trail-append n marked-memory (startOr e ps) ps (marked e ∷ []) around-trail in
       (r .1 .0, r .0)
 
-  goes-off : onward [] around ≡ [] → Moved n s m (endedHeld n s marked-memory) (effectAt Border u n m e (f ∷ (g ∷ ps)) ws)
+  goes-off : onward [] around ≡ [] → Moved n s m (endedHeld n s marked-memory) (effectAt Border u n m e ps ws)
   unfolding pathSum
   goes-off eo =
-      let l = subst (λ (r : Ring). Relinked n marked-memory (alive r ws) (effectAt Border u n m e (f ∷ (g ∷ ps)) ws)) eo linked in
+      let l = subst (λ (r : Ring). Relinked n marked-memory (alive r ws) (effectAt Border u n m e ps ws)) eo linked in
       let d =
-      ended n s marked-memory (marked e ∷ (f ∷ (g ∷ ps))) e (omega (arith, st .long, same-long)) (ring n s m u e f g ps ws st .0 .near) turned-trail
-      (st .heads .current) (st .heads .size) (enough n s m u e f g ps ws st) ws (st .heads .live)
-      (waits-same n m marked-memory (λ i h. above i (omega arith)) ws (st .heads .waiting)) (l .sound)
-      (λ x. omega (arith, whole n s m u e f g ps ws st x, stacked-same n x m marked-memory (s .free) (λ i h. above (4 * n + i) (omega arith)))) (l .holds) in
+      ended n s marked-memory (marked e ∷ ps) e (omega (arith, st .long, same-long)) (ring n s m u e ps ws st .0 .near) turned-trail
+      (st .heads .current) (st .heads .size) (enough n s m u e ps ws st) ws (st .heads .live)
+      (waits-same n m marked-memory (λ i h. above i (omega arith)) ws (st .heads .waiting)) (l .current)
+      (λ x. omega (arith, whole n s m u e ps ws st x, stacked-same n x m marked-memory (s .free) (λ i h. above (4 * n + i) (omega arith)))) (l .holds) in
       record {
         rings = ws;
         lengths = d .lengths ∙ same-long;
         rest = λ i h. d .rest i (omega arith) ∙ above i (omega arith);
         stands = d .stands;
         loops =
-            has-same (verticesOf n (endedHeld n s marked-memory .memory)) (verticesOf n marked-memory) ws (effectAt Border u n m e (f ∷ (g ∷ ps)) ws) (d .vertices) (l .loops);
+            has-same (verticesOf n (endedHeld n s marked-memory .memory)) (verticesOf n marked-memory) ws (effectAt Border u n m e ps ws) (d .vertices) (l .loops);
       }
 
-  f-marked : onward [] around ≡ [] → openOf marked-memory (vertex f) ≡ 0
+  f-marked : onward [] around ≡ [] → openOf marked-memory (startOr e ps) ≡ 0
   unfolding around
-  f-marked eo = around-trail .0 .mark ∙ ap num (closed f eo)
-    where
-      closed : (p : Node) → onward [] (p ∷ ((g ∷ ps) ++ (marked e ∷ []))) ≡ [] → isOpen p ≡ false
-      closed (marked v) h = refl
-      closed (opened v) h = absurd (unfold onward in omega (arith, ap {B = ℕ} length h))
+  f-marked eo =
+      ap (openOf marked-memory) (sym (around-start (startOr e ps)))
+      ∙ first-marked n marked-memory (startOr e ps) around around-trail eo (simp length-append (omega arith))
 
-  turns : Way marked-memory (vertex f) [] around
-      → Moved n s m (turnedBy (eqb (openOf marked-memory (sought marked-memory (length around) (vertex f))) 0) n s marked-memory (sought marked-memory (length around) (vertex f)))
-      (effectAt Border u n m e (f ∷ (g ∷ ps)) ws)
-  unfolding around
+  turned-at : (v : ℕ) → sought marked-memory (length around) (startOr (startOr e ps) around) ≡ v → sought marked-memory (length around) (startOr e ps) ≡ v
+  turned-at v es = ap (sought marked-memory (length around)) (sym (around-start (startOr e ps))) ∙ es
+
+  turns : Way marked-memory (startOr e ps) [] around
+      → Moved n s m (turnedBy (eqb (openOf marked-memory (sought marked-memory (length around) (startOr e ps))) 0) n s marked-memory (sought marked-memory (length around) (startOr e ps)))
+      (effectAt Border u n m e ps ws)
   turns (on v qs eo es ov el sums) =
-      subst (λ (p : ℕ). Moved n s m (turnedBy (eqb (openOf marked-memory p) 0) n s marked-memory p) (effectAt Border u n m e (f ∷ (g ∷ ps)) ws)) (sym es)
-      (subst (λ (t : ℕ). Moved n s m (turnedBy (eqb t 0) n s marked-memory v) (effectAt Border u n m e (f ∷ (g ∷ ps)) ws)) (sym ov)
+      subst (λ (p : ℕ). Moved n s m (turnedBy (eqb (openOf marked-memory p) 0) n s marked-memory p) (effectAt Border u n m e ps ws)) (sym (turned-at v es))
+      (subst (λ (t : ℕ). Moved n s m (turnedBy (eqb t 0) n s marked-memory v) (effectAt Border u n m e ps ws)) (sym ov)
       (goes-on v qs eo (omega (arith, el)) sums))
   turns (off eo es) =
-      subst (λ (p : ℕ). Moved n s m (turnedBy (eqb (openOf marked-memory p) 0) n s marked-memory p) (effectAt Border u n m e (f ∷ (g ∷ ps)) ws)) (sym es)
-      (subst (λ (t : ℕ). Moved n s m (turnedBy (eqb t 0) n s marked-memory (vertex f)) (effectAt Border u n m e (f ∷ (g ∷ ps)) ws)) (sym (f-marked eo)) (goes-off eo))
+      subst (λ (p : ℕ). Moved n s m (turnedBy (eqb (openOf marked-memory p) 0) n s marked-memory p) (effectAt Border u n m e ps ws)) (sym (turned-at (startOr e ps) es))
+      (subst (λ (t : ℕ). Moved n s m (turnedBy (eqb t 0) n s marked-memory (startOr e ps)) (effectAt Border u n m e ps ws)) (sym (f-marked eo)) (goes-off eo))
 
-  pub moved-border : Moved n s m (markedHeld n s m) (effectAt Border u n m e (f ∷ (g ∷ ps)) ws)
+  pub moved-border : Moved n s m (markedHeld n s m) (effectAt Border u n m e ps ws)
   moved-border =
-      subst (λ (h : Held). Moved n s m h (effectAt Border u n m e (f ∷ (g ∷ ps)) ws)) (sym marked-held)
-      (turns (way n marked-memory (vertex f) [] around around-trail))
+      subst (λ (h : Held). Moved n s m h (effectAt Border u n m e ps ws)) (sym marked-held)
+      (turns (way n marked-memory (startOr e ps) [] around around-trail))

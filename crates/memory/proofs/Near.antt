@@ -9,12 +9,12 @@ use lib.ListN.{length, set, length-append, length-set}
 use lib.Seq.{getD-set-same, getD-set-other}
 use lib.Dec.{eqb}
 use borrow.Author.Tests.{eqb-true, eqb-false}
-use Rattle.rules.specs.Ring.{Node, opened, marked, Ring, vertex, startOr, places, loopAt}
+use Rattle.rules.specs.Ring.{Node, opened, marked, Ring, startOr, places, loopAt}
 use Rattle.memory.specs.declared.Loops.{Loops}
 use Rattle.memory.specs.Layout.{at, beforeOf, afterOf, edgeStored, walked, sought}
 use Rattle.memory.specs.Stands.{StandsAt}
 use Rattle.memory.specs.Near.{Near, Starts}
-use Rattle.memory.proofs.Standing.{Trail, trails, trail-at, walk-trail, near-trail, last-trail, top-free}
+use Rattle.memory.proofs.Standing.{Trail, trails, trail-at, walk-trail, near-trail, last-trail, start-trail, top-free}
 use Rattle.memory.proofs.Room.{room}
 use Rattle.memory.proofs.Waiting.{waits-at}
 use Rattle.memory.proofs.Doubled.{trail-join}
@@ -39,27 +39,28 @@ loop-le (w ∷ ws) zero = omega arith
 loop-le (w ∷ ws) (suc i) = omega (arith, loop-le ws i)
 
 module _ (n : ℕ) (l : Loops) (m : List ℕ) (few : n ≤ 1024) where
-  near-at : (e : ℕ) (f g : Node) (ps : List Node) (ws : List Ring) → StandsAt n l m ((opened e ∷ (f ∷ (g ∷ ps))) ∷ ws) → Near n l m
+  near-at : (e : ℕ) (ps : List Node) (ws : List Ring) → StandsAt n l m ((opened e ∷ ps) ∷ ws) → Near n l m
   unfolding places
-  near-at e f g ps ws st =
-      let rs : List Ring = (opened e ∷ (f ∷ (g ∷ ps))) ∷ ws in
+  near-at e ps ws st =
+      let rs : List Ring = (opened e ∷ ps) ∷ ws in
       let t = trails n l m rs st in
-      let ring : Trail n m (opened e ∷ (f ∷ (g ∷ ps))) e = t .0 in
+      let ring : Trail n m (opened e ∷ ps) e = t .0 in
       let c : l .current ≡ e = st .heads .current in
-      let z : l .size ≡ length (opened e ∷ (f ∷ (g ∷ ps))) = st .heads .size in
+      let z : l .size ≡ length (opened e ∷ ps) = st .heads .size in
+      let last = last-trail n m e (opened e ∷ ps) ring (omega arith) in
       let r = room n l m rs st in
       let idx : (w : ℕ) → w + 2 ≤ l .live → w + (length ws - 1 - w) + 1 ≡ length ws = λ w h. omega (arith, h, st .heads .live) in
       record {
         few = few;
         live = omega (arith, st .heads .live);
         long = st .long;
-        three = omega (arith, z);
+        some = omega (arith, z);
         room = omega (arith, z, r);
         ahead = λ j h.
             rw c
-            (along n m (vertex f) (ring .1 .0 .near) ((opened e ∷ (f ∷ (g ∷ ps))) ++ (opened e ∷ []))
-            (trail-join n m (vertex f) (opened e ∷ (f ∷ (g ∷ ps))) (opened e ∷ []) ring (ring .0, tt)) j (simp length-append (omega (arith, h, z))));
-        behind = rw (c, last-trail n m e f (g ∷ ps) (ring .1) .back) (last-trail n m e f (g ∷ ps) (ring .1) .near);
+            (along n m (startOr e ps) (start-trail n m e (ring .0 .near) ps (ring .1)) ((opened e ∷ ps) ++ (opened e ∷ []))
+            (trail-join n m (startOr e ps) (opened e ∷ ps) (opened e ∷ []) ring (ring .0, tt)) j (simp length-append (omega (arith, h, z))));
+        behind = rw (c, last .back) (last .near);
         top = λ h. top-free n l m rs st h .1;
         waiting = λ w h j k.
             let i : ℕ = length ws - 1 - w in
@@ -75,11 +76,9 @@ module _ (n : ℕ) (l : Loops) (m : List ℕ) (few : n ≤ 1024) where
 
   pub near : (rs : List Ring) → StandsAt n l m rs → 1 ≤ l .live → Near n l m
   near [] st h = absurd (omega (arith, h, st .heads))
-  near ([] ∷ ws) st h = absurd (omega (arith, st .sound .0 .long))
-  near ((e ∷ []) ∷ ws) st h = absurd (omega (arith, st .sound .0 .long))
-  near ((e ∷ (f ∷ [])) ∷ ws) st h = absurd (omega (arith, st .sound .0 .long))
-  near ((marked e ∷ (f ∷ (g ∷ ps))) ∷ ws) st h = absurd (false≢true (st .sound .0 .current))
-  near ((opened e ∷ (f ∷ (g ∷ ps))) ∷ ws) st h = near-at e f g ps ws st
+  near ([] ∷ ws) st h = absurd (false≢true (st .sound .0))
+  near ((marked e ∷ ps) ∷ ws) st h = absurd (false≢true (st .sound .0))
+  near ((opened e ∷ ps) ∷ ws) st h = near-at e ps ws st
 
 -- the current place and the two after it
 module _ (n : ℕ) (l : Loops) (m : List ℕ) (h : Near n l m) where
@@ -89,11 +88,11 @@ module _ (n : ℕ) (l : Loops) (m : List ℕ) (h : Near n l m) where
 
   pub near-f : afterOf m (l .current) < n
   unfolding walked
-  near-f = h .ahead 1 (omega (arith, h .three))
+  near-f = h .ahead 1 (omega (arith, h .some))
 
   pub near-g : afterOf m (afterOf m (l .current)) < n
   unfolding walked
-  near-g = h .ahead 2 (omega (arith, h .three))
+  near-g = h .ahead 2 (omega (arith, h .some))
 
   pub near-next : (f c : ℕ) → f ≡ afterOf m (l .current) → c ≡ afterOf m f → c < n
   near-next f c ef ec = subst (λ (x : ℕ). x < n) (sym (ec ∙ ap (afterOf m) ef)) near-g
@@ -173,7 +172,7 @@ module _ (n : ℕ) (l : Loops) (m m₁ : List ℕ) (f o : ℕ) (h : Near n l m) 
     few = h .few;
     live = h .live;
     long = omega (arith, h .long, long-marked);
-    three = h .three;
+    some = h .some;
     room = h .room;
     ahead = λ j k. rw (same-walk j (l .current)) (h .ahead j k);
     behind = behind-marked;

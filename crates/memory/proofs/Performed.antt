@@ -179,8 +179,8 @@ marked-free n l m h =
 after-free : (n : ℕ) (s : Front) (m : List ℕ) (o : Operation) (p : Plan) → s .loops .free ≤ n → Performs n s m o p → heldAfter n s m o p .loops .free ≤ n
 unfolding newHeld forwardHeld backwardHeld splitHeld unionHeld startHeld
 after-free n s m New p f h = omega (arith, f)
-after-free n s m Forward p f h = omega (arith, h .room, h .three)
-after-free n s m Backward p f h = omega (arith, h .room, h .three)
+after-free n s m Forward p f h = omega (arith, h .room, h .some)
+after-free n s m Backward p f h = omega (arith, h .room, h .some)
 after-free n s m Border p f h = marked-free n (s .loops) m h
 after-free n s m (Split i) p f h = go (leb (i + 1) (s .loops .size - i))
   where

@@ -2,7 +2,7 @@
 -- Assumes nothing.
 use Prim.Native.Nat.{ℕ, _+_, _-_, _*_, _≤_, _<_}
 use native.Mathlib.Omega.{arith}
-use mathlib.Core.Bool.{Bool, true, false, _&&_}
+use mathlib.Core.Bool.{Bool, true, false, _&&_, false≢true}
 use mathlib.Core.List.{List, [], _∷_}
 use mathlib.Core.Path.{_≡_, refl, ap, _∙_, subst}
 use lib.ListN.{length}
@@ -84,16 +84,15 @@ module _ (n : ℕ) (l : Loops) (m : List ℕ) (some : 1 ≤ l .free) where
   pub doubles-split : (rs : List Ring) → StandsAt n l m rs → 1 ≤ l .live → (i : ℕ) → 2 ≤ i → i + 3 ≤ l .size
       → Doubles n l m (walked m i (afterOf m (l .current)))
   doubles-split [] st h i a b = absurd (omega (arith, h, st .heads))
-  doubles-split ([] ∷ ws) st h i a b = absurd (omega (arith, st .sound .0 .long))
-  doubles-split ((e ∷ []) ∷ ws) st h i a b = absurd (omega (arith, st .sound .0 .long))
-  doubles-split ((e ∷ (f ∷ ps)) ∷ ws) st h i a b =
-      let t = trails n l m ((e ∷ (f ∷ ps)) ∷ ws) st .0 in
-      let k : i < length (f ∷ ps) = omega (arith, b, st .heads .size) in
+  doubles-split ([] ∷ ws) st h i a b = absurd (false≢true (st .sound .0))
+  doubles-split ((e ∷ ps) ∷ ws) st h i a b =
+      let t = trails n l m ((e ∷ ps) ∷ ws) st .0 in
+      let k : i < length ps = omega (arith, b, st .heads .size) in
       let c : l .current ≡ vertex e = st .heads .current in
-      let w : walked m i (afterOf m (l .current)) ≡ vertexAt (f ∷ ps) i =
-      ap (walked m i) (ap (afterOf m) c ∙ t .0 .fore) ∙ walk-trail n m (vertex e) (f ∷ ps) i (t .1) k in
-      let hop = split-hop n m (vertex e) f ps i (omega (arith, a)) k (t .1) in
-      rw w (record { some = some; place = near-trail n m (vertex e) (f ∷ ps) i (t .1) k; before = rw (hop .back) (hop .near) })
+      let w : walked m i (afterOf m (l .current)) ≡ vertexAt ps i =
+      ap (walked m i) (ap (afterOf m) c ∙ t .0 .fore) ∙ walk-trail n m (vertex e) ps i (t .1) k in
+      let hop = split-hop n m (vertex e) ps i (omega (arith, a)) k (t .1) in
+      rw w (record { some = some; place = near-trail n m (vertex e) ps i (t .1) k; before = rw (hop .back) (hop .near) })
 
   pub doubles-union : (rs : List Ring) → StandsAt n l m rs → (p j : ℕ) → 1 ≤ p → p ≤ l .live - 1 → j < at m (5 * n + 2 * (l .live - 1 - p) + 1)
       → Doubles n l m (walked m j (at m (5 * n + 2 * (l .live - 1 - p))))

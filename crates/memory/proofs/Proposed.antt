@@ -11,7 +11,7 @@ use borrow.Author.Tests.{leb-true, ltb-true, eqb-true, ne-eqb}
 use Rattle.rules.specs.declared.Operation.{Operation}
 use Rattle.rules.specs.declared.Operation.the-variants.{New, Forward, Backward, Border, Split, Close, Union, Start}
 use Rattle.rules.specs.Triangle.{tri}
-use Rattle.rules.specs.Ring.{Node, opened, marked, Ring, isOpen, allOpen, startOr, vertexAt, places, loopAt}
+use Rattle.rules.specs.Ring.{Node, opened, marked, Ring, allOpen, startOr, vertexAt, places, loopAt}
 use Rattle.rules.specs.Table.{atEdge, atRest, effect}
 use Rattle.book.proofs.Counting.{and-left, and-right}
 use Rattle.book.proofs.Effects as effects
@@ -32,32 +32,25 @@ use Rattle.memory.proofs.Waiting.{waits-at}
 use Rattle.memory.proofs.Split.{moved-split}
 use Rattle.memory.proofs.Union.{moved-union}
 use Rattle.memory.proofs.Start.{moved-start}
-use Rattle.memory.proofs.Proposing.{Proposes, allowed-proposes, two-tests, three-tests, and-cong, both-open, start-any, allowed-goes, allowed-moved, allowed-law, one-open, ring, name, at-f, at-g, name-c, size-is, corners, some-free, propose-new, propose-forward, propose-backward, propose-border}
+use Rattle.memory.proofs.Proposing.{Proposes, allowed-proposes, two-tests, three-tests, and-cong, two-open, start-any, allowed-goes, allowed-moved, allowed-law, ring, name, at-f, at-next, name-next, name-c, size-is, corners, some-free, propose-new, propose-forward, propose-backward, propose-border}
 
-module _ (n : ℕ) (s : Front) (m : List ℕ) (e : ℕ) (f g : Node) (ps : List Node) (ws : List Ring)
-    (st : StandsAt n (s .loops) m ((opened e ∷ (f ∷ (g ∷ ps))) ∷ ws)) where
+module _ (n : ℕ) (s : Front) (m : List ℕ) (e : ℕ) (ps : List Node) (ws : List Ring)
+    (st : StandsAt n (s .loops) m ((opened e ∷ ps) ∷ ws)) where
   -- the current loop's other places, by their vertices
   abbrev pub others : List Node
-  others = namedRing (verticesOf n m) (f ∷ (g ∷ ps))
-
-  open-g : isOpenAt m (afterOf m (afterOf m (s .loops .current))) ≡ isOpen g
-  open-g = ap (isOpenAt m) (at-g n s m e f g ps ws st) ∙ ap (λ (x : ℕ). eqb x 1) (ring n s m e f g ps ws st .1 .1 .0 .mark) ∙ one-open (isOpen g)
-
-  open-f₁ : isOpenAt m (afterOf m (s .loops .current)) ≡ isOpen f
-  open-f₁ = ap (isOpenAt m) (at-f n s m e f g ps ws st) ∙ ap (λ (x : ℕ). eqb x 1) (ring n s m e f g ps ws st .1 .0 .mark) ∙ one-open (isOpen f)
+  others = namedRing (verticesOf n m) ps
 
   three-open : eqb (suc (length others)) 3 ≡ true → isOpenAt m (afterOf m (s .loops .current)) && isOpenAt m (afterOf m (afterOf m (s .loops .current))) ≡ allOpen others
-  three-open h = ap₂ _&&_ open-f₁ open-g ∙ whole ps (omega (arith, eqb-true (suc (length others)) 3 h, named-length (verticesOf n m) (f ∷ (g ∷ ps)))) ∙ sym (named-allOpen (verticesOf n m) (f ∷ (g ∷ ps)))
-    where
-      whole : (ps : List Node) → length ps ≡ 0 → isOpen f && isOpen g ≡ allOpen (f ∷ (g ∷ ps))
-      whole [] h = both-open f g
-      whole (p ∷ ps) h = absurd (omega (arith, h))
+  three-open h =
+      ap (λ (x : ℕ). isOpenAt m x && isOpenAt m (afterOf m x)) (at-f n s m e ps ws st)
+      ∙ two-open n m e ps (ring n s m e ps ws st .1) (omega (arith, eqb-true (suc (length others)) 3 h, named-length (verticesOf n m) ps))
+      ∙ sym (named-allOpen (verticesOf n m) ps)
 
   assoc : (a b c : Bool) → a && b && c ≡ a && (b && c)
   assoc true b c = refl
   assoc false b c = refl
 
-  propose-close : Proposes n s m Close (closePlan (s .loops) m) (effectAt Close (s .used) n m e (f ∷ (g ∷ ps)) ws)
+  propose-close : Proposes n s m Close (closePlan (s .loops) m) (effectAt Close (s .used) n m e ps ws)
   unfolding closePlan atEdge
   propose-close =
       let x : ℕ = afterOf m (s .loops .current) in
@@ -68,12 +61,15 @@ module _ (n : ℕ) (s : Front) (m : List ℕ) (e : ℕ) (f g : Node) (ps : List 
       (allowed-proposes n s m Close t t′ (Builds p) _
       (assoc (eqb (s .loops .size) 3) (isOpenAt m x) (isOpenAt m (afterOf m x))
       ∙ and-cong (eqb (s .loops .size) 3) (isOpenAt m x && isOpenAt m (afterOf m x)) (eqb (suc (length others)) 3) (allOpen others)
-      (ap (λ (k : ℕ). eqb k 3) (size-is n s m e f g ps ws st)) three-open)
+      (ap (λ (k : ℕ). eqb k 3) (size-is n s m e ps ws st)) three-open)
       (λ h. record {
         plan = p;
         is = refl;
         same = record {
-          triangle = corners n s m e f g ps ws st _ _ (name-c n s m e f g ps ws st);
+          triangle =
+              corners n s m e ps ws st _ _
+              (name-c n s m e ps ws st
+              (omega (arith, eqb-true (suc (length others)) 3 (and-left (eqb (suc (length others)) 3) _ h), named-length (verticesOf n m) ps)));
           pq = refl;
           qr = refl;
           rp = refl;
@@ -81,13 +77,13 @@ module _ (n : ℕ) (s : Front) (m : List ℕ) (e : ℕ) (f g : Node) (ps : List 
           starts = refl;
           unions = refl;
         };
-        moves = λ i k. allowed-moved n (s .loops) m (heldAfter n s m Close p) t _ h tt (moved-close n (s .loops) m (s .used) e f g ps ws st);
+        moves = λ i k. allowed-moved n (s .loops) m (heldAfter n s m Close p) t _ h tt (moved-close n (s .loops) m (s .used) e ps ws st);
       }))
 
-  lives : length (namedLoops (verticesOf n m) ((opened e ∷ (f ∷ (g ∷ ps))) ∷ ws)) ≡ s .loops .live
-  lives = named-lives (verticesOf n m) ((opened e ∷ (f ∷ (g ∷ ps))) ∷ ws) ∙ sym (st .heads .live)
+  lives : length (namedLoops (verticesOf n m) ((opened e ∷ ps) ∷ ws)) ≡ s .loops .live
+  lives = named-lives (verticesOf n m) ((opened e ∷ ps) ∷ ws) ∙ sym (st .heads .live)
 
-  propose-split : (i : ℕ) → Proposes n s m (Split i) (splitPlan (s .loops) m i) (effectAt (Split i) (s .used) n m e (f ∷ (g ∷ ps)) ws)
+  propose-split : (i : ℕ) → Proposes n s m (Split i) (splitPlan (s .loops) m i) (effectAt (Split i) (s .used) n m e ps ws)
   unfolding splitPlan atEdge
   propose-split i =
       let c : ℕ = walked m i (afterOf m (s .loops .current)) in
@@ -95,22 +91,20 @@ module _ (n : ℕ) (s : Front) (m : List ℕ) (e : ℕ) (f g : Node) (ps : List 
       let t : Bool = leb 2 i && leb (i + 3) (suc (length others)) in
       let t′ : Bool = leb 2 i && leb (i + 3) (s .loops .size) in
       rw (two-tests (leb 2 i) (leb (i + 3) (s .loops .size)) (Builds p))
-      (allowed-proposes n s m (Split i) t t′ (Builds p) _ (ap (λ (k : ℕ). leb 2 i && leb (i + 3) k) (size-is n s m e f g ps ws st))
+      (allowed-proposes n s m (Split i) t t′ (Builds p) _ (ap (λ (k : ℕ). leb 2 i && leb (i + 3) k) (size-is n s m e ps ws st))
       (λ h.
-      let j : i < length (f ∷ (g ∷ ps)) =
-      omega (arith, leb-true (i + 3) (suc (length others)) (and-right (leb 2 i) _ h), named-length (verticesOf n m) (f ∷ (g ∷ ps))) in
-      let w : c ≡ vertexAt (f ∷ (g ∷ ps)) i =
-      ap (walked m i) (at-f n s m e f g ps ws st) ∙ walk-trail n m e (f ∷ (g ∷ ps)) i (ring n s m e f g ps ws st .1) j in
-      let goes : Goes (effectAt (Split i) (s .used) n m e (f ∷ (g ∷ ps)) ws) = allowed-goes t _ h tt in
-      let b = allowed-law (s .used) (namedLoops (verticesOf n m) ((opened e ∷ (f ∷ (g ∷ ps))) ∷ ws)) t _ h (law (Split i) n (s .loops) m (s .used) 0 e f g ps ws st goes) in
+      let j : i < length ps =
+      omega (arith, leb-true (i + 3) (suc (length others)) (and-right (leb 2 i) _ h), named-length (verticesOf n m) ps) in
+      let w : c ≡ vertexAt ps i =
+      at-next n s m e ps ws st i j in
+      let goes : Goes (effectAt (Split i) (s .used) n m e ps ws) = allowed-goes t _ h tt in
+      let b = allowed-law (s .used) (namedLoops (verticesOf n m) ((opened e ∷ ps) ∷ ws)) t _ h (law (Split i) n (s .loops) m (s .used) 0 e ps ws st goes) in
       record {
         plan = p;
         is = refl;
         same = record {
           triangle =
-              corners n s m e f g ps ws st _ _
-              (ap (vertexOf m) w ∙ name n s m e f g ps ws st (vertexAt (f ∷ (g ∷ ps)) i) (near-trail n m e (f ∷ (g ∷ ps)) i (ring n s m e f g ps ws st .1) j)
-              ∙ sym (named-at (verticesOf n m) (f ∷ (g ∷ ps)) i j));
+              corners n s m e ps ws st _ _ (name-next n s m e ps ws st i j);
           pq = refl;
           qr = refl;
           rp = refl;
@@ -120,8 +114,8 @@ module _ (n : ℕ) (s : Front) (m : List ℕ) (e : ℕ) (f g : Node) (ps : List 
         };
         moves = λ a k.
             allowed-moved n (s .loops) m (splitHeld n (s .loops) m i c) t _ h tt
-            (λ x. subst (λ (y : ℕ). Moved n (s .loops) m (splitHeld n (s .loops) m i y) (effectAt (Split i) (s .used) n m e (f ∷ (g ∷ ps)) ws)) (sym w)
-            (moved-split n (s .loops) m (s .used) e f g ps ws st (some-free n s m e f g ps ws st (s .used) _ _ 0 0 0 b a) i goes
+            (λ x. subst (λ (y : ℕ). Moved n (s .loops) m (splitHeld n (s .loops) m i y) (effectAt (Split i) (s .used) n m e ps ws)) (sym w)
+            (moved-split n (s .loops) m (s .used) e ps ws st (some-free n s m e ps ws st (s .used) _ _ 0 0 0 b a) i goes
             (omega (arith, k, b .lives, lives))));
       }))
 
@@ -171,7 +165,7 @@ module _ (n : ℕ) (s : Front) (m : List ℕ) (e : ℕ) (f g : Node) (ps : List 
 
       around : Trail n m waiting (startOr 0 waiting)
       unfolding waiting
-      around = trail-at n m ws (p - 1) (trails n (s .loops) m ((opened e ∷ (f ∷ (g ∷ ps))) ∷ ws) st .1)
+      around = trail-at n m ws (p - 1) (trails n (s .loops) m ((opened e ∷ ps) ∷ ws) st .1)
 
       place-is : place ≡ vertexAt (loopAt ws (p - 1)) j
       unfolding place waiting tests
@@ -182,23 +176,23 @@ module _ (n : ℕ) (s : Front) (m : List ℕ) (e : ℕ) (f g : Node) (ps : List 
       place-name : vertexOf m place ≡ vertexAt (loopAt (namedLoops (verticesOf n m) ws) (p - 1)) j
       unfolding waiting
       place-name =
-          ap (vertexOf m) place-is ∙ name n s m e f g ps ws st (vertexAt (loopAt ws (p - 1)) j) (near-trail n m (startOr 0 waiting) waiting j around inside)
+          ap (vertexOf m) place-is ∙ name n s m e ps ws st (vertexAt (loopAt ws (p - 1)) j) (near-trail n m (startOr 0 waiting) waiting j around inside)
           ∙ sym (ap (λ (w : Ring). vertexAt w j) (named-loopAt (verticesOf n m) ws (p - 1)) ∙ named-at (verticesOf n m) (loopAt ws (p - 1)) j inside)
 
-    propose-union : Proposes n s m (Union p j) (unionPlan n (s .loops) m p j) (effectAt (Union p j) (s .used) n m e (f ∷ (g ∷ ps)) ws)
+    propose-union : Proposes n s m (Union p j) (unionPlan n (s .loops) m p j) (effectAt (Union p j) (s .used) n m e ps ws)
     unfolding unionPlan atEdge lower place tests
     propose-union =
         let q : Plan = planAt (s .loops) m (vertexOf m place) 1 1 0 1 place in
         rw (three-tests (leb 1 p) (leb p (s .loops .live - 1)) (ltb j (at m (5 * n + 2 * lower + 1))) (Builds q))
         (allowed-proposes n s m (Union p j) tests (leb 1 p && leb p (s .loops .live - 1) && ltb j (at m (5 * n + 2 * lower + 1))) (Builds q) _ same-tests
         (λ h.
-        let goes : Goes (effectAt (Union p j) (s .used) n m e (f ∷ (g ∷ ps)) ws) = allowed-goes tests _ h tt in
-        let b = allowed-law (s .used) (namedLoops (verticesOf n m) ((opened e ∷ (f ∷ (g ∷ ps))) ∷ ws)) tests _ h (law (Union p j) n (s .loops) m (s .used) 0 e f g ps ws st goes) in
+        let goes : Goes (effectAt (Union p j) (s .used) n m e ps ws) = allowed-goes tests _ h tt in
+        let b = allowed-law (s .used) (namedLoops (verticesOf n m) ((opened e ∷ ps) ∷ ws)) tests _ h (law (Union p j) n (s .loops) m (s .used) 0 e ps ws st goes) in
         record {
           plan = q;
           is = refl;
           same = record {
-            triangle = corners n s m e f g ps ws st _ _ (place-name h);
+            triangle = corners n s m e ps ws st _ _ (place-name h);
             pq = refl;
             qr = refl;
             rp = refl;
@@ -208,16 +202,16 @@ module _ (n : ℕ) (s : Front) (m : List ℕ) (e : ℕ) (f g : Node) (ps : List 
           };
           moves = λ a k.
               allowed-moved n (s .loops) m (unionHeld n (s .loops) m p place) tests _ h tt
-              (λ x. subst (λ (y : ℕ). Moved n (s .loops) m (unionHeld n (s .loops) m p y) (effectAt (Union p j) (s .used) n m e (f ∷ (g ∷ ps)) ws)) (sym (place-is h))
-              (moved-union n (s .loops) m (s .used) e f g ps ws st (some-free n s m e f g ps ws st (s .used) _ _ 0 0 1 b a) p j goes));
+              (λ x. subst (λ (y : ℕ). Moved n (s .loops) m (unionHeld n (s .loops) m p y) (effectAt (Union p j) (s .used) n m e ps ws)) (sym (place-is h))
+              (moved-union n (s .loops) m (s .used) e ps ws st (some-free n s m e ps ws st (s .used) _ _ 0 0 1 b a) p j goes));
         }))
 
-  propose-live : (o : Operation) → Proposes n s m o (proposedBy false n (s .loops) m (s .used) o) (effectAt o (s .used) n m e (f ∷ (g ∷ ps)) ws)
+  propose-live : (o : Operation) → Proposes n s m o (proposedBy false n (s .loops) m (s .used) o) (effectAt o (s .used) n m e ps ws)
   unfolding atEdge
-  propose-live New = propose-new n s m e f g ps ws st
-  propose-live Forward = propose-forward n s m e f g ps ws st
-  propose-live Backward = propose-backward n s m e f g ps ws st
-  propose-live Border = propose-border n s m e f g ps ws st
+  propose-live New = propose-new n s m e ps ws st
+  propose-live Forward = propose-forward n s m e ps ws st
+  propose-live Backward = propose-backward n s m e ps ws st
+  propose-live Border = propose-border n s m e ps ws st
   propose-live (Split i) = propose-split i
   propose-live Close = propose-close
   propose-live (Union p j) = propose-union p j
@@ -255,10 +249,8 @@ pub proposes : (n : ℕ) (s : Front) (m : List ℕ) (o : Operation) (rs : List R
     → Proposes n s m o (proposed n s m o) (effect o (s .used) (namedLoops (verticesOf n m) rs))
 unfolding proposed effect namedLoops namedRing
 proposes n s m o [] st = let z : eqb (s .loops .live) 0 ≡ true = ap (λ (k : ℕ). eqb k 0) (st .heads) in rw z (propose-rest n s m o st)
-proposes n s m o ([] ∷ ws) st = absurd (omega (arith, st .sound .0 .long))
-proposes n s m o ((e ∷ []) ∷ ws) st = absurd (omega (arith, st .sound .0 .long))
-proposes n s m o ((e ∷ (f ∷ [])) ∷ ws) st = absurd (omega (arith, st .sound .0 .long))
-proposes n s m o ((marked e ∷ (f ∷ (g ∷ ps))) ∷ ws) st = absurd (false≢true (st .sound .0 .current))
-proposes n s m o ((opened e ∷ (f ∷ (g ∷ ps))) ∷ ws) st =
+proposes n s m o ([] ∷ ws) st = absurd (false≢true (st .sound .0))
+proposes n s m o ((marked e ∷ ps) ∷ ws) st = absurd (false≢true (st .sound .0))
+proposes n s m o ((opened e ∷ ps) ∷ ws) st =
     let z : eqb (s .loops .live) 0 ≡ false = ne-eqb (s .loops .live) 0 (λ y. omega (arith, y, st .heads .live)) in
-    rw z (propose-live n s m e f g ps ws st o)
+    rw z (propose-live n s m e ps ws st o)

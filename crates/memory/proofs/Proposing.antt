@@ -7,14 +7,16 @@ use mathlib.Core.List.{List, [], _∷_, _++_}
 use mathlib.Core.Path.{_≡_, refl, sym, ap, ap₂, _∙_}
 use lib.ListN.{length, getD}
 use lib.Dec.{eqb, leb}
+use borrow.Author.Tests.{leb-true}
 use Rattle.rules.specs.declared.Triangle.{Triangle}
 use Rattle.rules.specs.declared.Operation.{Operation}
 use Rattle.rules.specs.declared.Operation.the-variants.{New, Forward, Backward, Border}
 use Rattle.rules.specs.Triangle.{tri, Edge, edge}
 use Rattle.rules.specs.Count.{num}
-use Rattle.rules.specs.Ring.{Node, opened, marked, Ring, vertex, isOpen, firstOpen, allOpen, startOr, vertexAt, lastOpen, lastVertex, onward, places}
+use Rattle.rules.specs.Ring.{Node, opened, marked, Ring, isOpen, firstOpen, allOpen, startOr, vertexAt, lastOpen, lastVertex, onward, places}
 use Rattle.rules.specs.Table.{Side, glued, fresh, Effect, not-allowed, builds, marks, allowed, marking, atEdge}
 use Rattle.rules.specs.Machine.{freshSides}
+use Rattle.book.proofs.Counting.{and-left}
 use Rattle.book.proofs.Effects as effects
 use Rattle.links.specs.Memory.{namedRing, namedLoops}
 use Rattle.links.proofs.Named.{named-length, named-start, named-at, named-last, named-lastOpen, named-firstOpen}
@@ -23,12 +25,12 @@ use Rattle.memory.specs.declared.Front.{Front}
 use Rattle.memory.specs.declared.Plan.{Plan}
 use Rattle.memory.specs.declared.Decided.{Decided}
 use Rattle.memory.specs.declared.Decided.the-variants.{Refused, Builds, Marks}
-use Rattle.memory.specs.Layout.{at, vertexOf, beforeOf, afterOf, verticesOf}
+use Rattle.memory.specs.Layout.{at, vertexOf, beforeOf, afterOf, openOf, verticesOf, walked}
 use Rattle.memory.specs.Stands.{StandsAt}
 use Rattle.memory.specs.Moves.{Held, markedHeld}
 use Rattle.memory.specs.Decision.{isOpenAt, allowedIf, planAt, newPlan, forwardPlan, backwardPlan, borderPlan, heldAfter}
 use Rattle.memory.proofs.Columns.{column-at}
-use Rattle.memory.proofs.Standing.{Trail, trails, last-trail}
+use Rattle.memory.proofs.Standing.{Trail, trails, walk-trail, near-trail, last-trail, start-trail}
 use Rattle.memory.proofs.Room.{room}
 use Rattle.memory.proofs.Relinked.{Goes, Moved, effectAt, law}
 use Rattle.memory.proofs.Simple.{moved-new, moved-forward, moved-backward}
@@ -83,17 +85,26 @@ unfolding allowed
 allowed-law u before true B e l = l
 allowed-law u before false B e l = absurd (false≢true e)
 
-pub one-open : (b : Bool) → eqb (num b) 1 ≡ b
+one-open : (b : Bool) → eqb (num b) 1 ≡ b
 one-open true = refl
 one-open false = refl
 
-module _ (n : ℕ) (s : Front) (m : List ℕ) (e : ℕ) (f g : Node) (ps : List Node) (ws : List Ring)
-    (st : StandsAt n (s .loops) m ((opened e ∷ (f ∷ (g ∷ ps))) ∷ ws)) where
+pub and-cong : (a b a′ b′ : Bool) → a ≡ a′ → (a′ ≡ true → b ≡ b′) → a && b ≡ a′ && b′
+and-cong a b true b′ e f = ap₂ _&&_ e (f refl)
+and-cong a b false b′ e f = rw e
+
+-- the first mark of a run
+first-mark : (n : ℕ) (m : List ℕ) (b : ℕ) (ps : List Node) → Trail n m ps b → 1 ≤ length ps → openOf m (startOr b ps) ≡ num (firstOpen ps)
+first-mark n m b [] t h = absurd (omega arith)
+first-mark n m b (p ∷ ps) t h = t .0 .mark
+
+module _ (n : ℕ) (s : Front) (m : List ℕ) (e : ℕ) (ps : List Node) (ws : List Ring)
+    (st : StandsAt n (s .loops) m ((opened e ∷ ps) ∷ ws)) where
   vs : List ℕ
   vs = verticesOf n m
 
-  pub ring : Trail n m (opened e ∷ (f ∷ (g ∷ ps))) e
-  ring = trails n (s .loops) m ((opened e ∷ (f ∷ (g ∷ ps))) ∷ ws) st .0
+  pub ring : Trail n m (opened e ∷ ps) e
+  ring = trails n (s .loops) m ((opened e ∷ ps) ∷ ws) st .0
 
   pub name : (x : ℕ) → x < n → vertexOf m x ≡ getD (verticesOf n m) x 0
   name x h = let z : 4 * x ≡ 4 * x + 0 = omega arith in ap (at m) z ∙ sym (column-at m 0 n x h)
@@ -101,100 +112,111 @@ module _ (n : ℕ) (s : Front) (m : List ℕ) (e : ℕ) (f g : Node) (ps : List 
   pub at-e : s .loops .current ≡ e
   at-e = st .heads .current
 
-  pub at-f : afterOf m (s .loops .current) ≡ vertex f
+  pub at-f : afterOf m (s .loops .current) ≡ startOr e ps
   at-f = ap (afterOf m) at-e ∙ ring .0 .fore
 
-  pub at-g : afterOf m (afterOf m (s .loops .current)) ≡ vertex g
-  at-g = ap (afterOf m) at-f ∙ ring .1 .0 .fore
+  -- the place i places after it
+  pub at-next : (i : ℕ) → i < length ps → walked m i (afterOf m (s .loops .current)) ≡ vertexAt ps i
+  at-next i h = ap (walked m i) at-f ∙ walk-trail n m e ps i (ring .1) h
+
+  pub name-next : (i : ℕ) → i < length ps → vertexOf m (walked m i (afterOf m (s .loops .current))) ≡ vertexAt (namedRing (verticesOf n m) ps) i
+  name-next i h = ap (vertexOf m) (at-next i h) ∙ name (vertexAt ps i) (near-trail n m e ps i (ring .1) h) ∙ sym (named-at (verticesOf n m) ps i h)
 
   name-a : vertexOf m (s .loops .current) ≡ getD (verticesOf n m) e 0
   name-a = ap (vertexOf m) at-e ∙ name e (ring .0 .near)
 
-  name-b : vertexOf m (afterOf m (s .loops .current)) ≡ startOr (getD (verticesOf n m) e 0) (namedRing (verticesOf n m) (f ∷ (g ∷ ps)))
-  name-b = ap (vertexOf m) at-f ∙ name (vertex f) (ring .1 .0 .near) ∙ sym (named-start (verticesOf n m) e (f ∷ (g ∷ ps)))
+  name-b : vertexOf m (afterOf m (s .loops .current)) ≡ startOr (getD (verticesOf n m) e 0) (namedRing (verticesOf n m) ps)
+  name-b = ap (vertexOf m) at-f ∙ name (startOr e ps) (start-trail n m e (ring .0 .near) ps (ring .1)) ∙ sym (named-start (verticesOf n m) e ps)
 
-  pub size-is : s .loops .size ≡ suc (length (namedRing (verticesOf n m) (f ∷ (g ∷ ps))))
-  size-is = st .heads .size ∙ ap suc (sym (named-length (verticesOf n m) (f ∷ (g ∷ ps))))
+  pub size-is : s .loops .size ≡ suc (length (namedRing (verticesOf n m) ps))
+  size-is = st .heads .size ∙ ap suc (sym (named-length (verticesOf n m) ps))
 
   -- the triangle b a c
   pub corners : (c c′ : ℕ) → c ≡ c′
       → tri (vertexOf m (afterOf m (s .loops .current))) (vertexOf m (s .loops .current)) c
-      ≡ tri (startOr (getD (verticesOf n m) e 0) (namedRing (verticesOf n m) (f ∷ (g ∷ ps)))) (getD (verticesOf n m) e 0) c′
+      ≡ tri (startOr (getD (verticesOf n m) e 0) (namedRing (verticesOf n m) ps)) (getD (verticesOf n m) e 0) c′
   corners c c′ h = rw (name-b, name-a, h)
 
   -- an operation with two new edges finds a free place
   pub some-free : (u : ℕ) (ls : List Ring) (t : Triangle) (v a k : ℕ)
-      → effects.Builds u (namedLoops (verticesOf n m) ((opened e ∷ (f ∷ (g ∷ ps))) ∷ ws)) ls t glued fresh fresh v a k → places ls ≤ n → 1 ≤ s .loops .free
+      → effects.Builds u (namedLoops (verticesOf n m) ((opened e ∷ ps) ∷ ws)) ls t glued fresh fresh v a k → places ls ≤ n → 1 ≤ s .loops .free
   some-free u ls t v a k b h =
       omega (
         arith,
         h,
-        places-after u (namedLoops (verticesOf n m) ((opened e ∷ (f ∷ (g ∷ ps))) ∷ ws)) ls t glued fresh fresh v a k b,
-        places-named (verticesOf n m) ((opened e ∷ (f ∷ (g ∷ ps))) ∷ ws),
-        room n (s .loops) m ((opened e ∷ (f ∷ (g ∷ ps))) ∷ ws) st,
+        places-after u (namedLoops (verticesOf n m) ((opened e ∷ ps) ∷ ws)) ls t glued fresh fresh v a k b,
+        places-named (verticesOf n m) ((opened e ∷ ps) ∷ ws),
+        room n (s .loops) m ((opened e ∷ ps) ∷ ws) st,
       )
 
-  pub propose-new : Proposes n s m New (newPlan (s .loops) m (s .used)) (effectAt New (s .used) n m e (f ∷ (g ∷ ps)) ws)
+  pub propose-new : Proposes n s m New (newPlan (s .loops) m (s .used)) (effectAt New (s .used) n m e ps ws)
   unfolding newPlan atEdge
   propose-new = record {
     plan = planAt (s .loops) m (s .used) 1 1 1 0 0;
     is = refl;
     same = record { triangle = corners (s .used) (s .used) refl; pq = refl; qr = refl; rp = refl; vertices = refl; starts = refl; unions = refl };
     moves = λ h k.
-        moved-new n (s .loops) m (s .used) e f g ps ws st tt (some-free (s .used) _ _ 1 0 0 (law New n (s .loops) m (s .used) 0 e f g ps ws st tt) h);
+        moved-new n (s .loops) m (s .used) e ps ws st tt (some-free (s .used) _ _ 1 0 0 (law New n (s .loops) m (s .used) 0 e ps ws st tt) h);
   }
 
-  pub open-f : isOpenAt m (afterOf m (s .loops .current)) ≡ firstOpen (namedRing (verticesOf n m) (f ∷ (g ∷ ps)))
-  open-f =
-      ap (isOpenAt m) at-f ∙ ap (λ (x : ℕ). eqb x 1) (ring .1 .0 .mark) ∙ one-open (isOpen f) ∙ sym (named-firstOpen (verticesOf n m) (f ∷ (g ∷ ps)))
+  open-f : 1 ≤ length ps → isOpenAt m (afterOf m (s .loops .current)) ≡ firstOpen (namedRing (verticesOf n m) ps)
+  open-f h =
+      ap (isOpenAt m) at-f ∙ ap (λ (x : ℕ). eqb x 1) (first-mark n m e ps (ring .1) h) ∙ one-open (firstOpen ps)
+      ∙ sym (named-firstOpen (verticesOf n m) ps)
 
-  pub name-c : vertexOf m (afterOf m (afterOf m (s .loops .current))) ≡ vertexAt (namedRing (verticesOf n m) (f ∷ (g ∷ ps))) 1
-  unfolding vertexAt
-  name-c = ap (vertexOf m) at-g ∙ name (vertex g) (ring .1 .1 .0 .near) ∙ sym (named-at (verticesOf n m) (f ∷ (g ∷ ps)) 1 (omega arith))
+  pub name-c : 1 < length ps → vertexOf m (afterOf m (afterOf m (s .loops .current))) ≡ vertexAt (namedRing (verticesOf n m) ps) 1
+  unfolding walked
+  name-c h = name-next 1 h
 
-  pub propose-forward : Proposes n s m Forward (forwardPlan (s .loops) m) (effectAt Forward (s .used) n m e (f ∷ (g ∷ ps)) ws)
+  four : leb 4 (suc (length (namedRing (verticesOf n m) ps))) ≡ true → 3 ≤ length ps
+  four h = omega (arith, leb-true 4 (suc (length (namedRing (verticesOf n m) ps))) h, named-length (verticesOf n m) ps)
+
+  pub propose-forward : Proposes n s m Forward (forwardPlan (s .loops) m) (effectAt Forward (s .used) n m e ps ws)
   unfolding forwardPlan atEdge
   propose-forward =
       let p : Plan = planAt (s .loops) m (vertexOf m (afterOf m (afterOf m (s .loops .current)))) 1 0 0 0 0 in
-      let t : Bool = leb 4 (suc (length (namedRing (verticesOf n m) (f ∷ (g ∷ ps))))) && firstOpen (namedRing (verticesOf n m) (f ∷ (g ∷ ps))) in
+      let t : Bool = leb 4 (suc (length (namedRing (verticesOf n m) ps))) && firstOpen (namedRing (verticesOf n m) ps) in
       let t′ : Bool = leb 4 (s .loops .size) && isOpenAt m (afterOf m (s .loops .current)) in
       rw (two-tests (leb 4 (s .loops .size)) (isOpenAt m (afterOf m (s .loops .current))) (Builds p))
-      (allowed-proposes n s m Forward t t′ (Builds p) _ (ap₂ _&&_ (ap (leb 4) size-is) open-f)
+      (allowed-proposes n s m Forward t t′ (Builds p) _
+      (and-cong (leb 4 (s .loops .size)) (isOpenAt m (afterOf m (s .loops .current))) (leb 4 (suc (length (namedRing (verticesOf n m) ps)))) _
+      (ap (leb 4) size-is) (λ h. open-f (omega (arith, four h))))
       (λ h. record {
         plan = p;
         is = refl;
-        same = record { triangle = corners _ _ name-c; pq = refl; qr = refl; rp = refl; vertices = refl; starts = refl; unions = refl };
+        same = record { triangle = corners _ _ (name-c (omega (arith, four (and-left (leb 4 (suc (length (namedRing (verticesOf n m) ps)))) _ h)))); pq = refl; qr = refl; rp = refl; vertices = refl; starts = refl; unions = refl };
         moves = λ i k.
-            allowed-moved n (s .loops) m (heldAfter n s m Forward p) t _ h tt (moved-forward n (s .loops) m (s .used) e f g ps ws st);
+            allowed-moved n (s .loops) m (heldAfter n s m Forward p) t _ h tt (moved-forward n (s .loops) m (s .used) e ps ws st);
       }))
 
-  at-last : beforeOf m (s .loops .current) ≡ lastVertex (f ∷ (g ∷ ps))
-  at-last = ap (beforeOf m) at-e ∙ last-trail n m e f (g ∷ ps) (ring .1) .back
+  at-last : 1 ≤ length ps → beforeOf m (s .loops .current) ≡ lastVertex ps
+  at-last h = ap (beforeOf m) at-e ∙ last-trail n m e ps (ring .1) h .back
 
-  open-last : isOpenAt m (beforeOf m (s .loops .current)) ≡ lastOpen (namedRing (verticesOf n m) (f ∷ (g ∷ ps)))
-  open-last =
-      ap (isOpenAt m) at-last ∙ ap (λ (x : ℕ). eqb x 1) (last-trail n m e f (g ∷ ps) (ring .1) .mark) ∙ one-open (lastOpen (f ∷ (g ∷ ps)))
-      ∙ sym (named-lastOpen (verticesOf n m) (f ∷ (g ∷ ps)))
+  open-last : 1 ≤ length ps → isOpenAt m (beforeOf m (s .loops .current)) ≡ lastOpen (namedRing (verticesOf n m) ps)
+  open-last h =
+      ap (isOpenAt m) (at-last h) ∙ ap (λ (x : ℕ). eqb x 1) (last-trail n m e ps (ring .1) h .mark) ∙ one-open (lastOpen ps)
+      ∙ sym (named-lastOpen (verticesOf n m) ps)
 
-  name-last : vertexOf m (beforeOf m (s .loops .current)) ≡ lastVertex (namedRing (verticesOf n m) (f ∷ (g ∷ ps)))
-  name-last =
-      ap (vertexOf m) at-last ∙ name (lastVertex (f ∷ (g ∷ ps))) (last-trail n m e f (g ∷ ps) (ring .1) .near)
-      ∙ sym (named-last (verticesOf n m) f (g ∷ ps))
+  name-last : 1 ≤ length ps → vertexOf m (beforeOf m (s .loops .current)) ≡ lastVertex (namedRing (verticesOf n m) ps)
+  name-last h =
+      ap (vertexOf m) (at-last h) ∙ name (lastVertex ps) (last-trail n m e ps (ring .1) h .near) ∙ sym (named-last (verticesOf n m) ps h)
 
-  pub propose-backward : Proposes n s m Backward (backwardPlan (s .loops) m) (effectAt Backward (s .used) n m e (f ∷ (g ∷ ps)) ws)
+  pub propose-backward : Proposes n s m Backward (backwardPlan (s .loops) m) (effectAt Backward (s .used) n m e ps ws)
   unfolding backwardPlan atEdge
   propose-backward =
       let p : Plan = planAt (s .loops) m (vertexOf m (beforeOf m (s .loops .current))) 0 1 0 0 0 in
-      let t : Bool = leb 4 (suc (length (namedRing (verticesOf n m) (f ∷ (g ∷ ps))))) && lastOpen (namedRing (verticesOf n m) (f ∷ (g ∷ ps))) in
+      let t : Bool = leb 4 (suc (length (namedRing (verticesOf n m) ps))) && lastOpen (namedRing (verticesOf n m) ps) in
       let t′ : Bool = leb 4 (s .loops .size) && isOpenAt m (beforeOf m (s .loops .current)) in
       rw (two-tests (leb 4 (s .loops .size)) (isOpenAt m (beforeOf m (s .loops .current))) (Builds p))
-      (allowed-proposes n s m Backward t t′ (Builds p) _ (ap₂ _&&_ (ap (leb 4) size-is) open-last)
+      (allowed-proposes n s m Backward t t′ (Builds p) _
+      (and-cong (leb 4 (s .loops .size)) (isOpenAt m (beforeOf m (s .loops .current))) (leb 4 (suc (length (namedRing (verticesOf n m) ps)))) _
+      (ap (leb 4) size-is) (λ h. open-last (omega (arith, four h))))
       (λ h. record {
         plan = p;
         is = refl;
-        same = record { triangle = corners _ _ name-last; pq = refl; qr = refl; rp = refl; vertices = refl; starts = refl; unions = refl };
+        same = record { triangle = corners _ _ (name-last (omega (arith, four (and-left (leb 4 (suc (length (namedRing (verticesOf n m) ps)))) _ h)))); pq = refl; qr = refl; rp = refl; vertices = refl; starts = refl; unions = refl };
         moves = λ i k.
-            allowed-moved n (s .loops) m (heldAfter n s m Backward p) t _ h tt (moved-backward n (s .loops) m (s .used) e f g ps ws st);
+            allowed-moved n (s .loops) m (heldAfter n s m Backward p) t _ h tt (moved-backward n (s .loops) m (s .used) e ps ws st);
       }))
 
   marking-proposes : (r : Ring) (rs : List Ring) (x : Edge) (d : Decided) → d ≡ Marks (x .from) (x .to)
@@ -202,13 +224,13 @@ module _ (n : ℕ) (s : Front) (m : List ℕ) (e : ℕ) (f g : Node) (ps : List 
   marking-proposes [] rs x d i h = record { is = i; moves = h }
   marking-proposes (p ∷ r) rs x d i h = record { is = i; moves = h }
 
-  pub propose-border : Proposes n s m Border (borderPlan (s .loops) m) (effectAt Border (s .used) n m e (f ∷ (g ∷ ps)) ws)
+  pub propose-border : Proposes n s m Border (borderPlan (s .loops) m) (effectAt Border (s .used) n m e ps ws)
   unfolding borderPlan atEdge
   propose-border =
-      marking-proposes (onward [] (namedRing (verticesOf n m) (f ∷ (g ∷ ps)) ++ (marked (getD (verticesOf n m) e 0) ∷ []))) (namedLoops (verticesOf n m) ws)
-      (edge (getD (verticesOf n m) e 0) (startOr (getD (verticesOf n m) e 0) (namedRing (verticesOf n m) (f ∷ (g ∷ ps)))))
+      marking-proposes (onward [] (namedRing (verticesOf n m) ps ++ (marked (getD (verticesOf n m) e 0) ∷ []))) (namedLoops (verticesOf n m) ws)
+      (edge (getD (verticesOf n m) e 0) (startOr (getD (verticesOf n m) e 0) (namedRing (verticesOf n m) ps)))
       (Marks (vertexOf m (s .loops .current)) (vertexOf m (afterOf m (s .loops .current)))) (ap₂ Marks name-a name-b)
-      (moved-border n (s .loops) m (s .used) e f g ps ws st)
+      (moved-border n (s .loops) m (s .used) e ps ws st)
 
 pub three-tests : (a b c : Bool) (d : Decided) → allowedIf a (allowedIf b (allowedIf c d)) ≡ allowedIf (a && b && c) d
 unfolding allowedIf
@@ -216,15 +238,20 @@ three-tests true true c d = refl
 three-tests true false c d = refl
 three-tests false b c d = refl
 
-pub and-cong : (a b a′ b′ : Bool) → a ≡ a′ → (a′ ≡ true → b ≡ b′) → a && b ≡ a′ && b′
-and-cong a b true b′ e f = ap₂ _&&_ e (f refl)
-and-cong a b false b′ e f = rw e
-
-pub both-open : (f g : Node) → isOpen f && isOpen g ≡ allOpen (f ∷ (g ∷ []))
+both-open : (f g : Node) → isOpen f && isOpen g ≡ allOpen (f ∷ (g ∷ []))
 unfolding allOpen
 both-open (opened x) (opened y) = refl
 both-open (opened x) (marked y) = refl
 both-open (marked x) g = refl
+
+pub two-open : (n : ℕ) (m : List ℕ) (b : ℕ) (ps : List Node) → Trail n m ps b → length ps ≡ 2
+    → isOpenAt m (startOr b ps) && isOpenAt m (afterOf m (startOr b ps)) ≡ allOpen ps
+two-open n m b [] t h = absurd (omega (arith, h))
+two-open n m b (f ∷ []) t h = absurd (omega (arith, h))
+two-open n m b (f ∷ (g ∷ (p ∷ ps))) t h = absurd (omega (arith, h))
+two-open n m b (f ∷ (g ∷ [])) t h =
+    ap₂ _&&_ (ap (λ (x : ℕ). eqb x 1) (t .0 .mark) ∙ one-open (isOpen f))
+    (ap (isOpenAt m) (t .0 .fore) ∙ ap (λ (x : ℕ). eqb x 1) (t .1 .0 .mark) ∙ one-open (isOpen g)) ∙ both-open f g
 
 pub start-any : (b c : ℕ) (w : Ring) → 1 ≤ length w → startOr b w ≡ startOr c w
 start-any b c [] h = absurd (omega arith)

@@ -1,4 +1,4 @@
--- After an operation's stores the memory holds its rings of places, which are sound, and their names are its loops: once for all operations.
+-- After an operation's stores the memory holds its rings of places, whose current edges are open, and their names are its loops: once for all operations.
 -- Assumes nothing.
 use Prim.Native.Nat.{ℕ, zero, suc, _+_, _-_, _*_, _≤_, _<_}
 use native.Mathlib.Omega.{arith}
@@ -11,14 +11,14 @@ use Rattle.rules.specs.declared.Operation.{Operation}
 use Rattle.rules.specs.Count.{same}
 use Rattle.rules.specs.Ring.{Node, opened, Ring}
 use Rattle.rules.specs.Table.{Effect, not-allowed, builds, marks, atEdge, effect}
-use Rattle.book.specs.Consistent.{AllSound}
+use Rattle.book.specs.Consistent.{AllCurrent}
 use Rattle.book.proofs.Effects.{Law, effect-law}
 use Rattle.links.specs.Memory.{Memory, Holds, placed, stored, namedRing, namedLoops}
 use Rattle.links.specs.Stores.{placesAfter, stores, verticesAfter, HasLoops, Takes, Fits}
 use Rattle.links.proofs.Stored.{held}
 use Rattle.links.proofs.Loops.{has-loops}
 use Rattle.links.proofs.After.{Unless, fits}
-use Rattle.links.proofs.Named.{named-length, named-firstOpen}
+use Rattle.links.proofs.Named.{named-firstOpen}
 use Rattle.memory.specs.declared.Loops.{Loops}
 use Rattle.memory.specs.Layout.{at, verticesOf, linksOf, stacked, freed}
 use Rattle.memory.specs.Stands.{Waits, StandsAt}
@@ -37,26 +37,20 @@ goes-so P not-allowed h g = absurd g
 goes-so P (builds ls t pq qr rp n s k) h g = h
 goes-so P (marks ls d rim) h g = h
 
-sound-has : (u : ℕ) (before ls : List Ring) (E : Effect) → HasLoops ls E → Law u before E → Goes E → AllSound ls
-sound-has u before ls not-allowed h l g = absurd g
-sound-has u before ls (builds r t pq qr rp n s k) h l g = subst AllSound (sym h) (l .sound)
-sound-has u before ls (marks r d rim) h l g = subst AllSound (sym h) (l .sound)
+current-has : (u : ℕ) (before ls : List Ring) (E : Effect) → HasLoops ls E → Law u before E → Goes E → AllCurrent ls
+current-has u before ls not-allowed h l g = absurd g
+current-has u before ls (builds r t pq qr rp n s k) h l g = subst AllCurrent (sym h) (l .current)
+current-has u before ls (marks r d rim) h l g = subst AllCurrent (sym h) (l .current)
 
-pub sound-places : (vs : List ℕ) (rs : List Ring) → AllSound (namedLoops vs rs) → AllSound rs
+pub current-places : (vs : List ℕ) (rs : List Ring) → AllCurrent (namedLoops vs rs) → AllCurrent rs
 unfolding namedLoops
-sound-places vs [] h = tt
-sound-places vs (l ∷ ls) h = (
-  record { long = omega (arith, h .0 .long, named-length vs l); current = sym (named-firstOpen vs l) ∙ h .0 .current },
-  sound-places vs ls (h .1),
-)
+current-places vs [] h = tt
+current-places vs (l ∷ ls) h = (sym (named-firstOpen vs l) ∙ h .0, current-places vs ls (h .1))
 
-pub sound-names : (vs : List ℕ) (rs : List Ring) → AllSound rs → AllSound (namedLoops vs rs)
+pub current-names : (vs : List ℕ) (rs : List Ring) → AllCurrent rs → AllCurrent (namedLoops vs rs)
 unfolding namedLoops
-sound-names vs [] h = tt
-sound-names vs (l ∷ ls) h = (
-  record { long = omega (arith, h .0 .long, named-length vs l); current = named-firstOpen vs l ∙ h .0 .current },
-  sound-names vs ls (h .1),
-)
+current-names vs [] h = tt
+current-names vs (l ∷ ls) h = (named-firstOpen vs l ∙ h .0, current-names vs ls (h .1))
 
 -- the loops of an effect stand in the memory
 pub record Moved (n : ℕ) (s : Loops) (m : List ℕ) (h : Held) (E : Effect) : Type 0 where
@@ -74,37 +68,37 @@ effectAt o u n m e ps ws = atEdge o u (getD (verticesOf n m) e 0) (namedRing (ve
 -- the memory after the stores
 pub record Relinked (n : ℕ) (m : List ℕ) (rs : List Ring) (E : Effect) : Type 0 where
   pub holds : Holds (linksOf n m) rs
-  pub sound : AllSound rs
+  pub current : AllCurrent rs
   pub loops : HasLoops (namedLoops (verticesOf n m) rs) E
 
-module _ (o : Operation) (n : ℕ) (s : Loops) (m : List ℕ) (u q e : ℕ) (f g : Node) (ps : List Node) (ws : List Ring)
-    (st : StandsAt n s m ((opened e ∷ (f ∷ (g ∷ ps))) ∷ ws)) (goes : Goes (effectAt o u n m e (f ∷ (g ∷ ps)) ws)) where
-  pub fit : Fits o (f ∷ (g ∷ ps)) ws
+module _ (o : Operation) (n : ℕ) (s : Loops) (m : List ℕ) (u q e : ℕ) (ps : List Node) (ws : List Ring)
+    (st : StandsAt n s m ((opened e ∷ ps) ∷ ws)) (goes : Goes (effectAt o u n m e ps ws)) where
+  pub fit : Fits o ps ws
   fit =
-      goes-so (Fits o (f ∷ (g ∷ ps)) ws) (effectAt o u n m e (f ∷ (g ∷ ps)) ws)
-      (fits o (verticesOf n m) u (getD (verticesOf n m) e 0) (f ∷ (g ∷ ps)) ws) goes
+      goes-so (Fits o ps ws) (effectAt o u n m e ps ws)
+      (fits o (verticesOf n m) u (getD (verticesOf n m) e 0) ps ws) goes
 
-  pub law : Law u (namedLoops (verticesOf n m) ((opened e ∷ (f ∷ (g ∷ ps))) ∷ ws)) (effectAt o u n m e (f ∷ (g ∷ ps)) ws)
+  pub law : Law u (namedLoops (verticesOf n m) ((opened e ∷ ps) ∷ ws)) (effectAt o u n m e ps ws)
   unfolding effect namedLoops namedRing
   law =
-      effect-law o u (namedLoops (verticesOf n m) ((opened e ∷ (f ∷ (g ∷ ps))) ∷ ws))
-      (sound-names (verticesOf n m) ((opened e ∷ (f ∷ (g ∷ ps))) ∷ ws) (st .sound))
+      effect-law o u (namedLoops (verticesOf n m) ((opened e ∷ ps) ∷ ws))
+      (current-names (verticesOf n m) ((opened e ∷ ps) ∷ ws) (st .sound))
 
-  pub relinked : (Takes o → (placed q ((opened e ∷ (f ∷ (g ∷ ps))) ∷ ws) ≡ 0) × (q < n)) → (m₁ : List ℕ)
-      → linksOf n m₁ ≡ stored (stores o q e (f ∷ (g ∷ ps)) ws) (linksOf n m)
-      → verticesOf n m₁ ≡ verticesAfter o u q (verticesOf n m) (f ∷ (g ∷ ps)) ws
-      → Relinked n m₁ (placesAfter o q e (f ∷ (g ∷ ps)) ws) (effectAt o u n m e (f ∷ (g ∷ ps)) ws)
+  pub relinked : (Takes o → (placed q ((opened e ∷ ps) ∷ ws) ≡ 0) × (q < n)) → (m₁ : List ℕ)
+      → linksOf n m₁ ≡ stored (stores o q e ps ws) (linksOf n m)
+      → verticesOf n m₁ ≡ verticesAfter o u q (verticesOf n m) ps ws
+      → Relinked n m₁ (placesAfter o q e ps ws) (effectAt o u n m e ps ws)
   relinked free m₁ el ev =
-      let rs : List Ring = (opened e ∷ (f ∷ (g ∷ ps))) ∷ ws in
-      let d = held o n (linksOf n m) (links-long n m) q e f g ps ws (apart n s m rs st) free (below n s m rs st) (st .holds) fit in
-      let has : HasLoops (namedLoops (verticesOf n m₁) (placesAfter o q e (f ∷ (g ∷ ps)) ws)) (effectAt o u n m e (f ∷ (g ∷ ps)) ws) =
+      let rs : List Ring = (opened e ∷ ps) ∷ ws in
+      let d = held o n (linksOf n m) (links-long n m) q e ps ws (apart n s m rs st) free (below n s m rs st) (st .holds) fit in
+      let has : HasLoops (namedLoops (verticesOf n m₁) (placesAfter o q e ps ws)) (effectAt o u n m e ps ws) =
       rw ev
-      (has-loops o (verticesOf n m) u q e (f ∷ (g ∷ ps)) ws (λ t. (free t .0, rw (column-length m 0 n) (free t .1)))) in
+      (has-loops o (verticesOf n m) u q e ps ws (λ t. (free t .0, rw (column-length m 0 n) (free t .1)))) in
       record {
-        holds = subst (λ (M : Memory). Holds M (placesAfter o q e (f ∷ (g ∷ ps)) ws)) (sym el) (d .holds);
-        sound = sound-places (verticesOf n m₁) (placesAfter o q e (f ∷ (g ∷ ps)) ws)
-            (sound-has u (namedLoops (verticesOf n m) ((opened e ∷ (f ∷ (g ∷ ps))) ∷ ws)) (namedLoops (verticesOf n m₁) (placesAfter o q e (f ∷ (g ∷ ps)) ws))
-            (effectAt o u n m e (f ∷ (g ∷ ps)) ws) has law goes);
+        holds = subst (λ (M : Memory). Holds M (placesAfter o q e ps ws)) (sym el) (d .holds);
+        current = current-places (verticesOf n m₁) (placesAfter o q e ps ws)
+            (current-has u (namedLoops (verticesOf n m) ((opened e ∷ ps) ∷ ws)) (namedLoops (verticesOf n m₁) (placesAfter o q e ps ws))
+            (effectAt o u n m e ps ws) has law goes);
         loops = has;
       }
 

@@ -1,101 +1,109 @@
 -- New, forward and backward: the loops after them stand.
 -- Assumes nothing.
-use Prim.Native.Nat.{ℕ, _+_, _-_, _*_, _≤_, _<_}
+use Prim.Native.Nat.{ℕ, suc, _+_, _-_, _*_, _≤_, _<_}
 use native.Mathlib.Omega.{arith}
 use mathlib.Core.Bool.{true}
 use mathlib.Core.List.{List, [], _∷_}
 use mathlib.Core.Path.{_≡_, refl, sym, ap, _∙_, subst}
-use lib.ListN.{length, set, length-set, length-append}
+use lib.ListN.{length, set, drop, length-set, length-append, length-drop}
 use lib.Seq.{getD-set-other}
 use Rattle.rules.specs.declared.Operation.{Operation}
 use Rattle.rules.specs.declared.Operation.the-variants.{New, Forward, Backward}
 use Rattle.rules.specs.Count.{same}
-use Rattle.rules.specs.Ring.{Node, opened, Ring, vertex, startOr, vertexAt, lastOpen, lastVertex, front, places}
+use Rattle.rules.specs.Ring.{Node, opened, Ring, startOr, vertexAt, lastOpen, lastVertex, front, places}
 use Rattle.book.specs.Sums.{pathSum, ringSum, loopsSum}
-use Rattle.book.proofs.Sums.{sum-append, front-last, length-front}
+use Rattle.book.proofs.Sums.{sum-append, front-last}
 use Rattle.links.specs.Memory.{Arc, arc, placed, stored}
 use Rattle.links.specs.Stores.{placesAfter, stores, verticesAfter, Takes}
 use Rattle.memory.specs.declared.Loops.{Loops}
-use Rattle.memory.specs.Layout.{at, beforeOf, afterOf, verticesOf, edgesStored, freed}
+use Rattle.memory.specs.Layout.{at, beforeOf, afterOf, verticesOf, edgesStored, freed, walked}
 use Rattle.memory.specs.Stands.{StandsAt}
 use Rattle.memory.specs.Moves.{Held, held, topFree, newHeld, forwardHeld, backwardHeld}
 use Rattle.memory.proofs.Columns.{Near, EdgesStored, edges-stored, named-vertices, named-links, named-above, same-vertices, same-links}
-use Rattle.memory.proofs.Standing.{Trail, trails, last-trail, top-free}
+use Rattle.memory.proofs.Standing.{Trail, trails, walk-trail, near-trail, last-trail, start-trail, top-free}
 use Rattle.memory.proofs.Room.{room}
 use Rattle.memory.proofs.Relinked.{Goes, Moved, effectAt, Relinked, fit, relinked, stacked-same, stacked-top, stacked-freed, waits-same}
 
-module _ (n : ℕ) (s : Loops) (m : List ℕ) (u e : ℕ) (f g : Node) (ps : List Node) (ws : List Ring)
-    (st : StandsAt n s m ((opened e ∷ (f ∷ (g ∷ ps))) ∷ ws)) where
-  old : List Ring
-  old = (opened e ∷ (f ∷ (g ∷ ps))) ∷ ws
+first-out : (g : ℕ → ℕ) (b : ℕ) (ps : List Node) → 1 ≤ length ps
+    → pathSum (λ p r o. g p) (drop 1 ps) b + g (startOr b ps) ≡ pathSum (λ p r o. g p) ps b
+unfolding pathSum
+first-out g b [] h = absurd (omega arith)
+first-out g b (p ∷ ps) h = omega arith
 
-  pub ring : Trail n m (opened e ∷ (f ∷ (g ∷ ps))) e
-  ring = trails n s m ((opened e ∷ (f ∷ (g ∷ ps))) ∷ ws) st .0
+front-length : (ps : List Node) → lastOpen ps ≡ true → suc (length (front ps)) ≡ length ps
+front-length ps o = omega (arith, length-append (front ps) (opened (lastVertex ps) ∷ []), ap length (front-last ps o))
+
+module _ (n : ℕ) (s : Loops) (m : List ℕ) (u e : ℕ) (ps : List Node) (ws : List Ring)
+    (st : StandsAt n s m ((opened e ∷ ps) ∷ ws)) where
+  old : List Ring
+  old = (opened e ∷ ps) ∷ ws
+
+  pub ring : Trail n m (opened e ∷ ps) e
+  ring = trails n s m ((opened e ∷ ps) ∷ ws) st .0
 
   long : 4 * n ≤ length m
   long = omega (arith, st .long)
 
-  placed-new : (q x : ℕ) → placed x (placesAfter New q e (f ∷ (g ∷ ps)) ws) ≡ placed x ((opened e ∷ (f ∷ (g ∷ ps))) ∷ ws) + same x q
+  placed-new : (q x : ℕ) → placed x (placesAfter New q e ps ws) ≡ placed x ((opened e ∷ ps) ∷ ws) + same x q
   unfolding placesAfter loopsSum ringSum pathSum
-  placed-new q x = omega (arith, sum-append (λ p r o. same x p) (f ∷ (g ∷ ps)) (opened e ∷ []) q)
+  placed-new q x = omega (arith, sum-append (λ p r o. same x p) ps (opened e ∷ []) q)
 
-  placed-forward : (q x : ℕ) → placed x (placesAfter Forward q e (f ∷ (g ∷ ps)) ws) + same x (vertex f) ≡ placed x ((opened e ∷ (f ∷ (g ∷ ps))) ∷ ws)
+  placed-forward : (q x : ℕ) → 1 ≤ length ps → placed x (placesAfter Forward q e ps ws) + same x (startOr e ps) ≡ placed x ((opened e ∷ ps) ∷ ws)
   unfolding placesAfter loopsSum ringSum pathSum
-  placed-forward q x = omega arith
+  placed-forward q x h = omega (arith, first-out (same x) e ps h)
 
-  placed-backward : (q x : ℕ) → lastOpen (g ∷ ps) ≡ true
-      → placed x (placesAfter Backward q e (f ∷ (g ∷ ps)) ws) + same x e ≡ placed x ((opened e ∷ (f ∷ (g ∷ ps))) ∷ ws)
-  unfolding placesAfter loopsSum ringSum pathSum lastVertex front
+  placed-backward : (q x : ℕ) → lastOpen ps ≡ true → placed x (placesAfter Backward q e ps ws) + same x e ≡ placed x ((opened e ∷ ps) ∷ ws)
+  unfolding placesAfter loopsSum ringSum pathSum
   placed-backward q x k =
-      let l : ℕ = lastVertex (g ∷ ps) in
+      let l : ℕ = lastVertex ps in
       omega (
         arith,
-        sum-append (λ p r o. same x p) (f ∷ front (g ∷ ps)) (opened l ∷ []) e,
-        ap (λ (y : List Node). pathSum (λ p r o. same x p) (f ∷ y) e) (front-last g ps k),
+        sum-append (λ p r o. same x p) (front ps) (opened l ∷ []) e,
+        ap (λ (y : List Node). pathSum (λ p r o. same x p) y e) (front-last ps k),
       )
 
-  -- the place before e
-  before-e : beforeOf m e ≡ lastVertex (f ∷ (g ∷ ps))
-  before-e = last-trail n m e f (g ∷ ps) (ring .1) .back
+  -- the place after e
+  after-near : startOr e ps < n
+  after-near = start-trail n m e (ring .0 .near) ps (ring .1)
 
-  last-near : lastVertex (f ∷ (g ∷ ps)) < n
-  last-near = last-trail n m e f (g ∷ ps) (ring .1) .near
-
-  forward-stores : forwardHeld n s m
-      ≡ held (s .live) (s .current) (s .size - 1) (s .free + 1) (freed n (edgesStored (stores Forward 0 e (f ∷ (g ∷ ps)) ws) m) (s .free) (vertex f))
-  unfolding forwardHeld stores vertexAt
-  forward-stores =
+  forward-stores : 1 < length ps
+      → forwardHeld n s m
+      ≡ held (s .live) (s .current) (s .size - 1) (s .free + 1) (freed n (edgesStored (stores Forward 0 e ps ws) m) (s .free) (startOr e ps))
+  unfolding forwardHeld stores
+  forward-stores h =
       let a : s .current ≡ e = st .heads .current in
-      let b : afterOf m e ≡ vertex f = ring .0 .fore in
-      let c : afterOf m (vertex f) ≡ vertex g = ring .1 .0 .fore in
+      let b : afterOf m e ≡ startOr e ps = ring .0 .fore in
+      let c : afterOf m (startOr e ps) ≡ vertexAt ps 1 = unfold walked in walk-trail n m e ps 1 (ring .1) h in
       rw (a, b, c)
 
-  backward-stores : backwardHeld n s m
-      ≡ held (s .live) (lastVertex (f ∷ (g ∷ ps))) (s .size - 1) (s .free + 1) (freed n (edgesStored (stores Backward 0 e (f ∷ (g ∷ ps)) ws) m) (s .free) e)
+  backward-stores : 1 ≤ length ps
+      → backwardHeld n s m
+      ≡ held (s .live) (lastVertex ps) (s .size - 1) (s .free + 1) (freed n (edgesStored (stores Backward 0 e ps ws) m) (s .free) e)
   unfolding backwardHeld stores
-  backward-stores =
+  backward-stores h =
       let a : s .current ≡ e = st .heads .current in
-      let b : afterOf m e ≡ vertex f = ring .0 .fore in
-      rw (a, b, before-e)
+      let b : afterOf m e ≡ startOr e ps = ring .0 .fore in
+      let c : beforeOf m e ≡ lastVertex ps = last-trail n m e ps (ring .1) h .back in
+      rw (a, b, c)
 
   -- a place between e and f
-  module _ (goes : Goes (effectAt New u n m e (f ∷ (g ∷ ps)) ws)) (some : 1 ≤ s .free) where
+  module _ (goes : Goes (effectAt New u n m e ps ws)) (some : 1 ≤ s .free) where
     q : ℕ
     q = topFree n s m
 
-    free : (placed q ((opened e ∷ (f ∷ (g ∷ ps))) ∷ ws) ≡ 0) × (q < n)
+    free : (placed q ((opened e ∷ ps) ∷ ws) ≡ 0) × (q < n)
     unfolding q
-    free = top-free n s m ((opened e ∷ (f ∷ (g ∷ ps))) ∷ ws) st some
+    free = top-free n s m ((opened e ∷ ps) ∷ ws) st some
 
     arcs : List Arc
-    arcs = arc e q true ∷ (arc q (vertex f) true ∷ [])
+    arcs = arc e q true ∷ (arc q (startOr e ps) true ∷ [])
 
     after : List ℕ
     after = edgesStored arcs (set m (4 * q) u)
 
     made : EdgesStored n (set m (4 * q) u) arcs
     unfolding arcs
-    made = edges-stored n (set m (4 * q) u) arcs (simp length-set long) (ring .0 .near, free .1, (free .1, ring .1 .0 .near, tt))
+    made = edges-stored n (set m (4 * q) u) arcs (simp length-set long) (ring .0 .near, free .1, (free .1, after-near, tt))
 
     above : (i : ℕ) → 4 * n ≤ i → at after i ≡ at m i
     unfolding after
@@ -105,13 +113,13 @@ module _ (n : ℕ) (s : Loops) (m : List ℕ) (u e : ℕ) (f g : Node) (ps : Lis
     unfolding after
     same-long = made .lengths ∙ length-set m (4 * q) u
 
-    linked : Relinked n after (placesAfter New q e (f ∷ (g ∷ ps)) ws) (effectAt New u n m e (f ∷ (g ∷ ps)) ws)
+    linked : Relinked n after (placesAfter New q e ps ws) (effectAt New u n m e ps ws)
     unfolding after arcs stores verticesAfter
     linked =
-        relinked New n s m u q e f g ps ws st goes (λ t. free) after (made .links ∙ ap (stored arcs) (named-links n m q u long (free .1)))
+        relinked New n s m u q e ps ws st goes (λ t. free) after (made .links ∙ ap (stored arcs) (named-links n m q u long (free .1)))
         (made .vertices ∙ named-vertices n m q u long (free .1))
 
-    stands : StandsAt n (record { live = s .live; current = q; size = s .size + 1; free = s .free - 1 }) after (placesAfter New q e (f ∷ (g ∷ ps)) ws)
+    stands : StandsAt n (record { live = s .live; current = q; size = s .size + 1; free = s .free - 1 }) after (placesAfter New q e ps ws)
     unfolding q after placesAfter
     stands = record {
       long = omega (arith, st .long, made .lengths, length-set m (4 * q) u);
@@ -130,21 +138,21 @@ module _ (n : ℕ) (s : Loops) (m : List ℕ) (u e : ℕ) (f g : Node) (ps : Lis
         size = simp length-append (omega (arith, st .heads .size));
         waiting = waits-same n m after (λ i l. above i (omega arith)) ws (st .heads .waiting);
       };
-      sound = linked .sound;
+      sound = linked .current;
     }
 
     new-held : newHeld n s m u ≡ held (s .live) q (s .size + 1) (s .free - 1) after
     unfolding newHeld after arcs q
     new-held =
         let a : s .current ≡ e = st .heads .current in
-        let b : afterOf m e ≡ vertex f = ring .0 .fore in
+        let b : afterOf m e ≡ startOr e ps = ring .0 .fore in
         rw (a, b)
 
-    pub moved-new : Moved n s m (newHeld n s m u) (effectAt New u n m e (f ∷ (g ∷ ps)) ws)
+    pub moved-new : Moved n s m (newHeld n s m u) (effectAt New u n m e ps ws)
     moved-new =
-        subst (λ (h : Held). Moved n s m h (effectAt New u n m e (f ∷ (g ∷ ps)) ws)) (sym new-held)
+        subst (λ (h : Held). Moved n s m h (effectAt New u n m e ps ws)) (sym new-held)
         (record {
-          rings = placesAfter New q e (f ∷ (g ∷ ps)) ws;
+          rings = placesAfter New q e ps ws;
           lengths = same-long;
           rest = λ i h. above i (omega arith);
           stands = stands;
@@ -154,18 +162,18 @@ module _ (n : ℕ) (s : Loops) (m : List ℕ) (u e : ℕ) (f g : Node) (ps : Lis
   -- the loops have a place, so there is room on the stack
   pub used-some : s .free < n
   unfolding places
-  used-some = omega (arith, room n s m ((opened e ∷ (f ∷ (g ∷ ps))) ∷ ws) st)
+  used-some = omega (arith, room n s m ((opened e ∷ ps) ∷ ws) st)
 
   -- an operation that frees the place x and takes none
-  module _ (o : Operation) (takes : Takes o → ⊥) (goes : Goes (effectAt o u n m e (f ∷ (g ∷ ps)) ws)) (l : Ring) (x : ℕ)
-      (near : Near n (stores o 0 e (f ∷ (g ∷ ps)) ws)) (vertices : verticesAfter o u 0 (verticesOf n m) (f ∷ (g ∷ ps)) ws ≡ verticesOf n m)
-      (rings : placesAfter o 0 e (f ∷ (g ∷ ps)) ws ≡ l ∷ ws)
-      (fewer : (y : ℕ) → placed y (placesAfter o 0 e (f ∷ (g ∷ ps)) ws) + same y x ≡ placed y ((opened e ∷ (f ∷ (g ∷ ps))) ∷ ws)) where
+  module _ (o : Operation) (takes : Takes o → ⊥) (goes : Goes (effectAt o u n m e ps ws)) (l : Ring) (x : ℕ)
+      (near : Near n (stores o 0 e ps ws)) (vertices : verticesAfter o u 0 (verticesOf n m) ps ws ≡ verticesOf n m)
+      (rings : placesAfter o 0 e ps ws ≡ l ∷ ws)
+      (fewer : (y : ℕ) → placed y (placesAfter o 0 e ps ws) + same y x ≡ placed y ((opened e ∷ ps) ∷ ws)) where
     links-done : List ℕ
-    links-done = edgesStored (stores o 0 e (f ∷ (g ∷ ps)) ws) m
+    links-done = edgesStored (stores o 0 e ps ws) m
 
-    links-made : EdgesStored n m (stores o 0 e (f ∷ (g ∷ ps)) ws)
-    links-made = edges-stored n m (stores o 0 e (f ∷ (g ∷ ps)) ws) long near
+    links-made : EdgesStored n m (stores o 0 e ps ws)
+    links-made = edges-stored n m (stores o 0 e ps ws) long near
 
     left : List ℕ
     left = freed n links-done (s .free) x
@@ -178,17 +186,17 @@ module _ (n : ℕ) (s : Loops) (m : List ℕ) (u e : ℕ) (f g : Node) (ps : Lis
     unfolding left links-done
     waiting-stays i h = getD-set-other links-done (4 * n + s .free) i x 0 (λ z. omega (arith, z, used-some)) ∙ links-made .above i (omega arith)
 
-    again : Relinked n left (placesAfter o 0 e (f ∷ (g ∷ ps)) ws) (effectAt o u n m e (f ∷ (g ∷ ps)) ws)
+    again : Relinked n left (placesAfter o 0 e ps ws) (effectAt o u n m e ps ws)
     unfolding links-done
     again =
-        relinked o n s m u 0 e f g ps ws st goes (λ t. absurd (takes t)) left (same-links n links-done left records ∙ links-made .links)
+        relinked o n s m u 0 e ps ws st goes (λ t. absurd (takes t)) left (same-links n links-done left records ∙ links-made .links)
         (same-vertices n links-done left records ∙ links-made .vertices ∙ sym vertices)
 
     pub freeing : (c k : ℕ) → c ≡ startOr 0 l → k ≡ length l
-        → Moved n s m (held (s .live) c k (s .free + 1) (freed n (edgesStored (stores o 0 e (f ∷ (g ∷ ps)) ws) m) (s .free) x)) (effectAt o u n m e (f ∷ (g ∷ ps)) ws)
+        → Moved n s m (held (s .live) c k (s .free + 1) (freed n (edgesStored (stores o 0 e ps ws) m) (s .free) x)) (effectAt o u n m e ps ws)
     unfolding left links-done
     freeing c k ec ek = record {
-      rings = placesAfter o 0 e (f ∷ (g ∷ ps)) ws;
+      rings = placesAfter o 0 e ps ws;
       lengths = length-set links-done (4 * n + s .free) x ∙ links-made .lengths;
       rest = λ i h. waiting-stays i (omega arith);
       stands = record {
@@ -209,23 +217,27 @@ module _ (n : ℕ) (s : Loops) (m : List ℕ) (u e : ℕ) (f g : Node) (ps : Lis
               size = ek;
               waiting = waits-same n m left waiting-stays ws (st .heads .waiting);
             });
-        sound = again .sound;
+        sound = again .current;
       };
       loops = again .loops;
     }
 
-  pub moved-forward : Goes (effectAt Forward u n m e (f ∷ (g ∷ ps)) ws) → Moved n s m (forwardHeld n s m) (effectAt Forward u n m e (f ∷ (g ∷ ps)) ws)
-  unfolding stores vertexAt verticesAfter placesAfter
+  pub moved-forward : Goes (effectAt Forward u n m e ps ws) → Moved n s m (forwardHeld n s m) (effectAt Forward u n m e ps ws)
+  unfolding stores verticesAfter placesAfter
   moved-forward goes =
-      subst (λ (h : Held). Moved n s m h (effectAt Forward u n m e (f ∷ (g ∷ ps)) ws)) (sym forward-stores)
-      (freeing Forward (λ t. t) goes (opened e ∷ (g ∷ ps)) (vertex f) (ring .0 .near, ring .1 .1 .0 .near, tt) refl refl (placed-forward 0) (s .current) (s .size - 1) (st .heads .current)
-      (omega (arith, st .heads .size)))
+      let k : 3 ≤ length ps = fit Forward n s m u 0 e ps ws st goes in
+      subst (λ (h : Held). Moved n s m h (effectAt Forward u n m e ps ws)) (sym (forward-stores (omega (arith, k))))
+      (freeing Forward (λ t. t) goes (opened e ∷ drop 1 ps) (startOr e ps)
+      (ring .0 .near, near-trail n m e ps 1 (ring .1) (omega (arith, k)), tt) refl refl
+      (λ y. placed-forward 0 y (omega (arith, k))) (s .current) (s .size - 1) (st .heads .current)
+      (omega (arith, k, st .heads .size, length-drop 1 ps)))
 
-  pub moved-backward : Goes (effectAt Backward u n m e (f ∷ (g ∷ ps)) ws) → Moved n s m (backwardHeld n s m) (effectAt Backward u n m e (f ∷ (g ∷ ps)) ws)
-  unfolding stores verticesAfter placesAfter lastOpen
+  pub moved-backward : Goes (effectAt Backward u n m e ps ws) → Moved n s m (backwardHeld n s m) (effectAt Backward u n m e ps ws)
+  unfolding stores verticesAfter placesAfter
   moved-backward goes =
-      let o : lastOpen (f ∷ (g ∷ ps)) ≡ true = fit Backward n s m u 0 e f g ps ws st goes in
-      let l : ℕ = lastVertex (f ∷ (g ∷ ps)) in
-      subst (λ (h : Held). Moved n s m h (effectAt Backward u n m e (f ∷ (g ∷ ps)) ws)) (sym backward-stores)
-      (freeing Backward (λ t. t) goes (opened l ∷ front (f ∷ (g ∷ ps))) e (last-near, ring .1 .0 .near, tt) refl refl (λ y. placed-backward 0 y o) l (s .size - 1) refl
-      (omega (arith, st .heads .size, length-front f (g ∷ ps))))
+      let o : lastOpen ps ≡ true = fit Backward n s m u 0 e ps ws st goes in
+      let l : ℕ = lastVertex ps in
+      let k : suc (length (front ps)) ≡ length ps = front-length ps o in
+      subst (λ (h : Held). Moved n s m h (effectAt Backward u n m e ps ws)) (sym (backward-stores (omega (arith, k))))
+      (freeing Backward (λ t. t) goes (opened l ∷ front ps) e (last-trail n m e ps (ring .1) (omega (arith, k)) .near, after-near, tt) refl refl
+      (λ y. placed-backward 0 y o) l (s .size - 1) refl (omega (arith, st .heads .size, k)))

@@ -29,34 +29,34 @@ use Rattle.memory.proofs.Relinked.{Goes, Moved, effectAt, Relinked, fit
 use Rattle.memory.proofs.Waiting.{waits-within, waits-length, waits-other, waits-first, waits-second}
 use Rattle.memory.proofs.Doubled.{split-hop, q, free, ring, arcs, doubled-length, doubled-above, doubled-links, doubled-vertices}
 
-module _ (n : ℕ) (s : Loops) (m : List ℕ) (u e : ℕ) (f g : Node) (ps : List Node) (ws : List Ring)
-    (st : StandsAt n s m ((opened e ∷ (f ∷ (g ∷ ps))) ∷ ws)) (some : 1 ≤ s .free) where
+module _ (n : ℕ) (s : Loops) (m : List ℕ) (u e : ℕ) (ps : List Node) (ws : List Ring)
+    (st : StandsAt n s m ((opened e ∷ ps) ∷ ws)) (some : 1 ≤ s .free) where
   -- of a split
-  module _ (i : ℕ) (goes : Goes (effectAt (Split i) u n m e (f ∷ (g ∷ ps)) ws)) (more : 5 * n + 2 * (s .live + 1) ≤ length m) where
+  module _ (i : ℕ) (goes : Goes (effectAt (Split i) u n m e ps ws)) (more : 5 * n + 2 * (s .live + 1) ≤ length m) where
     low : List Node
-    low = take i (f ∷ (g ∷ ps))
+    low = take i ps
 
     high : List Node
-    high = drop i (f ∷ (g ∷ ps))
+    high = drop i ps
 
     third : ℕ
-    third = vertexAt (f ∷ (g ∷ ps)) i
+    third = vertexAt ps i
 
     second : ℕ
-    second = q n s m e f g ps ws st some
+    second = q n s m e ps ws st some
 
-    inside : (1 ≤ i) × (i < length (f ∷ (g ∷ ps)))
-    inside = fit (Split i) n s m u 0 e f g ps ws st goes
+    inside : (1 ≤ i) × (i < length ps)
+    inside = fit (Split i) n s m u 0 e ps ws st goes
 
     hop : Hop n m (lastVertex low) third (lastOpen low)
     unfolding low third
-    hop = split-hop n m e f (g ∷ ps) i (inside .0) (inside .1) (ring n s m e f g ps ws st some .1)
+    hop = split-hop n m e ps i (inside .0) (inside .1) (ring n s m e ps ws st some .1)
 
     near : third < n
     unfolding third
-    near = near-trail n m e (f ∷ (g ∷ ps)) i (ring n s m e f g ps ws st some .1) (inside .1)
+    near = near-trail n m e ps i (ring n s m e ps ws st some .1) (inside .1)
 
-    placed-split : (x : ℕ) → placed x (placesAfter (Split i) second e (f ∷ (g ∷ ps)) ws) ≡ placed x ((opened e ∷ (f ∷ (g ∷ ps))) ∷ ws) + same x second
+    placed-split : (x : ℕ) → placed x (placesAfter (Split i) second e ps ws) ≡ placed x ((opened e ∷ ps) ∷ ws) + same x second
     unfolding placesAfter loopsSum ringSum pathSum low high
     placed-split x =
         omega (
@@ -64,7 +64,7 @@ module _ (n : ℕ) (s : Loops) (m : List ℕ) (u e : ℕ) (f g : Node) (ps : Lis
           sum-order (λ p r o. same x p) (leb (length (opened second ∷ low)) (length (opened e ∷ high))) (opened second ∷ low) (opened e ∷ high) ws,
           sum-append (λ p r o. same x p) low high e,
           end-free (same x) low second (startOr e high),
-          ap (λ (y : List Node). pathSum (λ p r o. same x p) y e) (take-append-drop i (f ∷ (g ∷ ps))),
+          ap (λ (y : List Node). pathSum (λ p r o. same x p) y e) (take-append-drop i ps),
         )
 
     memory₁ : List ℕ
@@ -72,27 +72,27 @@ module _ (n : ℕ) (s : Loops) (m : List ℕ) (u e : ℕ) (f g : Node) (ps : Lis
 
     long₁ : length memory₁ ≡ length m
     unfolding memory₁
-    long₁ = doubled-length n s m e f g ps ws st some (lastVertex low) third (lastOpen low) hop near
+    long₁ = doubled-length n s m e ps ws st some (lastVertex low) third (lastOpen low) hop near
 
     above₁ : (x : ℕ) → 4 * n ≤ x → at memory₁ x ≡ at m x
     unfolding memory₁
-    above₁ = doubled-above n s m e f g ps ws st some (lastVertex low) third (lastOpen low) hop near
+    above₁ = doubled-above n s m e ps ws st some (lastVertex low) third (lastOpen low) hop near
 
     any : (m₂ : List ℕ) → ((x : ℕ) → x < 4 * n → at m₂ x ≡ at memory₁ x)
-        → Relinked n m₂ (placesAfter (Split i) second e (f ∷ (g ∷ ps)) ws) (effectAt (Split i) u n m e (f ∷ (g ∷ ps)) ws)
+        → Relinked n m₂ (placesAfter (Split i) second e ps ws) (effectAt (Split i) u n m e ps ws)
     unfolding memory₁ stores verticesAfter low third second arcs
     any m₂ h =
-        relinked (Split i) n s m u second e f g ps ws st goes (λ t. free n s m e f g ps ws st some) m₂
-        (same-links n memory₁ m₂ h ∙ doubled-links n s m e f g ps ws st some (lastVertex low) third (lastOpen low) hop near)
-        (same-vertices n memory₁ m₂ h ∙ doubled-vertices n s m e f g ps ws st some (lastVertex low) third (lastOpen low) hop near)
+        relinked (Split i) n s m u second e ps ws st goes (λ t. free n s m e ps ws st some) m₂
+        (same-links n memory₁ m₂ h ∙ doubled-links n s m e ps ws st some (lastVertex low) third (lastOpen low) hop near)
+        (same-vertices n memory₁ m₂ h ∙ doubled-vertices n s m e ps ws st some (lastVertex low) third (lastOpen low) hop near)
 
     low-length : length low ≡ i
     unfolding low
-    low-length = length-take-le i (f ∷ (g ∷ ps)) (omega (arith, inside .1))
+    low-length = length-take-le i ps (omega (arith, inside .1))
 
-    high-length : i + length high ≡ length (f ∷ (g ∷ ps))
+    high-length : i + length high ≡ length ps
     unfolding high
-    high-length = omega (arith, length-drop i (f ∷ (g ∷ ps)), inside .1)
+    high-length = omega (arith, length-drop i ps, inside .1)
 
     lower-size : suc (length low) ≡ i + 1
     lower-size = omega (arith, low-length)
@@ -100,7 +100,7 @@ module _ (n : ℕ) (s : Loops) (m : List ℕ) (u e : ℕ) (f g : Node) (ps : Lis
     higher-size : suc (length high) ≡ s .size - i
     higher-size = omega (arith, high-length, st .heads .size)
 
-    order : placesAfter (Split i) second e (f ∷ (g ∷ ps)) ws ≡ inOrder (leb (i + 1) (s .size - i)) (opened second ∷ low) (opened e ∷ high) ws
+    order : placesAfter (Split i) second e ps ws ≡ inOrder (leb (i + 1) (s .size - i)) (opened second ∷ low) (opened e ∷ high) ws
     unfolding placesAfter low high
     order =
         ap (λ (t : Bool). inOrder t (opened second ∷ low) (opened e ∷ high) ws) (ap₂ leb lower-size higher-size)
@@ -121,14 +121,14 @@ module _ (n : ℕ) (s : Loops) (m : List ℕ) (u e : ℕ) (f g : Node) (ps : Lis
               (st .heads .waiting),
         )
 
-    halves : (p k : ℕ) (l l′ : Ring) (c z : ℕ) → placesAfter (Split i) second e (f ∷ (g ∷ ps)) ws ≡ l ∷ (l′ ∷ ws) → c ≡ startOr 0 l → z ≡ length l
+    halves : (p k : ℕ) (l l′ : Ring) (c z : ℕ) → placesAfter (Split i) second e ps ws ≡ l ∷ (l′ ∷ ws) → c ≡ startOr 0 l → z ≡ length l
         → p ≡ startOr 0 l′ → k ≡ length l′
-        → Moved n s m (held (s .live + 1) c z (s .free - 1) (waits n memory₁ (s .live - 1) p k)) (effectAt (Split i) u n m e (f ∷ (g ∷ ps)) ws)
+        → Moved n s m (held (s .live + 1) c z (s .free - 1) (waits n memory₁ (s .live - 1) p k)) (effectAt (Split i) u n m e ps ws)
     halves p k l l′ c z eo ec ez ep ek =
         let m₂ : List ℕ = waits n memory₁ (s .live - 1) p k in
         let same₅ : (x : ℕ) → x < 5 * n → at m₂ x ≡ at memory₁ x =
         λ x y. waits-other n memory₁ (s .live - 1) p k x (λ t. omega (arith, t)) (λ t. omega (arith, t)) in
-        let r = subst (λ (rs : List Ring). Relinked n m₂ rs (effectAt (Split i) u n m e (f ∷ (g ∷ ps)) ws)) eo (any m₂ (λ x y. same₅ x (omega arith))) in
+        let r = subst (λ (rs : List Ring). Relinked n m₂ rs (effectAt (Split i) u n m e ps ws)) eo (any m₂ (λ x y. same₅ x (omega arith))) in
         record {
           rings = l ∷ (l′ ∷ ws);
           lengths = waits-length n memory₁ (s .live - 1) p k ∙ long₁;
@@ -146,22 +146,22 @@ module _ (n : ℕ) (s : Loops) (m : List ℕ) (u e : ℕ) (f g : Node) (ps : Lis
                   ap (placed x) eo,
                   top-second x,
                   stacked-same n x m m₂ (s .free - 1)
-                      (λ j y. same₅ (4 * n + j) (omega (arith, room n s m ((opened e ∷ (f ∷ (g ∷ ps))) ∷ ws) st)) ∙ above₁ (4 * n + j) (omega arith)),
+                      (λ j y. same₅ (4 * n + j) (omega (arith, room n s m ((opened e ∷ ps) ∷ ws) st)) ∙ above₁ (4 * n + j) (omega arith)),
                 );
             heads = record { live = omega (arith, st .heads .live); current = ec; size = ez; waiting = put p k l′ ep ek };
-            sound = r .sound;
+            sound = r .current;
           };
           loops = r .loops;
         }
 
-    in-order : (t : Bool) → placesAfter (Split i) second e (f ∷ (g ∷ ps)) ws ≡ inOrder t (opened second ∷ low) (opened e ∷ high) ws
-        → Moved n s m (splitBy t n s memory₁ i second) (effectAt (Split i) u n m e (f ∷ (g ∷ ps)) ws)
+    in-order : (t : Bool) → placesAfter (Split i) second e ps ws ≡ inOrder t (opened second ∷ low) (opened e ∷ high) ws
+        → Moved n s m (splitBy t n s memory₁ i second) (effectAt (Split i) u n m e ps ws)
     unfolding inOrder
     in-order true eo =
         halves (s .current) (s .size - i) (opened second ∷ low) (opened e ∷ high) second (i + 1) eo refl (sym lower-size) (st .heads .current) (sym higher-size)
     in-order false eo =
         halves second (i + 1) (opened e ∷ high) (opened second ∷ low) (s .current) (s .size - i) eo (st .heads .current) (sym higher-size) refl (sym lower-size)
 
-    pub moved-split : Moved n s m (splitHeld n s m i (vertexAt (f ∷ (g ∷ ps)) i)) (effectAt (Split i) u n m e (f ∷ (g ∷ ps)) ws)
+    pub moved-split : Moved n s m (splitHeld n s m i (vertexAt ps i)) (effectAt (Split i) u n m e ps ws)
     unfolding splitHeld memory₁ third second q
     moved-split = in-order (leb (i + 1) (s .size - i)) order

@@ -82,10 +82,16 @@ module _ (n : ℕ) (m : List ℕ) (b : ℕ) where
   near-trail (p ∷ ps) zero t h = t .0 .near
   near-trail (p ∷ ps) (suc i) t h = near-trail ps i (t .1) (omega arith)
 
-  pub last-trail : (p : Node) (ps : List Node) → Trail n m (p ∷ ps) b → Hop n m (lastVertex (p ∷ ps)) b (lastOpen (p ∷ ps))
+  pub last-trail : (ps : List Node) → Trail n m ps b → 1 ≤ length ps → Hop n m (lastVertex ps) b (lastOpen ps)
   unfolding lastVertex lastOpen
-  last-trail p [] t = t .0
-  last-trail p (q ∷ ps) t = last-trail q ps (t .1)
+  last-trail [] t h = absurd (omega arith)
+  last-trail (p ∷ []) t h = t .0
+  last-trail (p ∷ (q ∷ ps)) t h = last-trail (q ∷ ps) (t .1) (omega arith)
+
+  -- where a run starts, or else it ends there
+  pub start-trail : b < n → (ps : List Node) → Trail n m ps b → startOr b ps < n
+  start-trail h [] t = h
+  start-trail h (p ∷ ps) t = t .0 .near
 
 pub trail-at : (n : ℕ) (m : List ℕ) (ws : List Ring) (k : ℕ) → Trails n m ws → Trail n m (loopAt ws k) (startOr 0 (loopAt ws k))
 unfolding loopAt

@@ -30,10 +30,10 @@ use Rattle.memory.proofs.Relinked.{Goes, Moved, effectAt, Relinked, fit
 use Rattle.memory.proofs.Waiting.{waits-at, Down, moved-down, waits-without}
 use Rattle.memory.proofs.Doubled.{goes-test, union-hop, q, free, arcs, doubled-length, doubled-above, doubled-links, doubled-vertices}
 
-module _ (n : ℕ) (s : Loops) (m : List ℕ) (u e : ℕ) (f g : Node) (ps : List Node) (ws : List Ring)
-    (st : StandsAt n s m ((opened e ∷ (f ∷ (g ∷ ps))) ∷ ws)) (some : 1 ≤ s .free) where
+module _ (n : ℕ) (s : Loops) (m : List ℕ) (u e : ℕ) (ps : List Node) (ws : List Ring)
+    (st : StandsAt n s m ((opened e ∷ ps) ∷ ws)) (some : 1 ≤ s .free) where
   -- of a union with waiting loop p at its place j
-  module _ (p j : ℕ) (goes : Goes (effectAt (Union p j) u n m e (f ∷ (g ∷ ps)) ws)) where
+  module _ (p j : ℕ) (goes : Goes (effectAt (Union p j) u n m e ps ws)) where
     joined : Ring
     joined = loopAt ws (p - 1)
 
@@ -41,7 +41,7 @@ module _ (n : ℕ) (s : Loops) (m : List ℕ) (u e : ℕ) (f g : Node) (ps : Lis
     meet = vertexAt joined j
 
     doubles : ℕ
-    doubles = q n s m e f g ps ws st some
+    doubles = q n s m e ps ws st some
 
     pub union-inside : (1 ≤ p) × (p ≤ length ws) × (j < length (loopAt ws (p - 1)))
     unfolding atEdge
@@ -51,12 +51,12 @@ module _ (n : ℕ) (s : Loops) (m : List ℕ) (u e : ℕ) (f g : Node) (ps : Lis
         let b = and-left (leb 1 p && leb p (length (namedLoops vs ws))) _ t in (
           leb-true 1 p (and-left (leb 1 p) _ b),
           omega (arith, leb-true p (length (namedLoops vs ws)) (and-right (leb 1 p) _ b), named-lives vs ws),
-          fit (Union p j) n s m u 0 e f g ps ws st goes .1,
+          fit (Union p j) n s m u 0 e ps ws st goes .1,
         )
 
     around : Trail n m joined (startOr 0 joined)
     unfolding joined
-    around = trail-at n m ws (p - 1) (trails n s m ((opened e ∷ (f ∷ (g ∷ ps))) ∷ ws) st .1)
+    around = trail-at n m ws (p - 1) (trails n s m ((opened e ∷ ps) ∷ ws) st .1)
 
     spliced : List Node
     spliced = drop j joined ++ take j joined
@@ -69,12 +69,12 @@ module _ (n : ℕ) (s : Loops) (m : List ℕ) (u e : ℕ) (f g : Node) (ps : Lis
     unfolding meet joined
     near₂ = near-trail n m (startOr 0 joined) joined j around (union-inside .2)
 
-    placed-union : (x : ℕ) → placed x (placesAfter (Union p j) doubles e (f ∷ (g ∷ ps)) ws) ≡ placed x ((opened e ∷ (f ∷ (g ∷ ps))) ∷ ws) + same x doubles
+    placed-union : (x : ℕ) → placed x (placesAfter (Union p j) doubles e ps ws) ≡ placed x ((opened e ∷ ps) ∷ ws) + same x doubles
     unfolding placesAfter loopsSum ringSum pathSum spliced joined
     placed-union x =
         omega (
           arith,
-          sum-append (λ p r o. same x p) (f ∷ (g ∷ ps)) (opened e ∷ spliced) doubles,
+          sum-append (λ p r o. same x p) ps (opened e ∷ spliced) doubles,
           sum-without (λ p r o. same x p) ws (p - 1) (omega (arith, union-inside .0, union-inside .1)),
           sum-turn (λ p r o. same x p) (drop j joined) (take j joined),
           end-free (same x) spliced doubles (startOr 0 spliced),
@@ -93,11 +93,11 @@ module _ (n : ℕ) (s : Loops) (m : List ℕ) (u e : ℕ) (f g : Node) (ps : Lis
 
     long₁ : length memory₁ ≡ length m
     unfolding memory₁
-    long₁ = doubled-length n s m e f g ps ws st some (lastVertex spliced) meet (lastOpen spliced) hop₂ near₂
+    long₁ = doubled-length n s m e ps ws st some (lastVertex spliced) meet (lastOpen spliced) hop₂ near₂
 
     above₁ : (x : ℕ) → 4 * n ≤ x → at memory₁ x ≡ at m x
     unfolding memory₁
-    above₁ = doubled-above n s m e f g ps ws st some (lastVertex spliced) meet (lastOpen spliced) hop₂ near₂
+    above₁ = doubled-above n s m e ps ws st some (lastVertex spliced) meet (lastOpen spliced) hop₂ near₂
 
     memory₂ : List ℕ
     memory₂ = movedDown n memory₁ lower (p - 1)
@@ -106,18 +106,18 @@ module _ (n : ℕ) (s : Loops) (m : List ℕ) (u e : ℕ) (f g : Node) (ps : Lis
     unfolding memory₂
     down = moved-down n memory₁ lower (p - 1) (omega (arith, lower-is, long₁, st .long, st .heads .live))
 
-    linked : Relinked n memory₂ (placesAfter (Union p j) doubles e (f ∷ (g ∷ ps)) ws) (effectAt (Union p j) u n m e (f ∷ (g ∷ ps)) ws)
+    linked : Relinked n memory₂ (placesAfter (Union p j) doubles e ps ws) (effectAt (Union p j) u n m e ps ws)
     unfolding memory₁ stores verticesAfter spliced joined meet doubles arcs
     linked =
         let h : (x : ℕ) → x < 4 * n → at memory₂ x ≡ at memory₁ x = λ x y. down .before x (omega (arith, y)) in
-        relinked (Union p j) n s m u doubles e f g ps ws st goes (λ t. free n s m e f g ps ws st some) memory₂
-        (same-links n memory₁ memory₂ h ∙ doubled-links n s m e f g ps ws st some (lastVertex spliced) meet (lastOpen spliced) hop₂ near₂)
-        (same-vertices n memory₁ memory₂ h ∙ doubled-vertices n s m e f g ps ws st some (lastVertex spliced) meet (lastOpen spliced) hop₂ near₂)
+        relinked (Union p j) n s m u doubles e ps ws st goes (λ t. free n s m e ps ws st some) memory₂
+        (same-links n memory₁ memory₂ h ∙ doubled-links n s m e ps ws st some (lastVertex spliced) meet (lastOpen spliced) hop₂ near₂)
+        (same-vertices n memory₁ memory₂ h ∙ doubled-vertices n s m e ps ws st some (lastVertex spliced) meet (lastOpen spliced) hop₂ near₂)
 
     whole : List Node
-    whole = opened doubles ∷ ((f ∷ (g ∷ ps)) ++ (opened e ∷ spliced))
+    whole = opened doubles ∷ (ps ++ (opened e ∷ spliced))
 
-    rings : placesAfter (Union p j) doubles e (f ∷ (g ∷ ps)) ws ≡ whole ∷ without ws (p - 1)
+    rings : placesAfter (Union p j) doubles e ps ws ≡ whole ∷ without ws (p - 1)
     unfolding placesAfter whole spliced joined
     rings = refl
 
@@ -146,7 +146,7 @@ module _ (n : ℕ) (s : Loops) (m : List ℕ) (u e : ℕ) (f g : Node) (ps : Lis
     top-doubles x = stacked-top n x m (s .free) some
 
     stands : StandsAt n (record { live = s .live - 1; current = doubles; size = s .size + 1 + at m (5 * n + 2 * lower + 1); free = s .free - 1 }) memory₂
-        (placesAfter (Union p j) doubles e (f ∷ (g ∷ ps)) ws)
+        (placesAfter (Union p j) doubles e ps ws)
     stands = record {
       long = omega (arith, st .long, down .lengths, long₁);
       holds = linked .holds;
@@ -157,7 +157,7 @@ module _ (n : ℕ) (s : Loops) (m : List ℕ) (u e : ℕ) (f g : Node) (ps : Lis
             placed-union x,
             top-doubles x,
             stacked-same n x m memory₂ (s .free - 1)
-                (λ i y. down .before (4 * n + i) (omega (arith, y, room n s m ((opened e ∷ (f ∷ (g ∷ ps))) ∷ ws) st)) ∙ above₁ (4 * n + i) (omega arith)),
+                (λ i y. down .before (4 * n + i) (omega (arith, y, room n s m ((opened e ∷ ps) ∷ ws) st)) ∙ above₁ (4 * n + i) (omega arith)),
           );
       heads = rw rings
           (record {
@@ -166,13 +166,13 @@ module _ (n : ℕ) (s : Loops) (m : List ℕ) (u e : ℕ) (f g : Node) (ps : Lis
             size = whole-length;
             waiting = waiting;
           });
-      sound = linked .sound;
+      sound = linked .current;
     }
 
-    pub moved-union : Moved n s m (unionHeld n s m p (vertexAt (loopAt ws (p - 1)) j)) (effectAt (Union p j) u n m e (f ∷ (g ∷ ps)) ws)
+    pub moved-union : Moved n s m (unionHeld n s m p (vertexAt (loopAt ws (p - 1)) j)) (effectAt (Union p j) u n m e ps ws)
     unfolding unionHeld memory₂ memory₁ lower meet joined doubles q
     moved-union = record {
-      rings = placesAfter (Union p j) doubles e (f ∷ (g ∷ ps)) ws;
+      rings = placesAfter (Union p j) doubles e ps ws;
       lengths = down .lengths ∙ long₁;
       rest = λ i h. down .after i (omega (arith, h, lower-is, st .heads .live)) ∙ above₁ i (omega arith);
       stands = stands;

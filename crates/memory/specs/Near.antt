@@ -12,7 +12,7 @@ pub record Near (n : ℕ) (l : Loops) (m : List ℕ) : Type 0 where
   pub few : n ≤ 1024
   pub live : 1 ≤ l .live
   pub long : 5 * n + 2 * l .live ≤ length m
-  pub three : 3 ≤ l .size
+  pub some : 1 ≤ l .size
   pub room : l .free + l .size ≤ n
   pub ahead : (j : ℕ) → j ≤ l .size + 1 → walked m j (l .current) < n
   pub behind : beforeOf m (l .current) < n

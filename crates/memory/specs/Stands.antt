@@ -7,7 +7,7 @@ use lib.ListN.{length}
 use lib.Dec.{ltb}
 use Rattle.rules.specs.Count.{num}
 use Rattle.rules.specs.Ring.{Ring, startOr}
-use Rattle.book.specs.Consistent.{AllSound}
+use Rattle.book.specs.Consistent.{AllCurrent}
 use Rattle.links.specs.Memory.{read, Holds, placed, namedLoops}
 use Rattle.memory.specs.declared.Loops.{Loops}
 use Rattle.memory.specs.Layout.{at, verticesOf, linksOf, stacked}
@@ -51,7 +51,8 @@ pub record StandsAt (n : ℕ) (s : Loops) (m : List ℕ) (rs : List Ring) : Type
   -- each place below n is in one loop, once, or on the stack of free places, once; no other number is
   pub each : (x : ℕ) → placed x rs + stacked n m (s .free) x ≡ num (ltb x n)
   pub heads : Named n s m rs
-  pub sound : AllSound rs
+  -- a loop may have one place or two
+  pub sound : AllCurrent rs
 
 abbrev pub Stands : ℕ → Loops → List ℕ → Type 0
 Stands n s m = StandsAt n s m (ringsIn n s m)

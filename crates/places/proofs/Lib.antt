@@ -5,4 +5,5 @@ pub mod Own
 pub mod Reading
 pub mod Whole
 pub mod Lent
+pub mod Settling
 pub mod Walking

@@ -2,8 +2,8 @@
 // The contracts cite specs/Records.antt and specs/Memory.antt, and `placeAt` of the crate rules.
 use rules::Place;
 ghost use mathlib.Core.Path.{_≡_};
-ghost use Prim.Native.Nat.{_<_, _≤_};
-ghost use lib.ListN.{length, set};
+ghost use Prim.Native.Nat.{ℕ, _+_, _*_, _<_, _≤_};
+ghost use lib.ListN.{length, getD, set};
 ghost use Rattle.rules.specs.Limits.{maxPlaces};
 ghost use Rattle.rules.specs.View.{placeAt};
 ghost use Rattle.places.specs.Records.{linkedAt, freedAt, filled, clearCount, clearedIfLong};
@@ -133,6 +133,19 @@ pub fn record_at(m: &Memory, i: usize) -> Place
         before: m[at + 1],
         after: m[at + 2],
         open: is_one(m[at + 3]),
+    }
+}
+
+// What is not 1 in a record's last number becomes 0: the records are as they were.
+pub fn settle(m: &mut Memory)
+    ensures { λ _. ⌜ ((p : ℕ) → p < maxPlaces → getD (now (m .exit)) (4 * p + 3) 0 ≤ 1) ⌝ }
+{
+    let mut i = 0;
+    while i < PLACES {
+        let at = 4 * i + 3;
+        let x = number(is_one(m[at]));
+        m[at] = x;
+        i += 1;
     }
 }
 

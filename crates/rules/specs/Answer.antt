@@ -11,7 +11,6 @@ use Rattle.rules.specs.declared.Packed.the-variants as P
 use Rattle.rules.specs.declared.Unpacked.{Unpacked}
 use Rattle.rules.specs.declared.Unpacked.the-variants as U
 use Rattle.rules.specs.declared.Begun.{Begun}
-use Rattle.rules.specs.declared.Begun.the-variants as B
 use Rattle.rules.specs.declared.Operated.{Operated}
 use Rattle.rules.specs.declared.Operated.the-variants as O
 use Rattle.rules.specs.declared.Finished.{Finished}
@@ -37,8 +36,7 @@ checkedAnswer Accepted = accepted
 checkedAnswer (Refused n) = refusal n
 
 abbrev pub begunAnswer : Begun → Answer
-begunAnswer (B.Accepted b) = accepted
-begunAnswer (B.Refused n) = refusal n
+begunAnswer x = checkedAnswer (x .answer)
 
 abbrev pub operatedAnswer : Operated → Answer
 operatedAnswer (O.Built t) = triangle t

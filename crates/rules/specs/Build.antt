@@ -11,7 +11,8 @@ use Rattle.rules.specs.declared.Operation.{Operation}
 use Rattle.rules.specs.declared.Place.{Place}
 use Rattle.rules.specs.declared.Builder.{Builder}
 use Rattle.rules.specs.declared.Begun.{Begun}
-use Rattle.rules.specs.declared.Begun.the-variants.{Accepted, Refused}
+use Rattle.rules.specs.declared.Checked.{Checked}
+use Rattle.rules.specs.declared.Checked.the-variants.{Accepted, Refused}
 use Rattle.rules.specs.Limits.{maxPlaces, maxLoops}
 use Rattle.rules.specs.Machine.{Machine, Step, refused, begun, built, declared, finished, beginning, operation, finish}
 use Rattle.rules.specs.Buffer.{cleared, Buffers, lengths}
@@ -56,10 +57,13 @@ emptyBuilder = begunBuilder (record { vertices = 0; triangles = 0; places = 0; l
 abbrev pub begunBuffers : Buffers → Buffers
 begunBuffers r = record { triangles = r .triangles; places = cleared (r .places) }
 
--- what a beginning with the counts s leaves: a refused one changes nothing
+-- what a beginning with the counts s gives and leaves: a refused one changes nothing
+abbrev pub BegunBy : Buffers → Counts → Checked → Builder → Buffers → Type 0
+BegunBy r s Accepted b r′ = (b ≡ begunBuilder s) × (r′ ≡ begunBuffers r)
+BegunBy r s (Refused n) b r′ = (b ≡ emptyBuilder) × (r′ ≡ r)
+
 abbrev pub Begins : Buffers → Counts → Begun → Buffers → Type 0
-Begins r s (Accepted b) r′ = (b ≡ begunBuilder s) × (r′ ≡ begunBuffers r)
-Begins r s (Refused n) r′ = r′ ≡ r
+Begins r s x r′ = BegunBy r s (x .answer) (x .state) r′
 
 -- the triangle buffer with t as triangle n
 abbrev pub withTriangle : ℕ → Triangle → List ℕ → List ℕ

@@ -133,9 +133,10 @@ pub enum Unpacked {
     Refused(u8),
 }
 
-pub enum Begun {
-    Accepted(Builder),
-    Refused(u8),
+// A beginning gives the state of the model that is begun; a refused one gives the empty builder, and the old model goes on.
+pub struct Begun {
+    pub state: Builder,
+    pub answer: Checked,
 }
 
 pub enum Operated {

@@ -1,11 +1,11 @@
--- `unpack::print_answer` is safe and ends.
+-- `show::print_unpacked` is safe and ends.
 -- Assumes nothing.
 use Prim.Native.Nat.{_*_}
 use mathlib.Core.Path.{sym}
 use lib.Seq.{length-take-le}
 use borrow.Author.Needs.{needs}
-use Rattle.unpack.proofs.print_answer.Statement.{statement}
-use Rattle.unpack.proofs.print_answer.Tie as tie
+use Rattle.show.proofs.print_unpacked.Statement.{statement}
+use Rattle.show.proofs.print_unpacked.Tie as tie
 
 -- src/main.rt:46:25
 enum-known-r : tie.Need-enum-known-r
@@ -53,8 +53,8 @@ returns-2 c = search needs
 returns-3 : tie.Need-returns-3
 returns-3 c = search needs
 
-pub print-answer-spec : {M : Type 1} → statement M
-print-answer-spec =
+pub print-unpacked-spec : {M : Type 1} → statement M
+print-unpacked-spec =
     tie.close
     (tie.spec
     enum-known-r

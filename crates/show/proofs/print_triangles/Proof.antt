@@ -1,11 +1,11 @@
--- `unpack::print_triangles` is safe and ends. The measure is what is left of the list.
+-- `show::print_triangles` is safe and ends. The measure is what is left of the list.
 -- Assumes nothing.
 use Prim.Native.Nat.{_≤_, _-_}
 use native.Mathlib.Omega.{arith}
 use lib.ListN.{length}
 use borrow.Author.Needs.{needs}
-use Rattle.unpack.proofs.print_triangles.Statement.{statement}
-use Rattle.unpack.proofs.print_triangles.Tie as tie
+use Rattle.show.proofs.print_triangles.Statement.{statement}
+use Rattle.show.proofs.print_triangles.Tie as tie
 
 abbrev Inv-loop : tie.InvT-loop
 Inv-loop triangles i₀ i = i ≤ length triangles
