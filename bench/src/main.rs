@@ -48,7 +48,7 @@ fn main() {
     let repeats = std::env::args().nth(1).and_then(|a| a.parse().ok()).unwrap_or(500);
     println!("nanoseconds a triangle, median of {repeats} calls, ours and the second program's fast engine, and their ratio");
     println!("check: refusals 1 to 7 here, linking with 1 to 6 there");
-    println!("{:<16} {:>6} {:>6}  {:>8} {:>8} {:>6}  {:>8} {:>8} {:>6}", "model", "V", "T", "check", "link", "ratio", "unpack", "unpack", "ratio");
+    println!("{:<16} {:>6} {:>6}  {:>8} {:>8} {:>6}  {:>8} {:>8} {:>6}  {:>8} {:>8} {:>6}", "model", "V", "T", "check", "link", "ratio", "unpack", "unpack", "ratio", "pack", "pack", "ratio");
     let mut packer = Packer::new();
     for (name, m) in models() {
         let t = (m.list.len() / 3) as f64;
@@ -61,6 +61,8 @@ fn main() {
         );
         print!("{name:<16} {:>6} {:>6}  {:>8.1} {:>8.1} {:>6.2}", m.v, t, ours / t, theirs / t, ours / theirs);
         let (ours, theirs) = unpackings(&m, repeats);
+        print!("  {:>8.1} {:>8.1} {:>6.2}", ours / t, theirs / t, ours / theirs);
+        let (ours, theirs) = packings(&m, repeats);
         println!("  {:>8.1} {:>8.1} {:>6.2}", ours / t, theirs / t, ours / theirs);
     }
 }
@@ -79,6 +81,25 @@ fn unpackings(m: &Model, repeats: usize) -> (f64, f64) {
         },
         || {
             black_box(unpacker.unpack(black_box(&pack), &mut expected, &mut places)).expect("an accepted pack");
+        },
+    )
+}
+
+/// Packing the model, with all of 1 to 11 on both sides.
+fn packings(m: &Model, repeats: usize) -> (f64, f64) {
+    let v = m.v as usize;
+    let (mut numbering, mut expected) = (vec![0u16; v], vec![0u16; v]);
+    let (mut room, mut expected_room) = (vec![0u8; 40_000], vec![0u8; 40_000]);
+    let mut memory = [0u16; compare::MEMORY];
+    let mut places = vec![Place::default(); 1_024];
+    let mut packer = Packer::new();
+    medians(
+        repeats,
+        || {
+            black_box(compare::pack(v, black_box(&m.list), &mut numbering, &mut room, &mut memory, 1_024)).expect("an accepted list");
+        },
+        || {
+            black_box(packer.pack(m.v, black_box(&m.list), &mut expected, &mut places, &mut expected_room)).expect("an accepted list");
         },
     )
 }

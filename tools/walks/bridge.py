@@ -15,7 +15,8 @@ public function over the list has one of two bodies, and this program writes the
 
 PARAMETERS, in any order: numbers (u8 to u64, usize), structs and enums by value, `&[u8]`, `&[u16]`, `&mut [u8]`, `&mut [u16]`
 (rooms). RESULT is a struct or an enum. `count`, `empty`, `load` and `save` are those of the crate places. CORE is a covered
-function with the same PARAMETERS, then `m: &mut Memory` and `n: usize`, and with no `requires`. NAME has none either.
+function with the same PARAMETERS, then `m: &mut Memory` and `n: usize`. What it requires, if anything, is what ASKS proves of every
+list: a lemma of the crate's proofs, (ps) → what CORE requires of M and k. NAME requires nothing.
 
 What the two contracts say, with a for the parameters' values in order (`now (x .entry)` of a slice), M for `memoryOf ps`, k for
 `counted ps`, ps for `now (places .entry)`, and one equation for each room in order:
@@ -53,7 +54,7 @@ from stretches import beginning, loading, saving, stepping, walk
 class Bridge:
     """A public function over the list: its parameters, its locals, its core, and what the two contracts say."""
 
-    def __init__(self, crate, signature, core, answer, rooms, memory, promise, law):
+    def __init__(self, crate, signature, core, answer, rooms, memory, promise, law, asks):
         self.path, types, result = parsed(signature)
         self.crate, self.ident = crate, self.path[-1].replace('_', '-')
         if not types or types[-1] not in ('&mut [Place]', '&[Place]'):
@@ -69,7 +70,7 @@ class Bridge:
         # the lifetimes: one for each slice, and the list's, which is the last
         self.lives, self.last = len(self.slices) + 1, len(self.slices)
         self.size, self.core = memory_size(), function(core, crate)
-        self.promise, self.answer, self.outs, self.memory, self.law = promise, answer, list(rooms), memory, law
+        self.promise, self.answer, self.outs, self.memory, self.law, self.asks = promise, answer, list(rooms), memory, law, asks
         if bool(promise) == bool(answer) or bool(promise) != bool(law) or bool(answer) != bool(memory):
             raise SystemExit(f'{signature}: either an answer, rooms and a memory, or a promise and a law')
         if answer and len(self.outs) != len(self.rooms):
@@ -177,9 +178,9 @@ class Bridge:
         return ''.join(part(self) for part in parts)
 
 
-def bridge(crate, signature, core, answer=None, rooms=(), memory=None, promise=None, law=None):
+def bridge(crate, signature, core, answer=None, rooms=(), memory=None, promise=None, law=None, asks=None):
     """Writes the walk of one public function: by equations (answer, rooms, memory), or by a promise and its law."""
-    b = Bridge(crate, signature, core, answer, rooms, memory, promise, law)
+    b = Bridge(crate, signature, core, answer, rooms, memory, promise, law, asks)
     folder = os.path.join(ROOT, 'crates', crate, 'proofs', *b.path)
     os.makedirs(folder, exist_ok=True)
     with open(os.path.join(folder, 'Proof.antt'), 'w', encoding='utf-8') as f:

@@ -1,6 +1,6 @@
 """The parts of a walk beside the body: what it brings in, what it is about, what each callee asks, and the way to the statement."""
 from pieces import Context, chain, items, local, sub, tuple_of
-from signature import brought, library
+from signature import bare, brought, library
 
 
 def heading(b):
@@ -66,7 +66,7 @@ use Rattle.rules.proofs.Place.Laws as T′
     if b.saves:
         out.append(f'use {proofs}.Lent.{{LentShared, lends-shared, shared-back}}\n')
     out.append(brought([b.promise] if b.promise else [b.answer] + b.outs + [b.memory], user, 'specs'))
-    out.append(brought([b.law] if b.law else [], user, 'proofs'))
+    out.append(brought([x for x in (b.law, b.asks) if x], user, 'proofs'))
     for crate, rest, short in b.callees():
         path, s = '.'.join([library(crate, user, 'proofs')] + rest), short.lower()
         out.append(f'use {path} as {s}′\nuse {path}.Symbol as {s}-def\nuse {path}.Symbol.{{name as #{s}}}\nuse {path}.Met as {s}-thm\n')
@@ -199,18 +199,24 @@ def asking(b):
     given = items([b.token(k) for k in range(j)] + ['‵ (flft (μ ∷ []) fullShare)'] + [f'‵ ({p.own(b)})' for p in b.slices]
                   + [f'‵ (MutRef (named {j}) (μ ∷ []) N .own (ref ε m₁) (vptr c 0 ∷ []))'])
     c = Context([f't{k}' for k in range(j)] + ['tμ'] + [f's{p.i}' for p in b.slices] + ['m'])
+    if b.asks:
+        # what the core requires
+        c.step(f'says ! ({bare(b.asks)} ps)')
     c.step('nothing !', 0, ['tokens'])
     for t in reversed([f't{k}' for k in range(j)] + ['tμ']):
         c.join(t, 'tokens', 'tokens')
+    if b.asks:
+        c.step('frame !', 1)
     c.step('nothing !', 0, ['had'])
     c.step('owned ! usize (Is usize) (uint-makes 𝓤 H A W w64) n _ (refl, small)', 0, ['own'])
     c.join('own', 'had', 'had', rule='fjoin')
     c.join('m', 'had', 'had', rule='fjoin')
     b.held(c, 'had')
-    c.join('tokens', 'had', 'all')
-    c.step('nothing !', 0, ['true'])
-    c.move('all')
-    c.step('frame !', 1)
+    if not b.asks:
+        c.join('tokens', 'had', 'all')
+        c.step('nothing !', 0, ['true'])
+        c.move('all')
+        c.step('frame !', 1)
     # the list for `load`: a `&` of a lifetime ν of the call, or the `&` that the caller lent
     if b.saves:
         bind, args, names, list_life, list_share = 'ν μ : ℕ) (δ ε : GName', 'ν μ δ ε', 'ℕ → ℕ → GName → GName', 'ν ∷ []', 'fullShare'

@@ -4,3 +4,9 @@ from bridge import bridge
 
 bridge('service', 'unpack(pack: &[u8], triangles: &mut [u16], places: &mut [Place]) -> Unpacked',
        core='unpacker::unpack_on', promise='Calls.UnpacksOn', law='Laws.unpacks')
+bridge('service', 'begin(stated: Counts, triangles: &mut [u16], places: &mut [Place]) -> Begun',
+       core='calls::begin::begin_on', promise='finishing::Promises.BeginsOn', law='Laws.begins-as')
+bridge('service', 'operation(state: Builder, op: Operation, triangles: &mut [u16], places: &mut [Place]) -> Performed',
+       core='builder::operation_on', promise='performing::Performing.OperatesOn', law='Laws.operates-as', asks='Laws.loaded-fits')
+bridge('service', 'finish(state: Builder, triangles: &[u16], places: &[Place]) -> Finished',
+       core='calls::finish::finish_on', promise='finishing::Promises.FinishesOn', law='Laws.finishes-as', asks='Laws.loaded-fits')

@@ -28,7 +28,15 @@ pub(crate) fn alter(m: &mut [u16], n: usize, s: Front, o: Operation, p: Plan) ->
         Operation::New => grow(m, n, l, u),
         Operation::Forward => cut_next(m, n, l),
         Operation::Backward => cut_current(m, n, l),
-        Operation::Border => mark_edge(m, n, l),
+        Operation::Border => {
+            let k = mark_edge(m, n, l);
+            Loops {
+                live: k.live,
+                current: k.current,
+                size: k.size,
+                free: k.free,
+            }
+        }
         Operation::Split(i) => split_loop(m, n, l, i, c),
         Operation::Close => end_loop(m, n, l),
         Operation::Union(k, _) => join_loop(m, n, l, k, c),

@@ -1,7 +1,10 @@
 // The service for tests and benchmarks in Rust: numbers and slices only, an answer as its number in the rules, 0 for acceptance.
+mod building; // the building calls
+
 use rules::Checked;
 use rules::Model;
 use rules::Operation;
+use rules::Packed;
 use rules::Unpacked;
 use wire::fields::PackFields;
 use wire::reader::OperationRead;
@@ -66,7 +69,7 @@ fn place_of(o: Operation) -> u32 {
 }
 
 // The operation with this code and these indices.
-fn operation_of(code: u32, p: u32, j: u32) -> Operation {
+pub(crate) fn operation_of(code: u32, p: u32, j: u32) -> Operation {
     let loops = (p % 65536) as u16;
     let place = (j % 65536) as u16;
     match code {
@@ -159,4 +162,25 @@ fn store_model(model: Model, out: &mut [i32; 6]) {
     out[4] = totals.unions as i32;
     let euler = totals.euler;
     out[5] = euler;
+}
+
+// A packing with n place records, whose numbers m holds: the pack's length.
+#[no_mangle]
+pub extern "C" fn service_pack(
+    v: usize,
+    list: &[u16],
+    numbering: &mut [u16],
+    room: &mut [u8],
+    m: &mut [u16; 5320],
+    n: usize,
+    out: &mut [u32; 1],
+) -> u32 {
+    let r = packer::pack_on(v, list, numbering, room, m, n);
+    match r {
+        Packed::Length(k) => {
+            out[0] = k;
+            0
+        }
+        Packed::Refused(k) => k as u32,
+    }
 }

@@ -4,22 +4,36 @@ use Prim.Native.Nat.{ℕ, zero, suc, _+_, _*_, _≤_, _<_}
 use native.Mathlib.Omega.{arith}
 use mathlib.Core.Bool.{Bool, true, false, _&&_, false≢true}
 use mathlib.Core.List.{List, [], _∷_, _++_}
-use mathlib.Core.Path.{_≡_, refl, sym, ap, _∙_, subst}
+use mathlib.Core.Path.{_≡_, refl, sym, ap, _∙_}
 use lib.ListN.{length, take, drop, getD, replicate}
 use lib.Dec.{leb, ltb}
-use borrow.Author.Tests.{le-leb, lt-leb, leb-true, ltb-true, ltb-false}
+use borrow.Author.Tests.{le-leb, leb-true, ltb-false}
 use Rattle.rules.specs.declared.Counts.{Counts}
 use Rattle.rules.specs.declared.Place.{Place}
+use Rattle.rules.specs.declared.Operation.{Operation}
+use Rattle.rules.specs.declared.Builder.{Builder}
 use Rattle.rules.specs.declared.Unpacked.{Unpacked}
+use Rattle.rules.specs.declared.Begun.{Begun}
+use Rattle.rules.specs.declared.Performed.{Performed}
+use Rattle.rules.specs.declared.Finished.{Finished}
 use Rattle.rules.specs.Limits.{maxPlaces, inRange}
-use Rattle.rules.specs.Buffer.{freePlace, cleared, Buffers}
+use Rattle.rules.specs.Buffer.{freePlace}
 use Rattle.rules.specs.Fields.{Fields, no-pack, fields, fieldsOf}
+use Rattle.rules.specs.Book.{answerOf}
+use Rattle.memory.specs.Layout.{openOf}
 use Rattle.places.specs.Memory.{recordAt, records, saved, countOf, counted, memoryOf}
+use Rattle.places.proofs.Counting.{count-within}
 use Rattle.places.proofs.Reading.{refused-same}
 use Rattle.places.proofs.Whole.{saved-cleared}
+use Rattle.reading.proofs.Flags.{loaded-open}
 use Rattle.unpacking.specs.Lent.{recordNumbers, isPast, ClearedIf}
 use Rattle.unpacking.proofs.Lending.{clearedIf, lend-places, lend-unpack}
-use Rattle.service.specs.Calls.{lentTo, UnpacksOn, Unpacks}
+use Rattle.building.specs.Promised.{lentTo, Beginning, Operating, Finishing}
+use Rattle.finishing.specs.Promises.{BeginsOn, FinishesOn}
+use Rattle.finishing.proofs.Lifting.{begins-lifted}
+use Rattle.performing.specs.Performing.{OperatesOn}
+use Rattle.performing.proofs.Lifting.{operates-lent, finishes-same}
+use Rattle.service.specs.Calls.{UnpacksOn, Unpacks}
 
 -- of a list's length only whether it is 1,024 counts
 counted-long : (k : ℕ) → leb maxPlaces k ≡ leb maxPlaces (countOf k)
@@ -92,3 +106,22 @@ unpacks bytes ts ps r ts′ m′ ps′ p e =
           ∙ ap (λ (t : Bool). clearedIf t ps) (sym (past-same f (length ps) (counted ps) k h))
           ∙ sym (lend-places f b);
     }
+
+-- what the cores of the operation and of the finish ask of the memory that a list is read into
+pub loaded-fits : (ps : List Place) → (counted ps ≤ 1024) × ((p : ℕ) → p < 1024 → openOf (memoryOf ps) p ≤ 1)
+loaded-fits ps = (count-within (length ps) .1, loaded-open ps)
+
+-- the building calls
+pub begins-as : (s : Counts) (ts : List ℕ) (ps : List Place) (r : Begun) (ts′ m′ : List ℕ) (ps′ : List Place)
+    → BeginsOn s ts (memoryOf ps) (counted ps) r ts′ m′ → ps′ ≡ saved (counted ps) m′ ps → Beginning s ts ps r ts′ ps′
+begins-as s ts ps r ts′ m′ ps′ p e =
+    let l = begins-lifted s ts ps r ts′ m′ ps′ p e in
+    record { answer = l .0; after = l .1 }
+
+pub operates-as : (b : Builder) (o : Operation) (ts : List ℕ) (ps : List Place) (r : Performed) (ts′ m′ : List ℕ) (ps′ : List Place)
+    → OperatesOn b o ts (memoryOf ps) (counted ps) r ts′ m′ → ps′ ≡ saved (counted ps) m′ ps → Operating b o ts ps r ts′ ps′
+operates-as b o ts ps r ts′ m′ ps′ p e = operates-lent b o ts ps r ts′ m′ ps′ p e
+
+pub finishes-as : (b : Builder) (ts : List ℕ) (ps : List Place) (r : Finished) (m′ : List ℕ)
+    → FinishesOn b ts (memoryOf ps) (counted ps) r m′ → Finishing b ts ps r
+finishes-as b ts ps r m′ p = record { answer = p .answer ∙ ap answerOf (sym (finishes-same b ts ps)) }

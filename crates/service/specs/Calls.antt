@@ -1,4 +1,4 @@
--- What the service's calls over the lent list of place records promise.
+-- What unpacking over the lent list of place records promises. What the building calls promise stands in building/specs/Promised.antt.
 -- Assumes nothing.
 use Prim.Native.Nat.{ℕ}
 use mathlib.Core.List.{List}
@@ -6,12 +6,9 @@ use mathlib.Core.Path.{_≡_}
 use Rattle.rules.specs.declared.Place.{Place}
 use Rattle.rules.specs.declared.Unpacked.{Unpacked}
 use Rattle.rules.specs.Answer.{unpackedAnswer}
-use Rattle.rules.specs.Buffer.{Buffers}
 use Rattle.rules.specs.Unpack.{unpack}
+use Rattle.building.specs.Promised.{lentTo}
 use Rattle.unpacking.specs.Lent.{UnpackedOn}
-
-abbrev pub lentTo : List ℕ → List Place → Buffers
-lentTo ts ps = record { triangles = ts; places = ps }
 
 -- what the core promises, its arguments in the order of the call
 abbrev pub UnpacksOn : List ℕ → List ℕ → List ℕ → ℕ → Unpacked → List ℕ → List ℕ → Type 0

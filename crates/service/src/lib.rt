@@ -1,11 +1,18 @@
 // The service's calls over a lent list of place records. Each loads the records into a plain memory, calls the core that works
-// there, and saves them. Its contracts cite specs/Calls.antt.
+// there, and saves them. The contracts cite specs/Calls.antt, and of the crate building specs/Promised.antt, on which demand 3 rests.
 use places::count;
 use places::empty;
 use places::load;
 use places::save;
+use rules::Begun;
+use rules::Builder;
+use rules::Counts;
+use rules::Finished;
+use rules::Operation;
+use rules::Performed;
 use rules::Place;
 use rules::Unpacked;
+ghost use Rattle.building.specs.Promised.{Beginning, Operating, Finishing};
 ghost use Rattle.service.specs.Calls.{Unpacks};
 
 // Unpacks any bytes: refusals 12 to 20, or the model, whose triangles then stand in the first entries as built. Past 14 the first
@@ -19,4 +26,45 @@ pub fn unpack(pack: &[u8], triangles: &mut [u16], places: &mut [Place]) -> Unpac
     let r = unpacker::unpack_on(pack, triangles, &mut m, n);
     save(&m, places, n);
     r
+}
+
+// Begins a building with the counts stated: 13, 14, or a builder that holds nothing. An accepted beginning leaves the first 1,024
+// place records zero and the triangle buffer untouched; a refused one changes nothing, and gives the empty builder.
+pub fn begin(stated: Counts, triangles: &mut [u16], places: &mut [Place]) -> Begun
+    ensures { λ r. ⌜ Beginning stated (now (triangles .entry)) (now (places .entry)) r (now (triangles .exit)) (now (places .exit)) ⌝ }
+{
+    let n = count(places.len());
+    let mut m = empty();
+    load(places, &mut m, n);
+    let r = calls::begin::begin_on(stated, triangles, &mut m, n);
+    save(&m, places, n);
+    r
+}
+
+// Does an operation on any state, in any buffers: 21, then 16 to 18, or the state after it and the triangle that it built, which then
+// stands in the triangle buffer after those built before. A refused operation changes nothing, and gives the state back.
+pub fn operation(
+    state: Builder,
+    op: Operation,
+    triangles: &mut [u16],
+    places: &mut [Place],
+) -> Performed
+    ensures { λ r. ⌜ Operating state op (now (triangles .entry)) (now (places .entry)) r (now (triangles .exit)) (now (places .exit)) ⌝ }
+{
+    let n = count(places.len());
+    let mut m = empty();
+    load(places, &mut m, n);
+    let r = builder::operation_on(state, op, triangles, &mut m, n);
+    save(&m, places, n);
+    r
+}
+
+// The finish of a building, on any state, in any buffers: 21, then 15, 19, 20, or edges, rims, unions and the Euler number.
+pub fn finish(state: Builder, triangles: &[u16], places: &[Place]) -> Finished
+    ensures { λ r. ⌜ Finishing state (now (triangles .entry)) (now (places .entry)) r ⌝ }
+{
+    let n = count(places.len());
+    let mut m = empty();
+    load(places, &mut m, n);
+    calls::finish::finish_on(state, triangles, &mut m, n)
 }

@@ -15,7 +15,7 @@ ghost use Rattle.unpacking.specs.declared.Stepped.the-variants.{Refused};
 ghost use Rattle.unpacking.specs.Runs.{isComplete, isAsStated, modelAnswer, Whole, Concludes, Ended, Answers};
 
 // Whether the model is complete: T triangles are built, and no loop is live.
-pub(crate) fn is_complete(s: Front) -> bool
+pub fn is_complete(s: Front) -> bool
     ensures { λ b. ⌜ b ≡ isComplete s ⌝ }
 {
     let stated = s.stated;
@@ -27,7 +27,7 @@ pub(crate) fn is_complete(s: Front) -> bool
 }
 
 // 19: whether the vertices and both peaks are those stated.
-fn is_as_stated(s: Front) -> bool
+pub fn is_as_stated(s: Front) -> bool
     ensures { λ b. ⌜ b ≡ isAsStated s ⌝ }
 {
     let stated = s.stated;
@@ -42,7 +42,7 @@ fn is_as_stated(s: Front) -> bool
 }
 
 // The Euler number: vertices minus edges plus triangles, which falls below zero with handles.
-fn euler(v: u16, e: u16, t: u16) -> i32
+pub fn euler(v: u16, e: u16, t: u16) -> i32
     ensures { λ r. ⌜ r ≡ pos v -ℤ pos e +ℤ pos t ⌝ }
 {
     let a = v as i32;

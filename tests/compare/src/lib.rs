@@ -1,5 +1,6 @@
 //! The service as Rust sees it: each exported function behind a safe one.
 
+use cutborder::book::{Finish, Spot};
 use cutborder::ops::{Counts, Op};
 use cutborder::{Answer, Refusal};
 
@@ -7,9 +8,53 @@ use cutborder::{Answer, Refusal};
 pub const MEMORY: usize = 5_320;
 pub const RECORDS: usize = 4_096;
 
+/// A builder's state: the four counts stated, vertices, triangles, both peaks, edges, starts, unions, rims, live loops, then the
+/// loops' current places and their sizes.
+pub const STATE: usize = 213;
+pub type State = [u16; STATE];
+
 extern "C" {
+    fn service_begin(
+        counts: *const [u16; 4],
+        triangles: *mut u16,
+        triangles_len: usize,
+        m: *mut [u16; MEMORY],
+        n: usize,
+        state: *mut State,
+    ) -> u32;
     fn service_check(v: usize, list: *const u16, len: usize) -> u32;
     fn service_fields(pack: *const u8, len: usize, out: *mut [u32; 6]) -> u32;
+    fn service_finish(
+        state: *const State,
+        triangles: *const u16,
+        triangles_len: usize,
+        m: *mut [u16; MEMORY],
+        n: usize,
+        out: *mut [i32; 4],
+    ) -> u32;
+    fn service_operate(
+        state: *mut State,
+        code: u32,
+        p: u32,
+        j: u32,
+        triangles: *mut u16,
+        triangles_len: usize,
+        m: *mut [u16; MEMORY],
+        n: usize,
+        out: *mut [u16; 3],
+    ) -> u32;
+    fn service_pack(
+        v: usize,
+        list: *const u16,
+        len: usize,
+        numbering: *mut u16,
+        numbering_len: usize,
+        room: *mut u8,
+        room_len: usize,
+        m: *mut [u16; MEMORY],
+        n: usize,
+        out: *mut [u32; 1],
+    ) -> u32;
     fn service_read(ops: *const u8, len: usize, at: usize, out: *mut [u32; 4]) -> u32;
     fn service_operation(pack: *const u8, len: usize, at: usize, out: *mut [u32; 4]) -> u32;
     fn service_unpack(
@@ -73,13 +118,18 @@ fn found(out: [u32; 4]) -> (Op, usize) {
     (op, out[3] as usize)
 }
 
-/// Writes an operation at a bit position; whether it fits, and the position after it.
-pub fn write(pack: &mut [u8], at: usize, op: Op) -> (bool, usize) {
-    let (p, j) = match op {
+/// The loop and the place that an operation names.
+fn indices(op: Op) -> (u32, u32) {
+    match op {
         Op::Split(i) => (0, i),
         Op::Union(p, j) => (p, j),
         _ => (0, 0),
-    };
+    }
+}
+
+/// Writes an operation at a bit position; whether it fits, and the position after it.
+pub fn write(pack: &mut [u8], at: usize, op: Op) -> (bool, usize) {
+    let (p, j) = indices(op);
     let mut out = [0u32; 1];
     let fits = unsafe { service_write(pack.as_mut_ptr(), pack.len(), at, op.code(), p, j, &mut out) };
     (fits == 1, out[0] as usize)
@@ -91,4 +141,77 @@ pub fn unpack(pack: &[u8], triangles: &mut [u16], m: &mut [u16; MEMORY], n: usiz
     verdict(unsafe { service_unpack(pack.as_ptr(), pack.len(), triangles.as_mut_ptr(), triangles.len(), m, n, &mut out) })?;
     let [v, t, edges, rims, unions] = [out[0], out[1], out[2], out[3], out[4]].map(|x| x as u32);
     Ok(Answer { v, t, edges, rims, unions, euler: out[5] })
+}
+
+/// A packing with n place records: the pack's length.
+pub fn pack(v: usize, list: &[u16], numbering: &mut [u16], room: &mut [u8], m: &mut [u16; MEMORY], n: usize) -> Result<usize, Refusal> {
+    let mut out = [0u32; 1];
+    let (ns, bs) = ((numbering.as_mut_ptr(), numbering.len()), (room.as_mut_ptr(), room.len()));
+    verdict(unsafe { service_pack(v, list.as_ptr(), list.len(), ns.0, ns.1, bs.0, bs.1, m, n, &mut out) })?;
+    Ok(out[0] as usize)
+}
+
+/// A builder with its state and its buffers: a triangle buffer, and n place records, whose numbers the memory holds.
+#[derive(Clone)]
+pub struct Building {
+    pub state: State,
+    pub triangles: Vec<u16>,
+    pub m: [u16; MEMORY],
+    pub records: usize,
+}
+
+impl Building {
+    /// A builder that was never begun, in buffers that hold anything.
+    pub fn new(entries: usize, records: usize, filler: u16) -> Building {
+        Building { state: [0; STATE], triangles: vec![filler; entries], m: [filler; MEMORY], records }
+    }
+
+    pub fn begin(&mut self, c: Counts) -> Result<(), Refusal> {
+        let counts = [c.v, c.t, c.places, c.loops].map(|x| x.min(65_535) as u16);
+        let t = &mut self.triangles;
+        verdict(unsafe { service_begin(&counts, t.as_mut_ptr(), t.len(), &mut self.m, self.records, &mut self.state) })
+    }
+
+    /// The triangle built, or none at border.
+    pub fn operate(&mut self, op: Op) -> Result<Option<[u16; 3]>, Refusal> {
+        let (p, j) = indices(op);
+        let mut out = [0u16; 3];
+        let t = &mut self.triangles;
+        match unsafe { service_operate(&mut self.state, op.code(), p, j, t.as_mut_ptr(), t.len(), &mut self.m, self.records, &mut out) } {
+            0 => Ok(Some(out)),
+            255 => Ok(None),
+            n => Err(n as Refusal),
+        }
+    }
+
+    pub fn finish(&mut self) -> Result<Finish, Refusal> {
+        let mut out = [0i32; 4];
+        let t = &self.triangles;
+        verdict(unsafe { service_finish(&self.state, t.as_ptr(), t.len(), &mut self.m, self.records, &mut out) })?;
+        let [edges, rims, unions] = [out[0], out[1], out[2]].map(|x| x as u32);
+        Ok(Finish { edges, rims, unions, euler: out[3] })
+    }
+
+    /// Record i: vertex, place before, place after, whether its edge is open.
+    pub fn record(&self, i: usize) -> (u16, usize, usize, bool) {
+        let r = &self.m[4 * i..4 * i + 4];
+        (r[0], r[1] as usize, r[2] as usize, r[3] == 1)
+    }
+
+    /// The live loops, the current one first, each from its current edge on.
+    pub fn rings(&self) -> Vec<Vec<Spot>> {
+        (0..self.state[12] as usize)
+            .rev()
+            .map(|l| {
+                let mut at = self.state[13 + l] as usize;
+                (0..self.state[113 + l])
+                    .map(|_| {
+                        let (vertex, _, after, open) = self.record(at);
+                        at = after;
+                        Spot { vertex, open }
+                    })
+                    .collect()
+            })
+            .collect()
+    }
 }

@@ -2,7 +2,9 @@
 //!
 //! Prints a line for each part; stops at the first difference with the input that shows it.
 
-use compare::{check, fields, read, read_in_pack, unpack, write, MEMORY, RECORDS};
+mod building;
+
+use compare::{check, fields, pack, read, read_in_pack, unpack, write, MEMORY, RECORDS};
 use cutborder::gen::{self, Model};
 use cutborder::ops::{encode_ops, split_fields, BitReader, Op};
 use cutborder::rng::Rng;
@@ -224,6 +226,54 @@ fn unpacks(rng: &mut Rng, rounds: usize) -> (usize, Tally) {
     (rounds, tally)
 }
 
+/// Models of all kinds, good and bad, packed in buffers of all lengths: the answer and every buffer afterwards.
+fn packings(rng: &mut Rng, rounds: usize) -> (usize, Tally) {
+    let mut tally = Tally::new();
+    for i in 0..rounds {
+        let max_t = [6, 20, 60, 200, 600][rng.below(5)];
+        let m = match i {
+            0 => gen::fan(1_024),
+            1 => gen::fan(1_025),
+            _ if i % 400 == 2 => gen::limit(rng),
+            _ if i % 1_000 == 3 => gen::branches(rng, 101).unwrap_or_else(|| gen::sound(rng, max_t)),
+            _ => match i % 6 {
+                0 => gen::model(rng, max_t),
+                1 => gen::damaged(rng, max_t),
+                2 => gen::pinched(rng, max_t),
+                _ => gen::sound(rng, max_t),
+            },
+        };
+        packing(rng, &m, &mut tally);
+    }
+    met(&tally, &[0, 1, 2, 3, 4, 5, 6, 7, 8, 9, 10, 11]);
+    (rounds, tally)
+}
+
+/// One packing of a model.
+fn packing(rng: &mut Rng, m: &Model, tally: &mut Tally) {
+    let v = (m.v as usize).min(5_000);
+    let numbering = if rng.chance(1, 20) { rng.below(v + 1) } else { v + rng.below(3) };
+    let records = if rng.chance(1, 30) { rng.below(1_025) } else { 1_024 };
+    let long = gen::packed(m).map_or(20, |p| p.len());
+    let room = match rng.below(8) {
+        0 => rng.below(long + 1),
+        1 => long,
+        _ => long + rng.below(9),
+    };
+    let (mut ns, mut expected_ns) = (vec![7u16; numbering], vec![7u16; numbering]);
+    let (mut bs, mut expected_bs) = (vec![5u8; room], vec![5u8; room]);
+    let mut memory = [9u16; MEMORY];
+    let mut places = vec![Place { vertex: 9, before: 9, after: 9, open: true }; records];
+    let expected = plain::pack(m.v, &m.list, &mut expected_ns, &mut places, &mut expected_bs);
+    let answer = pack(m.v as usize, &m.list, &mut ns, &mut bs, &mut memory, records);
+    assert_eq!(answer, expected, "model {}", m.line());
+    assert_eq!(ns, expected_ns, "numbering of model {}", m.line());
+    assert_eq!(bs, expected_bs, "pack of model {}", m.line());
+    let cleared = records == 1_024 && places[0] == Place::default();
+    assert!(memory[..RECORDS].iter().all(|&x| x == if cleared { 0 } else { 9 }), "memory after model {}", m.line());
+    count(tally, &answer);
+}
+
 fn main() {
     let args: Vec<u64> = std::env::args().skip(1).filter_map(|a| a.parse().ok()).collect();
     let [seed, scale] = args[..] else {
@@ -244,6 +294,15 @@ fn main() {
     let t = Instant::now();
     let (n, tally) = unpacks(&mut rng, 4_000 * scale);
     println!("unpacks: {n} alike, answers {tally:?}, {:.1} s", t.elapsed().as_secs_f64());
+    let t = Instant::now();
+    let (n, tally) = packings(&mut rng, 2_000 * scale);
+    println!("packings: {n} alike, answers {tally:?}, {:.1} s", t.elapsed().as_secs_f64());
+    let t = Instant::now();
+    let (n, tally) = building::lists(&mut rng, 250 * scale);
+    println!("building: {n} calls in {} lists alike, answers {tally:?}, {:.1} s", 250 * scale, t.elapsed().as_secs_f64());
+    let t = Instant::now();
+    let (n, passed, tally) = building::damaged(&mut rng, 5_000 * scale);
+    println!("damaged states: {n} alike, {passed} pass 21, answers {tally:?}, {:.1} s", t.elapsed().as_secs_f64());
     let t = Instant::now();
     println!("writes: {} alike, {:.1} s", writes(&mut rng, 2_000 * scale), t.elapsed().as_secs_f64());
 }

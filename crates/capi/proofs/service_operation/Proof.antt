@@ -1,3 +1,5 @@
+-- `capi::service_operation` is safe and ends.
+-- Assumes nothing.
 use borrow.Author.Needs.{needs}
 use Rattle.capi.proofs.service_operation.Statement.{statement}
 use Rattle.capi.proofs.service_operation.Tie as tie
@@ -7,43 +9,33 @@ use Rattle.capi.proofs.refusal_of.Reads as refusal-of-reads
 use Rattle.capi.proofs.service_read.Reads as service-read-reads
 use Rattle.wire.proofs.fields.fields_of.Reads as fields-of-reads
 
--- src/lib.rt:101:9
 fields-of-requires : tie.Need-fields-of-requires
 fields-of-requires c κs = search needs
 
--- src/lib.rt:102:30
 enum-known-f : tie.Need-enum-known-f
 enum-known-f c = search needs
 
--- src/lib.rt:103:9
 enum-told : tie.Need-enum-told
 enum-told c = search needs
 
--- src/lib.rt:103:9
 refusal-of-requires : tie.Need-refusal-of-requires
 refusal-of-requires c κs = search needs
 
--- src/lib.rt:103:9
 returns : tie.Need-returns
 returns c = search needs
 
--- src/lib.rt:105:18
 sub-service-read : tie.Need-sub-service-read
 sub-service-read c = (c .before .before .before .fields-of .ensures .1) _ _ _ (c .before .f .given .1) .order
 
--- src/lib.rt:105:18
 part-service-read-start : tie.Need-part-service-read-start
 part-service-read-start c = (c .before .before .before .fields-of .ensures .1) _ _ _ (c .before .f .given .1) .order
 
--- src/lib.rt:105:18
 part-service-read-end : tie.Need-part-service-read-end
 part-service-read-end c = (c .before .before .before .fields-of .ensures .1) _ _ _ (c .before .f .given .1) .within
 
--- src/lib.rt:105:5
 service-read-requires : tie.Need-service-read-requires
 service-read-requires c κs = search needs
 
--- src/lib.rt:99:1
 returns-2 : tie.Need-returns-2
 returns-2 c = search needs
 

@@ -1,11 +1,14 @@
 //! What the stored programs of crates/ are run on, and what they must print: `stored FOLDER` writes stdin and stdout of each into
 //! FOLDER, from the second program's vectors and answers. The test command holds them against the stored ones.
 
-use cutborder::proto::{unhex, Engine, Service};
+use cutborder::gen;
+use cutborder::proto::{unhex, Calls, Engine, Service};
+use cutborder::rng::Rng;
 use std::fs;
 use std::path::Path;
 
 const PACKS: &str = include_str!("../../../../reference/vectors/packs.txt");
+const CALLS: &str = include_str!("../../../../reference/vectors/calls.txt");
 
 /// A program's input and the output that is expected.
 fn store(folder: &Path, program: &str, input: &[u8], output: &str) {
@@ -28,6 +31,19 @@ fn packs(second: &mut Service) -> (Vec<u8>, String) {
     (input, output)
 }
 
+/// Building calls: the vectors, lines that are no call, and random lists, model after model.
+fn calls() -> (String, String) {
+    let mut lines: Vec<String> = ["finish", "op new", "op split", "op split x", "op turn", "begin 3 1 3 1", "", "end"].map(String::from).to_vec();
+    lines.extend(CALLS.lines().map(String::from));
+    let mut rng = Rng::new(3);
+    for i in 0..40 {
+        lines.extend(gen::calls(&mut rng, 4 + 3 * i));
+    }
+    let mut book = Calls::default();
+    let output = lines.iter().map(|l| book.line(l) + "\n").collect();
+    (lines.iter().map(|l| l.clone() + "\n").collect(), output)
+}
+
 fn main() {
     let Some(folder) = std::env::args().nth(1) else {
         eprintln!("usage: stored FOLDER");
@@ -36,4 +52,6 @@ fn main() {
     let mut second = Service::new(Engine::Plain);
     let (input, output) = packs(&mut second);
     store(Path::new(&folder), "packs", &input, &output);
+    let (input, output) = calls();
+    store(Path::new(&folder), "build", input.as_bytes(), &output);
 }

@@ -1,0 +1,327 @@
+-- One call: its answer is the book's, and state and buffers hold the book's machine after it.
+-- Assumes nothing.
+use Prim.Native.Nat.{ℕ, zero, suc, _+_, _*_, _≤_}
+use native.Mathlib.Omega.{arith}
+use mathlib.Core.Bool.{Bool, true, false, _&&_, false≢true, true≢false}
+use mathlib.Core.List.{List, [], _∷_, _++_}
+use mathlib.Core.Path.{_≡_, refl, sym, ap, ap₂, _∙_, subst}
+use lib.ListN.{length, take, drop, replicate, length-append, length-drop, length-replicate}
+use lib.Seq.{length-take-le}
+use lib.Dec.{leb}
+use borrow.Author.Tests.{leb-true, le-leb}
+use Rattle.rules.specs.declared.Triangle.{Triangle}
+use Rattle.rules.specs.declared.Counts.{Counts}
+use Rattle.rules.specs.declared.Operation.{Operation}
+use Rattle.rules.specs.declared.Place.{Place}
+use Rattle.rules.specs.declared.Builder.{Builder}
+use Rattle.rules.specs.declared.Checked.{Checked}
+use Rattle.rules.specs.declared.Checked.the-variants.{Accepted, Refused}
+use Rattle.rules.specs.Limits.{maxPlaces, inRange}
+use Rattle.rules.specs.Check.{allBelow}
+use Rattle.rules.specs.Table.{Effect, not-allowed, builds, marks, effect}
+use Rattle.rules.specs.Machine.{Machine, empty, Step, refused, begun, built, declared, finished, Rooms, roomy, within, done, operation, beginning, finish}
+use Rattle.rules.specs.Answer.{Answer, accepted, checkedAnswer, begunAnswer}
+use Rattle.rules.specs.Book.{operate, end, Book, recounted, emptyBook, entered, answerOf, after, isAccepted}
+use Rattle.rules.specs.Buffer.{freePlace, cleared, Buffers, lengths}
+use Rattle.rules.specs.View.{view, trianglesBuilt, placesOf, loopsOf}
+use Rattle.rules.specs.Test21.{sizesOf, countsFit, sumsFit, apart, placesFit, loopsFit, linksFit, trianglesFit, sound}
+use Rattle.rules.specs.Build.{viewed, operates, begunBuilder, begunBuffers, BegunBy, withTriangle, Operated}
+use Rattle.book.specs.Consistent.{Ranges}
+use Rattle.book.specs.Promises.{reached}
+use Rattle.book.proofs.Counting.{and-left, and-right}
+use Rattle.book.proofs.Kept.{test-law}
+use Rattle.book.proofs.Bounds.{bounded-ranges}
+use Rattle.book.proofs.Calls.{Holds, holds-kept, machine-entered, refused-same, recounted-same, finish-same}
+use Rattle.building.specs.Building.{World, buffersOf, roomsOf, lastState, BeginningCalled, OperationCalled, FinishCalled}
+
+-- the machine that a world is read as
+abbrev pub viewOf : World → Machine
+viewOf w = viewed (w .state) (buffersOf w)
+
+-- the buffers have the lengths r; state and buffers pass 21 and hold the book's machine
+pub record Agrees (r : Rooms) (w : World) (b : Book) : Type 0 where
+  pub passes : sound (w .state) (buffersOf w) ≡ true
+  pub long : roomsOf w ≡ r
+  pub same : viewOf w ≡ b .machine
+
+-- what 21 tests
+abbrev roomFits : Builder → Buffers → Bool
+roomFits b r = roomy (lengths r) (b .stated)
+
+sound-all : (b : Builder) (r : Buffers) → roomFits b r ≡ true → countsFit b ≡ true → sumsFit b ≡ true → linksFit b (r .places) ≡ true
+    → trianglesFit b (r .triangles) ≡ true → sound b r ≡ true
+unfolding sound
+sound-all b r x₁ x₂ x₃ x₄ x₅ = ap₂ _&&_ (ap₂ _&&_ (ap₂ _&&_ (ap₂ _&&_ x₁ x₂) x₃) x₄) x₅
+
+pub sound-room : (b : Builder) (r : Buffers) → sound b r ≡ true → roomy (lengths r) (b .stated) ≡ true
+unfolding sound
+sound-room b r h =
+    let x₁ = roomFits b r in
+    let x₂ = x₁ && countsFit b in
+    let x₃ = x₂ && sumsFit b in
+    let x₄ = x₃ && linksFit b (r .places) in
+    and-left x₁ (countsFit b) (and-left x₂ (sumsFit b) (and-left x₃ (linksFit b (r .places)) (and-left x₄ (trianglesFit b (r .triangles)) h)))
+
+pub sound-links : (b : Builder) (r : Buffers) → sound b r ≡ true → linksFit b (r .places) ≡ true
+unfolding sound
+sound-links b r h =
+    let x₃ = roomFits b r && countsFit b && sumsFit b in
+    let x₄ = x₃ && linksFit b (r .places) in
+    and-right x₃ (linksFit b (r .places)) (and-left x₄ (trianglesFit b (r .triangles)) h)
+
+-- a state that was just begun passes, and is read as the empty machine
+begun-links : (s : Counts) (ps : List Place) → linksFit (begunBuilder s) ps ≡ true
+unfolding linksFit placesOf apart placesFit loopsFit allBelow
+begun-links s ps = refl
+
+begun-counts : (s : Counts) → inRange s ≡ true → countsFit (begunBuilder s) ≡ true
+unfolding sizesOf
+begun-counts s h =
+    let z : (n : ℕ) → leb 0 n ≡ true = λ n. le-leb 0 n (omega arith) in
+    ap₂ _&&_
+    (ap₂ _&&_ (ap₂ _&&_ (ap₂ _&&_ (ap₂ _&&_ (ap₂ _&&_ h (z (s .vertices))) (z (s .triangles))) (z (s .loops))) (z (s .places))) (z (s .loops)))
+    (z (s .places))
+
+begun-sums : (s : Counts) → sumsFit (begunBuilder s) ≡ true
+begun-sums s =
+    let z : leb 0 (3 * s .triangles) ≡ true = le-leb 0 (3 * s .triangles) (omega arith) in
+    ap₂ _&&_ (ap₂ _&&_ (ap₂ _&&_ z z) z) z
+
+begun-triangles : (s : Counts) (xs : List ℕ) → trianglesFit (begunBuilder s) xs ≡ true
+unfolding allBelow
+begun-triangles s xs = refl
+
+pub begun-viewed : (s : Counts) (r : Buffers) → viewed (begunBuilder s) r ≡ empty s
+unfolding view trianglesBuilt loopsOf
+begun-viewed s r = refl
+
+-- the lengths of the place list after a beginning
+cleared-long : (ps : List Place) → maxPlaces ≤ length ps → length (cleared ps) ≡ length ps
+unfolding cleared
+cleared-long ps h =
+    length-append (replicate maxPlaces freePlace) (drop maxPlaces ps)
+    ∙ omega (arith, length-replicate maxPlaces freePlace, length-drop maxPlaces ps, h)
+
+roomy-places : (r : Rooms) (s : Counts) → roomy r s ≡ true → maxPlaces ≤ r .places
+roomy-places r s h = leb-true maxPlaces (r .places) (and-right (leb (3 * s .triangles) (r .triangles)) (leb maxPlaces (r .places)) h)
+
+roomy-triangles : (r : Rooms) (s : Counts) → roomy r s ≡ true → 3 * s .triangles ≤ r .triangles
+roomy-triangles r s h =
+    leb-true (3 * s .triangles) (r .triangles) (and-left (leb (3 * s .triangles) (r .triangles)) (leb maxPlaces (r .places)) h)
+
+-- a beginning that passes 13 and 14
+pub record Roomed (r : Rooms) (s : Counts) (x : Step) : Type 0 where
+  pub step : x ≡ begun (empty s)
+  pub range : inRange s ≡ true
+  pub room : roomy r s ≡ true
+
+pub begins-roomed : (r : Rooms) (s : Counts) → isAccepted (beginning r s) ≡ true → Roomed r s (beginning r s)
+unfolding beginning
+begins-roomed r s =
+    test-law (λ (x : Step). isAccepted x ≡ true → Roomed r s x) (inRange s) _ _ (λ h. absurd (false≢true h))
+    (λ i. test-law (λ (x : Step). isAccepted x ≡ true → Roomed r s x) (roomy r s) _ _ (λ h. absurd (false≢true h))
+    (λ j h. record { step = refl; range = i; room = j }))
+
+-- what the answer to a beginning says of state and buffers
+begun-as : (b : Builder) (r : Buffers) (s : Counts) (x : Checked) (b′ : Builder) (r′ : Buffers) → checkedAnswer x ≡ accepted
+    → BegunBy r s x b′ r′ → (lastState b x b′ ≡ begunBuilder s) × (r′ ≡ begunBuffers r)
+begun-as b r s Accepted b′ r′ h k = k
+begun-as b r s (Refused n) b′ r′ h k = let z : _≡_ {A = ℕ} 0 1 = cc in absurd (omega arith)
+
+refused-as : (b : Builder) (r : Buffers) (s : Counts) (x : Checked) (b′ : Builder) (r′ : Buffers) (y : Step) → isAccepted y ≡ false
+    → checkedAnswer x ≡ answerOf y → BegunBy r s x b′ r′ → (lastState b x b′ ≡ b) × (r′ ≡ r)
+refused-as b r s (Refused n) b′ r′ y f h k = (refl, k .1)
+refused-as b r s Accepted b′ r′ (refused n) f h k = let z : _≡_ {A = ℕ} 0 1 = cc in absurd (omega arith)
+refused-as b r s Accepted b′ r′ (begun m) f h k = absurd (true≢false f)
+refused-as b r s Accepted b′ r′ (built t m) f h k = absurd (true≢false f)
+refused-as b r s Accepted b′ r′ (declared d m) f h k = absurd (true≢false f)
+refused-as b r s Accepted b′ r′ (finished n) f h k = absurd (true≢false f)
+
+abbrev world-of : Builder → Buffers → World
+world-of b r = record { state = b; triangles = r .triangles; places = r .places }
+
+same-world : (b b′ : Builder) (r r′ : Buffers) → b ≡ b′ → r ≡ r′ → world-of b r ≡ world-of b′ r′
+same-world b b′ r r′ e f i = record { state = e i; triangles = f i .triangles; places = f i .places }
+
+-- a triangle written
+written-long : (n : ℕ) (t : Triangle) (xs : List ℕ) → 3 * n + 3 ≤ length xs → length (withTriangle n t xs) ≡ length xs
+written-long n t xs h =
+    let ys : List ℕ = t .p ∷ (t .q ∷ (t .r ∷ [])) in
+    length-append (take (3 * n) xs) (ys ++ drop (3 * n + 3) xs)
+    ∙ omega (arith, length-take-le (3 * n) xs (omega (arith, h)), length-append ys (drop (3 * n + 3) xs), length-drop (3 * n + 3) xs, h)
+
+pub built-long : (xs : List ℕ) (n : ℕ) → length (trianglesBuilt xs n) ≡ n
+unfolding trianglesBuilt
+built-long xs zero = refl
+built-long xs (suc n) = ap suc (built-long xs n)
+
+-- a built triangle is the machine's latest
+abbrev Grows : Machine → Step → Type 0
+Grows M (refused n) = Unit {0}
+Grows M (begun m) = Unit {0}
+Grows M (built t m) = (m .triangles ≡ t ∷ M .triangles) × (m .stated ≡ M .stated)
+Grows M (declared d m) = Unit {0}
+Grows M (finished x) = Unit {0}
+
+grows : (M : Machine) (e : Effect) → Grows M (done M e)
+unfolding done
+grows M not-allowed = tt
+grows M (builds ls t pq qr rp n s k) = test-law (Grows M) _ _ _ tt (λ i. test-law (Grows M) _ _ _ tt (λ j. (refl, refl)))
+grows M (marks ls d rim) = test-law (Grows M) _ _ _ tt (λ i. tt)
+
+within-triangles : (m : Machine) → within m ≡ true → length (m .triangles) ≤ m .stated .triangles
+within-triangles m h =
+    let w₁ = leb (m .used) (m .stated .vertices) in
+    let w₂ = leb (length (m .triangles)) (m .stated .triangles) in
+    leb-true (length (m .triangles)) (m .stated .triangles) (and-right w₁ w₂ (and-left (w₁ && w₂) _ (and-left (w₁ && w₂ && _) _ h)))
+
+-- there is room for it
+abbrev Writes : Builder → Buffers → Step → Type 0
+Writes b r (refused n) = Unit {0}
+Writes b r (begun m) = Unit {0}
+Writes b r (built t m) = 3 * b .built + 3 ≤ length (r .triangles)
+Writes b r (declared d m) = Unit {0}
+Writes b r (finished x) = Unit {0}
+
+writes : (b : Builder) (r : Buffers) (k : Book) (x : Step) → sound b r ≡ true → viewed b r ≡ k .machine → Grows (k .machine) x → Holds (entered k x)
+    → Writes b r x
+unfolding view
+writes b r k (refused n) h e g l = tt
+writes b r k (begun m) h e g l = tt
+writes b r k (built t m) h e g l =
+    let f : length (m .triangles) ≡ suc (b .built) =
+    ap length (g .0) ∙ ap (λ (n : Machine). suc (length (n .triangles))) (sym e) ∙ ap suc (built-long (r .triangles) (b .built)) in
+    let c : m .stated .triangles ≡ b .stated .triangles = ap (λ (c : Counts). c .triangles) (g .1 ∙ ap (λ (n : Machine). n .stated) (sym e)) in
+    omega (arith, f, c, within-triangles m (l .bounded .counts), roomy-triangles (lengths r) (b .stated) (sound-room b r h))
+writes b r k (declared d m) h e g l = tt
+writes b r k (finished x) h e g l = tt
+
+-- what an operation leaves
+module _ (b : Builder) (r : Buffers) (b′ : Builder) (r′ : Buffers) where
+  pub operated-same : (x : Step) → Operated b r x b′ r′ → isAccepted x ≡ false → (b′ ≡ b) × (r′ ≡ r)
+  operated-same (refused n) a h = a
+  operated-same (begun m) a h = absurd a
+  operated-same (built t m) a h = absurd (true≢false h)
+  operated-same (declared d m) a h = absurd (true≢false h)
+  operated-same (finished y) a h = absurd a
+
+  pub operated-view : (M : Machine) (x : Step) → Operated b r x b′ r′ → isAccepted x ≡ true → viewed b′ r′ ≡ reached M x
+  operated-view M (refused n) a h = absurd (false≢true h)
+  operated-view M (begun m) a h = absurd a
+  operated-view M (built t m) a h = a .machine
+  operated-view M (declared d m) a h = a .machine
+  operated-view M (finished y) a h = absurd a
+
+  operated-passes : (x : Step) → Operated b r x b′ r′ → isAccepted x ≡ true → sumsFit b′ ≡ true → sound b′ r′ ≡ true
+  operated-passes (refused n) a h = absurd (false≢true h)
+  operated-passes (begun m) a h = absurd a
+  operated-passes (built t m) a h = a .passes
+  operated-passes (declared d m) a h = a .passes
+  operated-passes (finished y) a h = absurd a
+
+  operated-long : (x : Step) → Operated b r x b′ r′ → isAccepted x ≡ true → Writes b r x → lengths r′ ≡ lengths r
+  operated-long (refused n) a h k = absurd (false≢true h)
+  operated-long (begun m) a h k = absurd a
+  operated-long (built t m) a h k = λ i. record {
+    triangles = (ap length (a .triangles) ∙ written-long (b .built) t (r .triangles) k) i;
+    places = a .long i;
+  }
+  operated-long (declared d m) a h k = λ i. record { triangles = ap length (a .triangles) i; places = a .long i }
+  operated-long (finished y) a h k = absurd a
+
+-- the sums of a machine within 21's bounds
+ranges-sums : (b : Builder) (r : Buffers) → Ranges (viewed b r) → sumsFit b ≡ true
+unfolding view
+ranges-sums b r k =
+    let n = 3 * b .stated .triangles in
+    ap₂ _&&_ (ap₂ _&&_ (ap₂ _&&_ (le-leb (b .edges) n (k .edges)) (le-leb (b .starts) n (k .starts))) (le-leb (b .unions) n (k .unions)))
+    (le-leb (b .rims) n (k .rims))
+
+same-rooms : (t p p′ : ℕ) → p ≡ p′ → _≡_ {A = Rooms} (record { triangles = t; places = p }) (record { triangles = t; places = p′ })
+same-rooms t p p′ e i = record { triangles = t; places = e i }
+
+module _ (R : Rooms) where
+  -- the world after an accepted beginning
+  begun-agrees : (w : World) (s : Counts) → roomsOf w ≡ R → Roomed R s (beginning R s) → Agrees R (world-of (begunBuilder s) (begunBuffers (buffersOf w))) (emptyBook s)
+  begun-agrees w s l k =
+      let r : Buffers = begunBuffers (buffersOf w) in
+      let m : maxPlaces ≤ length (w .places) = omega (arith, roomy-places R s (k .room), ap (λ (x : Rooms). x .places) l) in
+      let e : lengths r ≡ R = same-rooms (length (w .triangles)) (length (cleared (w .places))) (length (w .places)) (cleared-long (w .places) m) ∙ l in
+      record {
+        passes =
+            sound-all (begunBuilder s) r (ap (λ (x : Rooms). roomy x s) e ∙ k .room) (begun-counts s (k .range)) (begun-sums s) (begun-links s (r .places))
+            (begun-triangles s (r .triangles));
+        long = e;
+        same = begun-viewed s r;
+      }
+
+  module _ (s : Counts) (w : World) (a : Answer) (v : World) (l : roomsOf w ≡ R) (c : BeginningCalled s w a v) where
+    begin-answered : begunAnswer (c .result) ≡ answerOf (beginning R s)
+    begin-answered = c .promised .answer ∙ ap (λ (r : Rooms). answerOf (beginning r s)) l
+
+    pub begin-answer : a ≡ answerOf (beginning R s)
+    begin-answer = c .answer ∙ begin-answered
+
+    pub begin-agrees : isAccepted (beginning R s) ≡ true → Agrees R v (emptyBook s)
+    begin-agrees h =
+        let e : begunAnswer (c .result) ≡ accepted = begin-answered ∙ ap answerOf (begins-roomed R s h .step) in
+        let x = begun-as (w .state) (buffersOf w) s (c .result .answer) (c .result .state) (buffersOf v) e (c .promised .after) in
+        let f : v ≡ world-of (begunBuilder s) (begunBuffers (buffersOf w)) =
+        same-world (v .state) (begunBuilder s) (buffersOf v) (begunBuffers (buffersOf w)) (c .state ∙ x .0) (x .1) in
+        subst (λ (u : World). Agrees R u (emptyBook s)) (sym f) (begun-agrees w s l (begins-roomed R s h))
+
+    pub begin-refused : isAccepted (beginning R s) ≡ false → v ≡ w
+    begin-refused h =
+        let x =
+        refused-as (w .state) (buffersOf w) s (c .result .answer) (c .result .state) (buffersOf v) (beginning R s) h begin-answered
+        (c .promised .after) in
+        same-world (v .state) (w .state) (buffersOf v) (buffersOf w) (c .state ∙ x .0) (x .1)
+
+  module _ (o : Operation) (w : World) (a : Answer) (v : World) (b : Book) (k : Holds b) (g : Agrees R w b) (c : OperationCalled o w a v) where
+    goes-on : operates (w .state) (buffersOf w) o ≡ operation (b .machine) o
+    goes-on =
+        ap (λ (t : Bool). elim t [ true ↦ operation (viewOf w) o | false ↦ refused 21 ]) (g .passes) ∙ ap (λ (m : Machine). operation m o) (g .same)
+
+    operated : Operated (w .state) (buffersOf w) (operation (b .machine) o) (v .state) (buffersOf v)
+    operated =
+        subst (λ (x : Step). Operated (w .state) (buffersOf w) x (v .state) (buffersOf v)) goes-on
+        (subst (λ (b₁ : Builder). Operated (w .state) (buffersOf w) (operates (w .state) (buffersOf w) o) b₁ (buffersOf v)) (sym (c .state)) (c .promised .after))
+
+    pub operate-answer : a ≡ answerOf (operation (b .machine) o)
+    operate-answer = c .answer ∙ c .promised .answer ∙ ap answerOf goes-on
+
+    operate-refused : isAccepted (operation (b .machine) o) ≡ false → v ≡ w
+    operate-refused h =
+        let x = operated-same (w .state) (buffersOf w) (v .state) (buffersOf v) (operation (b .machine) o) operated h in
+        same-world (v .state) (w .state) (buffersOf v) (buffersOf w) (x .0) (x .1)
+
+    operate-accepted : isAccepted (operation (b .machine) o) ≡ true → Agrees R v (entered b (operation (b .machine) o))
+    operate-accepted h =
+        let x = operation (b .machine) o in
+        let n : Holds (entered b x) = holds-kept R b k (operate o) in
+        let e : viewOf v ≡ entered b x .machine =
+        operated-view (w .state) (buffersOf w) (v .state) (buffersOf v) (b .machine) x operated h ∙ sym (machine-entered b x) in
+        let f = subst Ranges (sym e) (bounded-ranges (entered b x) (n .bounded)) in
+        let m =
+        writes (w .state) (buffersOf w) b x (g .passes) (g .same) (grows (b .machine) (effect o (b .machine .used) (b .machine .loops))) n in
+        record {
+          passes = operated-passes (w .state) (buffersOf w) (v .state) (buffersOf v) x operated h (ranges-sums (v .state) (buffersOf v) f);
+          long = operated-long (w .state) (buffersOf w) (v .state) (buffersOf v) x operated h m ∙ g .long;
+          same = e;
+        }
+
+    operate-by : (t : Bool) → isAccepted (operation (b .machine) o) ≡ t → Agrees R v (entered b (operation (b .machine) o))
+    operate-by true h = operate-accepted h
+    operate-by false h = rw (operate-refused h, refused-same b (operation (b .machine) o) h) g
+
+    pub operate-agrees : Agrees R v (after R b (operate o))
+    operate-agrees = operate-by (isAccepted (operation (b .machine) o)) refl
+
+  module _ (w : World) (a : Answer) (v : World) (b : Book) (k : Holds b) (g : Agrees R w b) (c : FinishCalled w a v) where
+    pub finish-answer : a ≡ answerOf (finish (recounted (b .machine)))
+    finish-answer =
+        c .answer ∙ c .promised .answer ∙ ap (λ (t : Bool). answerOf (elim t [ true ↦ finish (viewOf w) | false ↦ refused 21 ])) (g .passes)
+        ∙ ap (λ (m : Machine). answerOf (finish m)) (g .same ∙ sym (recounted-same b (k .consistent)))
+
+    pub finish-agrees : Agrees R v (after R b end)
+    finish-agrees = rw (c .same, finish-same b (recounted (b .machine))) g

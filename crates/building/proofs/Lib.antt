@@ -1,0 +1,3 @@
+pub mod OpenEdges
+pub mod Kept
+pub mod Building

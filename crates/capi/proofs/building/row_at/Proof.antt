@@ -1,0 +1,62 @@
+-- `capi::building::row_at` is safe and ends.
+-- Assumes nothing.
+use Prim.Native.Nat.{_≤_, _-_}
+use native.Mathlib.Omega.{arith}
+use borrow.Author.Needs.{needs}
+use Rattle.capi.proofs.building.row_at.Statement.{statement}
+use Rattle.capi.proofs.building.row_at.Tie as tie
+use Rattle.capi.proofs.building.row_at.Reads as reads
+use Rattle.capi.proofs.building.row_at.Lts as lts
+
+abbrev Inv-loop : tie.InvT-loop
+Inv-loop s from row₀ i₀ row i = i ≤ 100
+
+abbrev μ-loop : tie.MeasureT-loop
+μ-loop s from row₀ i₀ row i = 100 - i
+
+loop-holds : tie.Need-loop-holds Inv-loop μ-loop
+loop-holds c = search needs
+
+add-row : tie.Need-add-row Inv-loop μ-loop
+add-row c = search needs
+
+mul-row : tie.Need-mul-row Inv-loop μ-loop
+mul-row c = search needs
+
+element-copy-out-row : tie.Need-element-copy-out-row Inv-loop μ-loop
+element-copy-out-row c = search needs
+
+mul-row-2 : tie.Need-mul-row-2 Inv-loop μ-loop
+mul-row-2 c = search needs
+
+array-write-row : tie.Need-array-write-row Inv-loop μ-loop
+array-write-row c = search needs
+
+add-i : tie.Need-add-i Inv-loop μ-loop
+add-i c = search needs
+
+loop-less : tie.Need-loop-less Inv-loop μ-loop
+loop-less c = search needs
+
+loop-again : tie.Need-loop-again Inv-loop μ-loop
+loop-again c = search needs
+
+returns : tie.Need-returns Inv-loop μ-loop
+returns c = search needs
+
+pub row-at-spec : {M : Type 1} → statement M
+row-at-spec =
+    tie.close
+    (tie.spec
+    Inv-loop
+    μ-loop
+    loop-holds
+    add-row
+    mul-row
+    element-copy-out-row
+    mul-row-2
+    array-write-row
+    add-i
+    loop-less
+    loop-again
+    returns)

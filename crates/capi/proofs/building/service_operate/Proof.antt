@@ -1,0 +1,88 @@
+-- `capi::building::service_operate` is safe and ends.
+-- Assumes nothing.
+use borrow.Author.Needs.{needs}
+use Rattle.capi.proofs.Counted.{count-most}
+use Rattle.capi.proofs.building.service_operate.Statement.{statement}
+use Rattle.capi.proofs.building.service_operate.Tie as tie
+use Rattle.capi.proofs.building.service_operate.Reads as reads
+use Rattle.capi.proofs.building.service_operate.Lts as lts
+use Rattle.builder.proofs.operation_on.Reads as operation-on-reads
+use Rattle.capi.proofs.building.state_of.Reads as state-of-reads
+use Rattle.capi.proofs.building.store_state.Reads as store-state-reads
+use Rattle.capi.proofs.building.store_triangle.Reads as store-triangle-reads
+use Rattle.capi.proofs.operation_of.Reads as operation-of-reads
+use Rattle.places.proofs.count.Reads as count-reads
+use Rattle.places.proofs.settle.Reads as settle-reads
+
+settle-requires : tie.Need-settle-requires
+settle-requires c κs = search needs
+
+operation-of-requires : tie.Need-operation-of-requires
+operation-of-requires c κs = search needs
+
+state-of-requires : tie.Need-state-of-requires
+state-of-requires c κs = search needs
+
+count-requires : tie.Need-count-requires
+count-requires c κs = search needs
+
+operation-on-requires : tie.Need-operation-on-requires
+operation-on-requires c κs = (count-most _ _ (c .count .ensures), search needs)
+
+store-state-requires : tie.Need-store-state-requires
+store-state-requires c κs = search needs
+
+enum-known-a : tie.Need-enum-known-a
+enum-known-a c = search needs
+
+store-triangle-requires : tie.Need-store-triangle-requires
+store-triangle-requires c κs = search needs
+
+enum-told : tie.Need-enum-told
+enum-told c = search needs
+
+enum-known-a-2 : tie.Need-enum-known-a-2
+enum-known-a-2 c = search needs
+
+cast-result : tie.Need-cast-result
+cast-result c = search needs
+
+same-length : tie.Need-same-length
+same-length c = search needs
+
+returns : tie.Need-returns
+returns c = search needs
+
+same-length-2 : tie.Need-same-length-2
+same-length-2 c = search needs
+
+returns-2 : tie.Need-returns-2
+returns-2 c = search needs
+
+same-length-3 : tie.Need-same-length-3
+same-length-3 c = search needs
+
+returns-3 : tie.Need-returns-3
+returns-3 c = search needs
+
+pub service-operate-spec : {M : Type 1} → statement M
+service-operate-spec =
+    tie.close
+    (tie.spec
+    settle-requires
+    operation-of-requires
+    state-of-requires
+    count-requires
+    operation-on-requires
+    store-state-requires
+    enum-known-a
+    store-triangle-requires
+    enum-told
+    enum-known-a-2
+    cast-result
+    same-length
+    returns
+    same-length-2
+    returns-2
+    same-length-3
+    returns-3)

@@ -1,0 +1,125 @@
+-- The two places found in the memory give the operation that the definition chooses.
+-- Assumes nothing.
+use Prim.Native.Nat.{ℕ, _≤_, _<_}
+use native.Mathlib.Omega.{arith}
+use mathlib.Core.Bool.{false}
+use mathlib.Core.List.{List, [], _∷_}
+use mathlib.Core.Path.{_≡_, refl, sym, ap, ap₂, _∙_, subst}
+use lib.ListN.{length}
+use Rattle.rules.specs.declared.Triangle.{Triangle}
+use Rattle.rules.specs.declared.Operation.{Operation}
+use Rattle.rules.specs.declared.Operation.the-variants.{Border}
+use Rattle.rules.specs.Limits.{maxPlaces}
+use Rattle.rules.specs.Ring.{Ring, loopAt}
+use Rattle.rules.specs.Choice.{Spot, nowhere, spot, spotOf, operationFor, following, sizeOf, turnIn, turnOut, choosePlace}
+use Rattle.links.specs.Memory.{namedLoops}
+use Rattle.links.proofs.Named.{named-length}
+use Rattle.gap.proofs.Spotting.{spot-none}
+use Rattle.chains.specs.Chains.{Linked}
+use Rattle.memory.specs.declared.Loops.{Loops}
+use Rattle.memory.specs.Layout.{verticesOf}
+use Rattle.memory.specs.Stands.{StandsAt, ringsIn, loopsIn}
+use Rattle.choosing.specs.declared.Seat.{Seat}
+use Rattle.choosing.specs.declared.Seat.the-variants.{Nowhere, At}
+use Rattle.choosing.specs.declared.Turned.{Turned}
+use Rattle.choosing.specs.Choosable.{unbuiltOf, Choosable}
+use Rattle.choosing.specs.Seeking.{seatIn, seatOf, placeFor, Seekable}
+use Rattle.choosing.specs.Turning.{EndsIn, EndsOut}
+use Rattle.choosing.specs.Places.{enterSeat, leaveSeat}
+use Rattle.choosing.proofs.Turning.{in-turned, out-turned, differ}
+use Rattle.choosing.proofs.Seeking.{seat-is, seekable, Within, within}
+
+-- the current loop's places
+size-is : (l : Loops) (m : List ℕ) (rs : List Ring) → StandsAt maxPlaces l m rs → 1 ≤ l .live
+    → l .size ≡ sizeOf (namedLoops (verticesOf maxPlaces m) rs) 0
+unfolding loopAt namedLoops
+size-is l m [] st h = absurd (omega (arith, h, st .heads))
+size-is l m (r ∷ rs) st h = st .heads .size ∙ sym (named-length (verticesOf maxPlaces m) r)
+
+-- the definition, by its two places
+choice-by : (a b c : ℕ) (ts : List Triangle) (ls : List Ring)
+    → placeFor (sizeOf ls 0) (seatOf ls (spotOf 0 (turnIn (length ts) c b ts) c ls)) (seatOf ls (spotOf 0 c (turnOut (length ts) c a ts) ls))
+    ≡ choosePlace a b c ts ls
+unfolding choosePlace placeFor
+choice-by a b c ts ls = go (spotOf 0 (turnIn (length ts) c b ts) c ls) refl (spotOf 0 c (turnOut (length ts) c a ts) ls) refl
+  where
+    go : (s : Spot) → spotOf 0 (turnIn (length ts) c b ts) c ls ≡ s → (t : Spot) → spotOf 0 c (turnOut (length ts) c a ts) ls ≡ t
+        → placeFor (sizeOf ls 0) (seatOf ls s) (seatOf ls t) ≡ choosePlace a b c ts ls
+    go (spot w i) e t f = rw (choosePlace, e) refl
+    go nowhere e (spot w i) f = rw (choosePlace, e, f) refl
+    go nowhere e nowhere f = rw (choosePlace, e, f) refl
+
+module _ (xs cs flags m : List ℕ) (l : Loops) (a b c : ℕ) (h : Choosable xs cs flags m l a b c) where
+  abbrev ls : List Ring
+  ls = loopsIn maxPlaces l m
+
+  abbrev ts : List Triangle
+  ts = unbuiltOf flags xs
+
+  seat : (x y : ℕ) → seatIn l m x y ≡ seatOf ls (spotOf 0 x y ls)
+  seat x y = seat-is l m (ringsIn maxPlaces l m) (h .stands) (h .live) (h .three) (h .unique) x y
+
+  -- what the two turns and the search ask
+  pub enter-asks : Linked xs cs × (b ≡ c → ⊥)
+  enter-asks = (h .linked, differ xs cs flags (h .linked) a b c (h .number) (h .corner) (h .found) (h .built) .1)
+
+  pub leave-asks : Linked xs cs × (a ≡ c → ⊥)
+  leave-asks = (h .linked, differ xs cs flags (h .linked) a b c (h .number) (h .corner) (h .found) (h .built) .0)
+
+  pub seek-asks : Seekable l m
+  seek-asks = seekable l m (ringsIn maxPlaces l m) (h .stands) (h .live) (h .three)
+
+  -- the place where the edge into c starts
+  enter-last : (r : Turned) → EndsIn xs flags c b r → r .last ≡ turnIn (length ts) c b ts
+  enter-last r e = in-turned xs cs flags (h .linked) a b c (h .number) (h .corner) (h .found) (h .built) r e
+
+  pub enter-found : (r : Turned) (s : Seat) → EndsIn xs flags c b r → s ≡ seatIn l m (r .last) c → s ≡ enterSeat xs flags m l b c
+  unfolding enterSeat
+  enter-found r s e q = q ∙ (seat (r .last) c ∙ ap (λ (x : ℕ). seatOf ls (spotOf 0 x c ls)) (enter-last r e))
+
+  pub enter-none : (r : Turned) → EndsIn xs flags c b r → r .across ≡ false → Nowhere ≡ enterSeat xs flags m l b c
+  unfolding enterSeat
+  enter-none r e q =
+      ap (seatOf ls) (sym (spot-none (r .last) c ls (λ w i o. h .edges (r .last) c w i o (e .none q))))
+      ∙ ap (λ (x : ℕ). seatOf ls (spotOf 0 x c ls)) (enter-last r e)
+
+  pub enter-within : (s : Seat) (w k i : ℕ) → s ≡ enterSeat xs flags m l b c → s ≡ At w k i → i < k
+  unfolding enterSeat
+  enter-within s w k i p e = subst Within e (subst Within (sym p) (within (turnIn (length ts) c b ts) c ls))
+
+  -- the place where the edge from c starts
+  leave-last : (r : Turned) → EndsOut xs flags c a r → r .last ≡ turnOut (length ts) c a ts
+  leave-last r e = out-turned xs cs flags (h .linked) a b c (h .number) (h .corner) (h .found) (h .built) r e
+
+  pub leave-found : (r : Turned) (s : Seat) → EndsOut xs flags c a r → s ≡ seatIn l m c (r .last) → s ≡ leaveSeat xs flags m l a c
+  unfolding leaveSeat
+  leave-found r s e q = q ∙ (seat c (r .last) ∙ ap (λ (x : ℕ). seatOf ls (spotOf 0 c x ls)) (leave-last r e))
+
+  pub leave-none : (r : Turned) → EndsOut xs flags c a r → r .across ≡ false → Nowhere ≡ leaveSeat xs flags m l a c
+  unfolding leaveSeat
+  leave-none r e q =
+      ap (seatOf ls) (sym (spot-none c (r .last) ls (λ w i o. h .edges c (r .last) w i o (e .none q))))
+      ∙ ap (λ (x : ℕ). seatOf ls (spotOf 0 c x ls)) (leave-last r e)
+
+  -- the operation
+  pub chosen : (s t : Seat) → s ≡ enterSeat xs flags m l b c → t ≡ leaveSeat xs flags m l a c → placeFor (l .size) s t ≡ choosePlace a b c ts ls
+  unfolding enterSeat leaveSeat
+  chosen s t p q =
+      ap (λ (k : ℕ). placeFor k s t) (size-is l m (ringsIn maxPlaces l m) (h .stands) (h .live))
+      ∙ (ap₂ (placeFor (sizeOf ls 0)) p q ∙ choice-by a b c ts ls)
+
+  pub chosen-enter : (s : Seat) (w k i j : ℕ) (o : Operation) → s ≡ enterSeat xs flags m l b c → s ≡ At w k i → j ≡ following k i
+      → o ≡ operationFor (l .size) w j → o ≡ choosePlace a b c ts ls
+  unfolding placeFor
+  chosen-enter s w k i j o p e f q =
+      q ∙ ap (operationFor (l .size) w) f ∙ (ap (λ (z : Seat). placeFor (l .size) z (leaveSeat xs flags m l a c)) (sym e) ∙ chosen s (leaveSeat xs flags m l a c) p refl)
+
+  pub chosen-leave : (s t : Seat) (w k i : ℕ) (o : Operation) → s ≡ enterSeat xs flags m l b c → s ≡ Nowhere → t ≡ leaveSeat xs flags m l a c → t ≡ At w k i
+      → o ≡ operationFor (l .size) w i → o ≡ choosePlace a b c ts ls
+  unfolding placeFor
+  chosen-leave s t w k i o p e q f g = g ∙ (ap₂ (placeFor (l .size)) (sym e) (sym f) ∙ chosen s t p q)
+
+  pub chosen-none : (s t : Seat) → s ≡ enterSeat xs flags m l b c → s ≡ Nowhere → t ≡ leaveSeat xs flags m l a c → t ≡ Nowhere
+      → Border ≡ choosePlace a b c ts ls
+  unfolding placeFor
+  chosen-none s t p e q f = ap₂ (placeFor (l .size)) (sym e) (sym f) ∙ chosen s t p q

@@ -1,0 +1,5 @@
+pub mod Unbuilt
+pub mod Fuel
+pub mod Turning
+pub mod Seeking
+pub mod Choosing

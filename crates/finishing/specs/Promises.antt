@@ -1,0 +1,76 @@
+-- What the cores of the beginning and of the finish promise, their arguments in the order of the calls. m and m′ are the plain memory
+-- before and after, whose first n records were lent.
+-- Assumes nothing.
+use Prim.Native.Nat.{ℕ, _*_, _≤_}
+use mathlib.Core.List.{List}
+use mathlib.Core.Path.{_≡_}
+use lib.ListN.{length, replicate}
+use lib.IntN.{pos, _+ℤ_, _-ℤ_}
+use Rattle.rules.specs.declared.Counts.{Counts}
+use Rattle.rules.specs.declared.Place.{Place}
+use Rattle.rules.specs.declared.Builder.{Builder}
+use Rattle.rules.specs.declared.Totals.{Totals}
+use Rattle.rules.specs.declared.Begun.{Begun}
+use Rattle.rules.specs.declared.Checked.{Checked}
+use Rattle.rules.specs.declared.Checked.the-variants.{Accepted, Refused}
+use Rattle.rules.specs.declared.Finished.{Finished}
+use Rattle.rules.specs.Limits.{maxPlaces, maxTriangles}
+use Rattle.rules.specs.View.{trianglesBuilt}
+use Rattle.rules.specs.Machine.{Machine, finish}
+use Rattle.rules.specs.Answer.{begunAnswer, finishedAnswer}
+use Rattle.rules.specs.Book.{answerOf}
+use Rattle.rules.specs.Buffer.{freePlace}
+use Rattle.rules.specs.Build.{begins, finishes, emptyBuilder, begunBuilder}
+use Rattle.memory.specs.declared.Front.{Front}
+use Rattle.memory.specs.Keeps.{Keeps}
+use Rattle.places.specs.Memory.{records}
+use Rattle.reading.specs.Reading.{lent, SameRecords}
+
+-- an accepted beginning leaves the triangle buffer as it is and the 1,024 records zero
+pub record Emptied (stated : Counts) (xs : List ℕ) (n : ℕ) (b : Builder) (xs′ m′ : List ℕ) : Type 0 where
+  pub builder : b ≡ begunBuilder stated
+  pub triangles : xs′ ≡ xs
+  pub whole : maxPlaces ≤ n
+  pub places : records maxPlaces m′ ≡ replicate {A = Place} maxPlaces freePlace
+
+-- a refused one gives the empty builder and changes nothing
+pub record Unbegun (xs m : List ℕ) (b : Builder) (xs′ m′ : List ℕ) : Type 0 where
+  pub builder : b ≡ emptyBuilder
+  pub triangles : xs′ ≡ xs
+  pub memory : m′ ≡ m
+
+abbrev pub BegunLeaves : Counts → List ℕ → List ℕ → ℕ → Checked → Builder → List ℕ → List ℕ → Type 0
+BegunLeaves stated xs m n Accepted b xs′ m′ = Emptied stated xs n b xs′ m′
+BegunLeaves stated xs m n (Refused k) b xs′ m′ = Unbegun xs m b xs′ m′
+
+-- what a beginning refused by k returns
+abbrev pub refusedBy : ℕ → Begun
+refusedBy k = record { state = emptyBuilder; answer = Refused k }
+
+pub record BeginsOn (stated : Counts) (xs m : List ℕ) (n : ℕ) (r : Begun) (xs′ m′ : List ℕ) : Type 0 where
+  pub answer : begunAnswer r ≡ answerOf (begins (lent xs n m) stated)
+  pub left : BegunLeaves stated xs m n (r .answer) (r .state) xs′ m′
+
+-- a finish changes no record
+pub record FinishesOn (b : Builder) (xs m : List ℕ) (n : ℕ) (r : Finished) (m′ : List ℕ) : Type 0 where
+  pub answer : finishedAnswer r ≡ answerOf (finishes b (lent xs n m))
+  pub same : SameRecords m m′
+
+-- a core's state whose triangles stand in the buffer, and that is short enough for the fan test
+pub record Fits (f : Front) (xs : List ℕ) : Type 0 where
+  pub most : f .built ≤ maxTriangles
+  pub long : 3 * f .built ≤ length xs
+
+-- the answer is that of each machine that the state keeps, with these triangles
+abbrev pub FinishesFront : Front → List ℕ → Finished → Type 0
+FinishesFront f xs r = (M : Machine) (m : List ℕ) → Keeps maxPlaces f m M → M .triangles ≡ trianglesBuilt xs (f .built)
+    → finishedAnswer r ≡ answerOf (finish M)
+
+-- what a finish gives, of a core's state
+unfoldable pub totalsOf : Front → Totals
+totalsOf f = record {
+  edges = f .edges;
+  rims = f .rims;
+  unions = f .unions;
+  euler = pos (f .used) -ℤ pos (f .edges) +ℤ pos (f .built);
+}

@@ -1,0 +1,36 @@
+-- `opener::marks::place_fits` meets its contract: the two tests in their order.
+-- Assumes nothing.
+use borrow.Author.Needs.{needs}
+use Rattle.rules.specs.Limits.{maxPlaces}
+use Rattle.places.specs.Memory.{records}
+use Rattle.opening.proofs.Walking.{fits-not, fits-vertex}
+use Rattle.opener.proofs.marks.place_fits.Statement.{statement}
+use Rattle.opener.proofs.marks.place_fits.Tie as tie
+
+place-at-requires : tie.Need-place-at-requires
+place-at-requires c κs = search needs
+
+place-at-requires-2 : tie.Need-place-at-requires-2
+place-at-requires-2 c κs = search needs
+
+returns : tie.Need-returns
+returns c =
+    let after-place-at2 = c .before .before in
+    let after-place-at = after-place-at2 .before in
+    let start = after-place-at .before in
+    let a = start .args in
+    fits-not (records maxPlaces (a .m .now)) (a .v) (a .i) _ _ (after-place-at .place-at .ensures) (after-place-at2 .place-at2 .ensures)
+    (c .if1 .taken)
+
+returns-2 : tie.Need-returns-2
+returns-2 c =
+    let left1 = c .before in
+    let after-place-at2 = left1 .before .before in
+    let after-place-at = after-place-at2 .before in
+    let start = after-place-at .before in
+    let a = start .args in
+    fits-vertex (records maxPlaces (a .m .now)) (a .v) (a .i) _ _ (after-place-at .place-at .ensures) (after-place-at2 .place-at2 .ensures)
+    (left1 .if1 .left)
+
+pub place-fits-spec : {M : Type 1} → statement M
+place-fits-spec = tie.close (tie.spec place-at-requires place-at-requires-2 returns returns-2)

@@ -1,0 +1,57 @@
+-- `packer::pack_on` meets its contract: 1 to 8, or the run.
+-- Assumes nothing.
+use mathlib.Core.Path.{refl}
+use borrow.Author.Needs.{needs}
+use Rattle.chains.proofs.Linking.{zeros-none}
+use Rattle.packing.proofs.Ending.{packed-unfit, packed-few, packed-list, packed-fitting, packed-ran}
+use Rattle.packer.proofs.pack_on.Statement.{statement}
+use Rattle.packer.proofs.pack_on.Tie as tie
+
+check-into-requires : tie.Need-check-into-requires
+check-into-requires c κs = zeros-none _ _ refl
+
+enum-told : tie.Need-enum-told
+enum-told c = search needs
+
+enum-told-2 : tie.Need-enum-told-2
+enum-told-2 c = search needs
+
+refusal-of-requires : tie.Need-refusal-of-requires
+refusal-of-requires c κs = search needs
+
+returns : tie.Need-returns
+returns c = let a = c .before .before .before .before .before .before .before .before .args in packed-unfit (a .v) (a .list .now) (a .numbering .now) (a .room .now) (a .m .now) (a .n) _ (c .before .before .before .check-into .ensures .right) _ (c .before .enum-told2 .given .1) _ (c .refusal-of .ensures _ (c .before .enum-told2 .given .1))
+
+returns-2 : tie.Need-returns-2
+returns-2 c = let a = c .before .before .before .before .before .before .before .before .args in packed-few (a .v) (a .list .now) (a .numbering .now) (a .room .now) (a .m .now) (a .n) _ (c .before .before .before .check-into .ensures .right) (c .before .enum-told .given .1) (c .if1 .taken)
+
+returns-3 : tie.Need-returns-3
+returns-3 c = let a = c .before .before .before .before .before .before .before .before .before .args in packed-list (a .v) (a .list .now) (a .numbering .now) (a .room .now) (a .m .now) (a .n) _ (c .before .before .before .before .check-into .ensures .right) (c .before .before .enum-told .given .1) (c .before .if1 .left) (c .if2 .taken)
+
+pack-accepted-requires : tie.Need-pack-accepted-requires
+pack-accepted-requires c κs = let a = c .before .before .before .before .before .before .before .before .before .before .before .before .before .args in packed-fitting (a .v) (a .list .now) (a .numbering .now) (a .room .now) (a .m .now) (a .n) _ (c .before .before .before .before .before .before .before .before .check-into .ensures .right) (c .before .before .before .before .before .before .enum-told .given .1) (c .before .before .before .before .before .if1 .left) (c .before .before .before .before .if2 .left) _ (c .before .before .before .before .before .before .before .before .check-into .ensures .chained (c .before .before .before .before .before .before .enum-told .given .1)) (search needs)
+
+same-length : tie.Need-same-length
+same-length c = search needs
+
+same-length-2 : tie.Need-same-length-2
+same-length-2 c = search needs
+
+returns-4 : tie.Need-returns-4
+returns-4 c = let a = c .before .before .before .before .before .before .before .before .before .before .before .before .before .before .before .before .before .before .args in packed-ran (a .v) (a .list .now) (a .numbering .now) (a .room .now) (a .m .now) (a .n) _ (c .before .before .before .before .before .before .before .before .before .before .before .before .before .check-into .ensures .right) (c .before .before .before .before .before .before .before .before .before .before .before .enum-told .given .1) (c .before .before .before .before .before .before .before .before .before .before .if1 .left) (c .before .before .before .before .before .before .before .before .before .if2 .left) _ _ _ _ (c .before .before .before .before .pack-accepted .ensures)
+
+pub pack-on-spec : {M : Type 1} → statement M
+pack-on-spec =
+    tie.close
+    (tie.spec
+    check-into-requires
+    enum-told
+    enum-told-2
+    refusal-of-requires
+    returns
+    returns-2
+    returns-3
+    pack-accepted-requires
+    same-length
+    same-length-2
+    returns-4)

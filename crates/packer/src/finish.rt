@@ -1,0 +1,71 @@
+// The end of a packing: 11, the header, and the answer.
+use crate::buffers::clear;
+use crate::buffers::clear_bytes;
+use packing::Course;
+use packing::Ran;
+use rules::Counts;
+use rules::Packed;
+use wire::fields::write_header;
+ghost use mathlib.Core.Path.{_≡_};
+ghost use Prim.Native.Nat.{ℕ, _≤_};
+ghost use lib.ListN.{length};
+ghost use Rattle.rules.specs.declared.Packed.the-variants as Packs;
+ghost use Rattle.rules.specs.Buffer.{zeroed};
+ghost use Rattle.packing.specs.declared.Ran.the-variants as Runs;
+ghost use Rattle.packing.specs.Finish.{countsAt, finishAnswer, finishNumbers, finishPack, Sized};
+
+// The counts that the pack of v vertices and k triangles states.
+fn counts_at(v: usize, k: usize, t: Course) -> Counts
+    requires { ⌜ (v ≤ 4096) × (k ≤ 8192) ⌝ }
+    ensures { λ r. ⌜ r ≡ countsAt v k t ⌝ }
+{
+    let front = t.front;
+    let peaks = front.peaks;
+    Counts {
+        vertices: v as u16,
+        triangles: k as u16,
+        places: peaks.places,
+        loops: peaks.loops,
+    }
+}
+
+// A refusal past 8: the first v numbering entries and the whole pack buffer are zero.
+fn refuse(k: u8, v: usize, numbering: &mut [u16], room: &mut [u8]) -> Packed
+    requires { ⌜ v ≤ length (now numbering) ⌝ }
+    ensures answer { λ r. ⌜ r ≡ Packs.Refused k ⌝ }
+    ensures numbers { λ _. ⌜ now (numbering .exit) ≡ zeroed v (now (numbering .entry)) ⌝ }
+    ensures pack { λ _. ⌜ now (room .exit) ≡ zeroed (length (now (room .entry))) (now (room .entry)) ⌝ }
+{
+    clear(numbering, v);
+    clear_bytes(room);
+    Packed::Refused(k)
+}
+
+// The number of a run's refusal.
+fn number_of(end: Ran) -> u8
+    ensures { λ r. ⌜ ((k : ℕ) → end ≡ Runs.Refused k → r ≡ k) ⌝ }
+{
+    match end {
+        Ran::Refused(k) => k,
+        Ran::Ended(_, _) => 11,
+    }
+}
+
+// The answer after a run: its refusal, or 11, or the pack's length, with the header written.
+pub(crate) fn finish(v: usize, k: usize, end: Ran, numbering: &mut [u16], room: &mut [u8]) -> Packed
+    requires { ⌜ (v ≤ 4096) × (k ≤ 8192) × (v ≤ length (now numbering)) × Sized end ⌝ }
+    ensures answer { λ r. ⌜ r ≡ finishAnswer end (length (now (room .entry))) ⌝ }
+    ensures numbers { λ _. ⌜ now (numbering .exit) ≡ finishNumbers end v (length (now (room .entry))) (now (numbering .entry)) ⌝ }
+    ensures pack { λ _. ⌜ now (room .exit) ≡ finishPack end v k (now (room .entry)) ⌝ }
+{
+    let Ran::Ended(t, at) = end else {
+        return refuse(number_of(end), v, numbering, room);
+    };
+    let n = (at + 7) / 8;
+    if room.len() < n {
+        return refuse(11, v, numbering, room);
+    }
+    let counts = counts_at(v, k, t);
+    write_header(room, counts, n - 14);
+    Packed::Length(n as u32)
+}

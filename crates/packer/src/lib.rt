@@ -1,0 +1,119 @@
+// Packing: the packer chooses one operation after the other, does each on the cut-border, whose vertices are the list's own numbers,
+// and writes it. What the contracts cite stands in the crate packing.
+mod buffers; // what the buffers begin and end with
+mod choose; // what is taken at the current edge
+mod finish; // 11, and the answer
+mod operate; // an operation on the loops
+mod start; // the lowest triangle left
+pub mod step; // one step, and the run of them
+
+use crate::buffers::clear;
+use crate::buffers::forget;
+use crate::finish::finish;
+use crate::step::run;
+use border::begin;
+use mesh::CORNERS;
+use mesh::Links;
+use mesh::VERTICES;
+use mesh::check_into;
+use packing::Course;
+use rules::Checked;
+use rules::Counts;
+use rules::Packed;
+ghost use mathlib.Core.Path.{_≡_};
+ghost use Prim.Native.Nat.{ℕ, _≤_};
+ghost use Rattle.rules.specs.declared.Checked.the-variants as Checks;
+ghost use Rattle.rules.specs.declared.Packed.the-variants as Packs;
+ghost use Rattle.packing.specs.Doing.{statedFor};
+ghost use Rattle.packing.specs.Lent.{PackedOn, Fitting, RunGives};
+
+// How many places the memory has, how many numbers their records are, and how many all the memory has.
+pub(crate) const PLACES: usize = 1024;
+
+const RECORDS: usize = 4096;
+
+const MEMORY: usize = 5320;
+
+// What a packing of v vertices and k triangles may not exceed.
+fn stated_for(v: usize, k: usize) -> Counts
+    requires { ⌜ (v ≤ 4096) × (k ≤ 8192) ⌝ }
+    ensures { λ r. ⌜ r ≡ statedFor v k ⌝ }
+{
+    Counts {
+        vertices: v as u16,
+        triangles: k as u16,
+        places: 1024,
+        loops: 100,
+    }
+}
+
+// Packs a list that got past 8: the numbering and the pack are written, and the memory's records are left zero.
+fn pack_accepted(
+    v: usize,
+    list: &[u16],
+    chains: &Links,
+    numbering: &mut [u16],
+    room: &mut [u8],
+    m: &mut [u16],
+) -> Packed
+    requires { ⌜ Fitting v (now list) (now chains) (now numbering) (now m) ⌝ }
+    ensures { λ r. ⌜ RunGives v (now (list .entry)) (now (numbering .entry)) (now (room .entry)) r (now (numbering .exit)) (now (room .exit)) (now (m .exit)) ⌝ }
+{
+    let k = list.len() / 3;
+    let mut built = [0u8; 8192];
+    let front = begin(m, PLACES, stated_for(v, k));
+    forget(numbering, v);
+    let start = Course {
+        front,
+        given: 0,
+        lowest: 0,
+    };
+    let end = run(
+        list,
+        chains,
+        start,
+        4 * k + 1,
+        &mut built,
+        numbering,
+        room,
+        m,
+    );
+    clear(m, RECORDS);
+    finish(v, k, end, numbering, room)
+}
+
+// A list's refusal, 1 to 7, as the packing's.
+fn refusal_of(c: Checked) -> Packed
+    ensures { λ r. ⌜ ((k : ℕ) → c ≡ Checks.Refused k → r ≡ Packs.Refused k) ⌝ }
+{
+    match c {
+        Checked::Refused(k) => Packed::Refused(k),
+        Checked::Accepted => Packed::Refused(8),
+    }
+}
+
+// Packs any list of a model of v vertices into any buffers, with n place records that were lent: m has the first 1,024 of them as
+// numbers, and room after them to work in. Past 8 the records are left zero; before it nothing changes.
+pub fn pack_on(
+    v: usize,
+    list: &[u16],
+    numbering: &mut [u16],
+    room: &mut [u8],
+    m: &mut [u16; MEMORY],
+    n: usize,
+) -> Packed
+    ensures { λ r. ⌜ PackedOn v (now (list .entry)) (now (numbering .entry)) (now (room .entry)) (now (m .entry)) n r (now (numbering .exit)) (now (room .exit)) (now (m .exit)) ⌝ }
+{
+    let mut chains = [0u16; VERTICES + CORNERS];
+    let checked = check_into(v, list, &mut chains);
+    let Checked::Accepted = checked else {
+        return refusal_of(checked);
+    };
+    if numbering.len() < v {
+        return Packed::Refused(8);
+    }
+    if n < PLACES {
+        return Packed::Refused(8);
+    }
+    pack_accepted(v, list, &chains, numbering, room, m)
+}

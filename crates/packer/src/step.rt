@@ -1,0 +1,143 @@
+// One step of a packing, and the run of them.
+use crate::choose::choose_move;
+use crate::operate::operate;
+use crate::operate::ready_for;
+use crate::operate::refusal_of;
+use crate::start::begin_piece;
+use choosing::Flags;
+use memory::Front;
+use mesh::Links;
+use packing::Course;
+use packing::Done;
+use packing::Ran;
+use packing::Taken;
+use wire::writer::write_operation;
+ghost use mathlib.Core.Bool.{false};
+ghost use mathlib.Core.Path.{_≡_};
+ghost use Prim.Native.Nat.{ℕ, _+_, _≤_, _<_};
+ghost use lib.ListN.{length};
+ghost use Rattle.packing.specs.declared.Taken.the-variants as Takes;
+ghost use Rattle.packing.specs.declared.Ran.the-variants as Runs;
+ghost use Rattle.packing.specs.Course.{Held, givenBy, numbersBy};
+ghost use Rattle.packing.specs.Steps.{isDone, Alive, StepOf, RunOf};
+
+// The next number k is given to the vertex c, or not: how many are given then.
+fn give(numbering: &mut [u16], fresh: bool, c: u16, k: u16) -> u16
+    requires { ⌜ (c < length (now numbering)) × (k < 65535) ⌝ }
+    ensures count { λ r. ⌜ r ≡ givenBy fresh k ⌝ }
+    ensures numbers { λ _. ⌜ now (numbering .exit) ≡ numbersBy fresh (now (numbering .entry)) c k ⌝ }
+{
+    if !fresh {
+        return k;
+    }
+    numbering[c as usize] = k;
+    k + 1
+}
+
+// A step at a live loop: what is taken at its current edge.
+fn go_on(
+    list: &[u16],
+    chains: &Links,
+    t: Course,
+    built: &mut Flags,
+    numbering: &mut [u16],
+    m: &mut [u16],
+) -> Taken
+    requires { ⌜ Alive (now list) (now chains) t (now built) (now numbering) (now m) ⌝ }
+    ensures { λ r. ⌜ StepOf (now (list .entry)) t (now (built .entry)) (now (numbering .entry)) (now (m .entry)) r (now (built .exit)) (now (numbering .exit)) (now (m .exit)) ⌝ }
+{
+    let front = t.front;
+    let next = choose_move(list, chains, built, numbering, m, front.loops);
+    let o = next.operation;
+    let c = next.vertex;
+    let s = ready_for(front, c);
+    let d = operate(m, s, o);
+    let Done::Going(after) = d else {
+        return refusal_of(d);
+    };
+    let given = give(numbering, next.fresh, c, t.given);
+    Taken::Going(
+        o,
+        Course {
+            front: after,
+            given,
+            lowest: t.lowest,
+        },
+    )
+}
+
+// Whether nothing is left to do: all triangles are built, and no loop is live.
+fn is_done(f: Front) -> bool
+    ensures { λ b. ⌜ b ≡ isDone f ⌝ }
+{
+    let stated = f.stated;
+    let loops = f.loops;
+    if f.built != stated.triangles {
+        return false;
+    }
+    loops.live == 0
+}
+
+// One step, where something is left to do: 9 or 10, or the operation that is taken and the state after it.
+pub fn step(
+    list: &[u16],
+    chains: &Links,
+    t: Course,
+    built: &mut Flags,
+    numbering: &mut [u16],
+    m: &mut [u16],
+) -> Taken
+    requires { ⌜ Held (now list) (now chains) t (now built) (now numbering) (now m) × (isDone (t .front) ≡ false) ⌝ }
+    ensures { λ r. ⌜ StepOf (now (list .entry)) t (now (built .entry)) (now (numbering .entry)) (now (m .entry)) r (now (built .exit)) (now (numbering .exit)) (now (m .exit)) ⌝ }
+{
+    let front = t.front;
+    let loops = front.loops;
+    if loops.live == 0 {
+        return begin_piece(list, t, built, numbering, m);
+    }
+    go_on(list, chains, t, built, numbering, m)
+}
+
+// A step's refusal, as the run's.
+fn refusal_from(r: Taken) -> Ran
+    ensures { λ e. ⌜ ((k : ℕ) → r ≡ Takes.Refused k → e ≡ Runs.Refused k) ⌝ }
+{
+    match r {
+        Taken::Refused(k) => Ran::Refused(k),
+        Taken::Going(_, _) => Ran::Refused(9),
+    }
+}
+
+// Steps until nothing is left to do, by at most `budget` of them, each operation written after the first 14 bytes of the buffer
+// as long as it fits: 9 or 10, or the state then and the bit position after the last operation.
+pub fn run(
+    list: &[u16],
+    chains: &Links,
+    start: Course,
+    budget: usize,
+    built: &mut Flags,
+    numbering: &mut [u16],
+    room: &mut [u8],
+    m: &mut [u16],
+) -> Ran
+    requires { ⌜ Held (now list) (now chains) start (now built) (now numbering) (now m) × (budget ≤ 32769) ⌝ }
+    ensures { λ r. ⌜ RunOf (now (list .entry)) budget start (now (built .entry)) (now (numbering .entry)) (now (room .entry)) (now (m .entry)) r (now (built .exit)) (now (numbering .exit)) (now (room .exit)) (now (m .exit)) ⌝ }
+{
+    let mut t = start;
+    let mut at = 112;
+    let mut left = budget;
+    while 0 < left {
+        if is_done(t.front) {
+            return Ran::Ended(t, at);
+        }
+        let r = step(list, chains, t, built, numbering, m);
+        let Taken::Going(o, after) = r else {
+            return refusal_from(r);
+        };
+        let w = write_operation(room, at, o);
+        t = after;
+        at = w.next;
+        left -= 1;
+    }
+    Ran::Ended(t, at)
+}

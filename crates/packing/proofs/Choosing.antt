@@ -1,0 +1,160 @@
+-- A packing that is held at a live loop can be chosen from.
+-- Assumes nothing.
+use Prim.Native.Nat.{ℕ, suc, _+_, _*_, _≤_, _<_}
+use native.Mathlib.Omega.{arith}
+use mathlib.Core.Bool.{Bool, true, false}
+use mathlib.Core.List.{List, [], _∷_, _++_}
+use mathlib.Core.Path.{_≡_, refl, sym, ap, ap₂, _∙_, subst}
+use mathlib.Core.Logic.{_⊎_, inl, inr}
+use lib.ListN.{length, set, length-append}
+use lib.Seq.{getD-set-same}
+use lib.Dec.{leb}
+use borrow.Author.Tests.{leb-true}
+use Rattle.rules.specs.declared.Triangle.{Triangle}
+use Rattle.rules.specs.declared.Across.{Across}
+use Rattle.rules.specs.declared.Across.the-variants.{Found, Nothing}
+use Rattle.rules.specs.Limits.{maxPlaces, maxTriangles, minVertices, maxVertices}
+use Rattle.rules.specs.Triangle.{trianglesOf}
+use Rattle.rules.specs.Across.{across}
+use Rattle.rules.specs.Ring.{Node, Ring, vertex}
+use Rattle.rules.specs.Choice.{Packing}
+use Rattle.fans.specs.Corner.{In, Once}
+use Rattle.fans.proofs.Corners.{in-next}
+use Rattle.gap.specs.Turn.{Unused}
+use Rattle.gap.specs.Spots.{OpenAt, Unique}
+use Rattle.gap.proofs.Bools.{and-true}
+use Rattle.gap.proofs.Turning.{Finds, across-some, across-none, look}
+use Rattle.gap.proofs.Standing.{legal-used}
+use Rattle.gap.proofs.Steps.{Keeps, packs}
+use Rattle.gap.proofs.Canonical.{open-used}
+use Rattle.gap.proofs.Packing.{Packs}
+use Rattle.gap.proofs.Taking.{corners}
+use Rattle.gap.proofs.Progress.{AllGood}
+use Rattle.gap.proofs.Accepted.{Packable, accepted-packable}
+use Rattle.chains.specs.Chains.{Linked}
+use Rattle.roundtrip.proofs.Fitting.{accepted-count}
+use Rattle.memory.specs.declared.Loops.{Loops}
+use Rattle.memory.specs.Stands.{ringsIn, loopsIn}
+use Rattle.choosing.specs.Choosable.{flagOf, Choosable}
+use Rattle.packing.specs.declared.Course.{Course}
+use Rattle.packing.specs.declared.Move.{Move}
+use Rattle.packing.specs.Numbers.{entries}
+use Rattle.packing.specs.Course.{Holds, startOf, endOf, isNumbered, placedBy, moveBy, moveOf, FoundNear, Chooses}
+use Rattle.packing.proofs.Numbers.{entries-length}
+use Rattle.packing.proofs.Flags.{found-below}
+use Rattle.packing.proofs.Reading.{EdgeRead, edge-read, none-live}
+
+-- the current loop has three places or more
+record Shape (ls : List Ring) : Type 0 where
+  e : Node
+  f : Node
+  ps : List Node
+  ws : List Ring
+  is : ls ≡ (e ∷ (f ∷ ps)) ∷ ws
+  three : 1 ≤ length ps
+
+shape : (ls : List Ring) → AllGood ls → (ls ≡ [] → ⊥) → Shape ls
+shape [] g n = absurd (n refl)
+shape ([] ∷ ws) g n = absurd (g .0)
+shape ((e ∷ []) ∷ ws) g n = absurd (omega (arith, g .0 .1))
+shape ((e ∷ (f ∷ ps)) ∷ ws) g n = record { e = e; f = f; ps = ps; ws = ws; is = refl; three = omega (arith, g .0 .1) }
+
+no-found : (n k z : ℕ) → Nothing ≡ Found n k z → ⊥
+no-found n k z e = let q : _≡_ {A = ℕ} 0 1 = cc in omega arith
+
+found-third : (n k z n′ k′ z′ : ℕ) → Found n k z ≡ Found n′ k′ z′ → z ≡ z′
+found-third n k z n′ k′ z′ e = cc
+
+-- a triangle that is found is in the list
+found-in : (x y : ℕ) (ts : List Triangle) (n k z : ℕ) → Once ts → across x y ts ≡ Found n k z → In x y z ts
+found-in x y ts n k z o h = go (look x y ts)
+  where
+    go : ((w : ℕ) × In x y w ts) ⊎ Unused x y ts → In x y z ts
+    go (inl r) =
+        let a = across-some x y (r .0) ts o (r .1) in
+        subst (λ (w : ℕ). In x y w ts) (found-third (a .number) (a .corner) (r .0) n k z (sym (a .found) ∙ h)) (r .1)
+    go (inr u) = absurd (no-found n k z (sym (across-none x y ts u) ∙ h))
+
+module _ (v : ℕ) (xs : List ℕ) (s : Packing) (t : Course) (fs ns rest m : List ℕ) (h : Holds v xs s t fs ns rest m) where
+  packable : Packable v (trianglesOf xs)
+  packable = accepted-packable v xs (h .accepted)
+
+  pub numbers-long : v ≤ length ns
+  numbers-long = omega (arith, ap length (h .numbers), length-append (entries v (s .numbered)) rest, entries-length v (s .numbered))
+
+  below : (n k c : ℕ) → across (endOf (t .front .loops) m) (startOf (t .front .loops) m) (trianglesOf xs) ≡ Found n k c → c < v
+  below n k c q =
+      packable .below c (endOf (t .front .loops) m) (startOf (t .front .loops) m)
+      (in-next (in-next (found-in (endOf (t .front .loops) m) (startOf (t .front .loops) m) (trianglesOf xs) n k c (packable .once) q)))
+
+  placed-below : (b : Bool) (f : List ℕ) (x y c : ℕ) → c < v → placedBy b xs f m (t .front .loops) x y c .vertex < v
+  placed-below true f x y c l = l
+  placed-below false f x y c l = l
+
+  -- the third vertex is one of the model's
+  pub move-below : moveOf xs fs ns m (t .front .loops) .vertex < v
+  unfolding moveOf
+  move-below = go (across (endOf (t .front .loops) m) (startOf (t .front .loops) m) (trianglesOf xs)) refl
+    where
+      some : 0 < v
+      some = let r = leb-true minVertices v (and-true (leb minVertices v) (leb v maxVertices) (h .standing .vertices) .0) in omega (arith, r)
+
+      go : (r : Across) → across (endOf (t .front .loops) m) (startOf (t .front .loops) m) (trianglesOf xs) ≡ r → moveBy xs fs ns m (t .front .loops) r .vertex < v
+      go Nothing q = some
+      go (Found n k c) q = placed-below (isNumbered ns c) (set fs n 1) (startOf (t .front .loops) m) (endOf (t .front .loops) m) c (below n k c q)
+
+  module _ (cs : List ℕ) (linked : Linked xs cs) (live : t .front .loops .live ≡ 0 → ⊥) where
+    shaped : Shape (s .loops)
+    shaped =
+        shape (s .loops) (h .fits .good)
+        (λ e. live (none-live maxPlaces (t .front .loops) m (ringsIn maxPlaces (t .front .loops) m) (h .standing .stands) (sym (h .standing .loops) ∙ e)))
+
+    read : EdgeRead maxPlaces (t .front .loops) m (shaped .e) (shaped .f) (shaped .ps) (shaped .ws)
+    read =
+        edge-read maxPlaces (t .front .loops) m (ringsIn maxPlaces (t .front .loops) m) (h .standing .stands) (shaped .e) (shaped .f) (shaped .ps) (shaped .ws)
+        (sym (h .standing .loops) ∙ shaped .is)
+
+    before : Keeps (s .mesh) (s .left) (h .built) ((shaped .e ∷ (shaped .f ∷ shaped .ps)) ∷ shaped .ws) (h .rims)
+    before = subst (λ (ls : List Ring). Keeps (s .mesh) (s .left) (h .built) ls (h .rims)) (shaped .is) (h .fits .keeps)
+
+    differ : vertex (shaped .f) ≡ vertex (shaped .e) → ⊥
+    differ q =
+        let u = legal-used (h .built) ((shaped .e ∷ (shaped .f ∷ shaped .ps)) ∷ shaped .ws) (h .rims) (before .legal) .0 .0 .1 in
+        corners (s .mesh) (h .fits .keeps .subB _ _ _ (u .1)) (h .fits .keeps .onceM) .0 (sym q)
+
+    packs-now : Packs (s .mesh) (s .left) (h .built) (s .loops)
+    packs-now = packs (s .mesh) (s .left) (h .built) (s .loops) (h .rims) (h .fits .keeps)
+
+    near-found : (n k c : ℕ) → across (endOf (t .front .loops) m) (startOf (t .front .loops) m) (trianglesOf xs) ≡ Found n k c → FoundNear xs cs fs ns m (t .front .loops) n c
+    near-found n k c q =
+        let w : n < length (trianglesOf xs) = found-below (endOf (t .front .loops) m) (startOf (t .front .loops) m) (trianglesOf xs) n k c q in
+        let fl : n < maxTriangles = omega (arith, w, accepted-count v xs (h .accepted) .2) in
+        record {
+          flag = fl;
+          entry = omega (arith, below n k c q, numbers-long);
+          place =
+              record {
+                linked = linked;
+                stands = h .standing .stands;
+                live = omega (arith, live);
+                three = omega (arith, read .size, shaped .three);
+                unique = subst Unique (h .standing .loops) (packs-now .state .unique);
+                edges = λ x y w i o u.
+                    (let r =
+                    open-used (s .mesh) (s .left) (h .built) (s .loops) (packs-now .state) x y w i (subst (λ (ls : List Ring). OpenAt ls w i x y) (sym (h .standing .loops)) o) in
+                    u (r .0) (subst (In x y (r .0)) (h .mesh) (r .1)));
+                number = n;
+                corner = k;
+                found = q;
+                built = λ z. omega (arith, z, getD-set-same fs n 1 0 (omega (arith, fl, h .flags)));
+              };
+        }
+
+    pub chooses : Chooses xs cs fs ns m (t .front .loops)
+    chooses = record {
+      linked = linked;
+      near-e = omega (arith, read .near-e, h .standing .whole);
+      near-f = omega (arith, read .near-f, h .standing .whole);
+      apart = λ q. differ (sym (read .end) ∙ q ∙ read .start);
+      found = near-found;
+    }

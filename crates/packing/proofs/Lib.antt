@@ -1,0 +1,14 @@
+pub mod Numbers
+pub mod Flags
+pub mod Doing
+pub mod Growing
+pub mod Reading
+pub mod Live
+pub mod Renaming
+pub mod Starting
+pub mod Writing
+pub mod Choosing
+pub mod Stepping
+pub mod Running
+pub mod Ways
+pub mod Ending

@@ -1,0 +1,346 @@
+-- A step at a live loop: what the packer takes is what is chosen, and what it comes to is the packing after it.
+-- Assumes nothing.
+use Prim.Native.Nat.{ℕ, zero, suc, _+_, _*_, _≤_, _<_}
+use native.Mathlib.Omega.{arith}
+use mathlib.Core.Bool.{Bool, true, false, false≢true}
+use mathlib.Core.List.{List, [], _∷_, _++_}
+use mathlib.Core.Path.{_≡_, refl, sym, ap, ap₂, _∙_, subst}
+use mathlib.Core.Logic.{_⊎_, inl, inr}
+use lib.ListN.{length, getD, set, length-set, length-append}
+use lib.Seq.{getD-set-same, getD-set-other}
+use lib.Dec.{eqb}
+use borrow.Author.Tests.{eqb-true, eqb-false, eq-eqb, ne-eqb}
+use Rattle.rules.specs.declared.Triangle.{Triangle}
+use Rattle.rules.specs.declared.Across.{Across}
+use Rattle.rules.specs.declared.Across.the-variants.{Found, Nothing}
+use Rattle.rules.specs.declared.Operation.{Operation}
+use Rattle.rules.specs.declared.Operation.the-variants.{New, Border}
+use Rattle.rules.specs.Limits.{maxPlaces, maxLoops, maxTriangles}
+use Rattle.rules.specs.Triangle.{tri, edge, trianglesOf}
+use Rattle.rules.specs.Across.{across}
+use Rattle.rules.specs.Ring.{Node, Ring, vertex, isOpen, places}
+use Rattle.rules.specs.Table.{Effect, builds, marks, atEdge, effect}
+use Rattle.rules.specs.Choice.{Packing, has, dropTriangle, choosePlace, Next, refuses, takes, packingAfter, limited, choose}
+use Rattle.fans.specs.Corner.{In, Once}
+use Rattle.fans.specs.Neighbours.{Neighbours}
+use Rattle.fans.proofs.Corners.{in-next}
+use Rattle.gap.specs.Turn.{Unused}
+use Rattle.gap.specs.Spots.{OpenAt, Unique}
+use Rattle.gap.specs.Trace.{triangleAt, afterBorder, withRing}
+use Rattle.gap.specs.Tally.{newNumbers}
+use Rattle.gap.proofs.Turning.{others, others-length, Finds, across-some, across-none}
+use Rattle.gap.proofs.Effects as effects
+use Rattle.gap.proofs.Standing.{legal-used}
+use Rattle.gap.proofs.Steps.{Keeps, Packed, packs}
+use Rattle.gap.proofs.Canonical.{open-used}
+use Rattle.gap.proofs.Taking.{corners}
+use Rattle.gap.proofs.Bordering.{withRim, rimOf, border-free}
+use Rattle.gap.proofs.Progress.{AllGood, Goes, by-start, by-build, by-border, progress}
+use Rattle.gap.proofs.Choosing.{Fits, choose-border, choose-new, choose-old, no-new}
+use Rattle.gap.proofs.Numbering.{Met, Numbered, not-met, numbered-old, numbered-new}
+use Rattle.gap.proofs.Distinct.{distinct-new}
+use Rattle.gap.proofs.Dropping.{drop-others}
+use Rattle.gap.proofs.Accepted.{Packable, accepted-packable}
+use Rattle.gap.proofs.Following.{limited-takes}
+use Rattle.roundtrip.proofs.Fitting.{accepted-count}
+use Rattle.memory.specs.declared.Loops.{Loops}
+use Rattle.memory.specs.declared.Front.{Front}
+use Rattle.memory.specs.Stands.{ringsIn, loopsIn}
+use Rattle.choosing.specs.Choosable.{flagOf, unbuilt, unbuiltOf, Choosable}
+use Rattle.packing.specs.declared.Course.{Course}
+use Rattle.packing.specs.declared.Move.{Move}
+use Rattle.packing.specs.declared.Done.{Done}
+use Rattle.packing.specs.declared.Done.the-variants.{Going, Refused}
+use Rattle.packing.specs.Numbers.{unnumbered, entryOf, entries}
+use Rattle.packing.specs.Doing.{readied, refusalAt, doneOf, memoryOf, Standing, Outcome}
+use Rattle.packing.specs.Course.{Holds, startOf, endOf, isNumbered, placedBy, flagsBy, moveBy, moveOf, flagsOf, givenBy, numbersBy}
+use Rattle.packing.specs.Steps.{StepsTo}
+use Rattle.packing.proofs.Numbers.{entry-read, entry-none, entry-some, entry-tells, entry-marked, index-below, number-stored}
+use Rattle.packing.proofs.Flags.{flag-drops, found-below}
+use Rattle.packing.proofs.Doing.{standing-places, built-outcome, border-outcome}
+use Rattle.packing.proofs.Growing.{Grows, surgery-grows, border-shrinks, limited-refuses}
+use Rattle.packing.proofs.Reading.{EdgeRead, edge-read, none-live}
+
+-- the packing after the vertex c gets the next number, or not
+abbrev pub numberedBy : Bool → ℕ → List ℕ → List ℕ
+numberedBy true c vs = vs ++ (c ∷ [])
+numberedBy false c vs = vs
+
+-- what an operation that was done says of the packer's step
+abbrev pub Lives : ℕ → List ℕ → Packing → Course → Move → Done → List ℕ → List ℕ → List ℕ → List ℕ → Type 0
+Lives v xs s t mv (Refused k) fs′ ns′ rest m′ = choose s ≡ refuses k
+Lives v xs s t mv (Going f′) fs′ ns′ rest m′ =
+    StepsTo v xs (choose s) (mv .operation) (record { front = f′; given = givenBy (mv .fresh) (t .given); lowest = t .lowest }) fs′ ns′ rest m′
+
+module _ (v : ℕ) (xs : List ℕ) (s : Packing) (t : Course) (fs ns rest m : List ℕ) (h : Holds v xs s t fs ns rest m) where
+  packable : Packable v (trianglesOf xs)
+  packable = accepted-packable v xs (h .accepted)
+
+  fan : (c : ℕ) → Neighbours (s .mesh) c
+  fan c = subst (λ (M : List Triangle). Neighbours M c) (sym (h .mesh)) (packable .fans c)
+
+  triangles : (3 * length (trianglesOf xs) ≡ length xs) × (1 ≤ length (trianglesOf xs)) × (length (trianglesOf xs) ≤ maxTriangles)
+  triangles = accepted-count v xs (h .accepted)
+
+  pub numbers-few : length (s .numbered) ≤ 24576
+  numbers-few = omega (arith, h .few, triangles .2)
+
+  -- the buffer after the vertex c gets the next number, or not
+  numbers-next : (fresh : Bool) (c : ℕ) → (fresh ≡ true → (c < v) × (has c (s .numbered) ≡ false))
+      → (numbersBy fresh ns c (t .given) ≡ entries v (numberedBy fresh c (s .numbered)) ++ rest)
+      × (givenBy fresh (t .given) ≡ length (numberedBy fresh c (s .numbered)))
+  numbers-next true c k =
+      (number-stored v (s .numbered) rest ns c (t .given) (h .numbers) (k refl .0) (k refl .1) (h .given), omega (arith, h .given, length-append (s .numbered) (c ∷ [])))
+  numbers-next false c k = (h .numbers, h .given)
+
+  -- what is taken, and what it comes to
+  module _ (o : Operation) (c : ℕ) (fresh : Bool) (i : ℕ) (ls : List Ring) (fs′ : List ℕ) (B : List Triangle) (rims : List Ring)
+      (chooses : choose s ≡ limited o (packingAfter s (unbuiltOf fs′ xs) (numberedBy fresh c (s .numbered)) ls))
+      (fits : Fits (packingAfter s (unbuiltOf fs′ xs) (numberedBy fresh c (s .numbered)) ls) B rims)
+      (grows : Grows (s .loops) ls) (fewer : i + length (unbuiltOf fs′ xs) ≡ length (s .left))
+      (few : length (numberedBy fresh c (s .numbered)) + 3 * length (unbuiltOf fs′ xs) ≤ length (s .numbered) + 3 * length (s .left))
+      (long : length fs′ ≡ length fs) (more : (j : ℕ) → flagOf fs′ j ≡ 0 → flagOf fs j ≡ 0)
+      (gets : fresh ≡ true → (c < v) × (has c (s .numbered) ≡ false)) where
+    after : Packing
+    after = packingAfter s (unbuiltOf fs′ xs) (numberedBy fresh c (s .numbered)) ls
+
+    pub lives : (d : Done) (m′ : List ℕ) → Outcome v (length (trianglesOf xs)) (t .front) ls (s .mostPlaces) (s .mostLoops) i d m′
+        → Lives v xs s t (record { operation = o; vertex = c; fresh = fresh }) d fs′ (numbersBy fresh ns c (t .given)) rest m′
+    unfolding after
+    lives (Refused j) m′ (q, x) =
+        chooses
+        ∙ limited-refuses o after (s .loops) (t .front .loops .free) (h .limit-places) (h .limit-loops)
+        (standing-places v (length (trianglesOf xs)) (t .front) m (s .loops) (s .mostPlaces) (s .mostLoops) (h .standing)) (h .standing .few) grows x
+        ∙ ap refuses (sym q)
+    lives (Going f′) m′ (st, n) =
+        let p : t .front .loops .free + places (s .loops) ≡ maxPlaces =
+        standing-places v (length (trianglesOf xs)) (t .front) m (s .loops) (s .mostPlaces) (s .mostLoops) (h .standing) in
+        let p′ = standing-places v (length (trianglesOf xs)) f′ m′ ls _ _ st in
+        let z = numbers-next fresh c gets in
+        record {
+          after = after;
+          goes = chooses ∙ limited-takes o after (omega (arith, p′, h .limit-places)) (omega (arith, st .few, h .limit-loops));
+          holds =
+              record {
+                accepted = h .accepted;
+                built = B;
+                rims = rims;
+                fits = fits;
+                mesh = h .mesh;
+                limit-places = h .limit-places;
+                limit-loops = h .limit-loops;
+                left = refl;
+                lowest = λ j k e. h .lowest j k (more j e);
+                before = h .before;
+                flags = long ∙ h .flags;
+                numbers = z .0;
+                given = z .1;
+                few = omega (arith, few, h .few);
+                count = omega (arith, n, fewer, h .count);
+                standing = st;
+              };
+        }
+
+  -- the conclusion, for what is taken and the flags then
+  abbrev pub Concludes : Move → List ℕ → Type 0
+  Concludes mv fs′ =
+      Lives v xs s t mv (doneOf (readied (t .front) (mv .vertex)) m (mv .operation)) fs′ (numbersBy (mv .fresh) ns (mv .vertex) (t .given)) rest
+      (memoryOf (readied (t .front) (mv .vertex)) m (mv .operation))
+
+  concludes-as : (mv mv′ : Move) (fs′ fs″ : List ℕ) → mv′ ≡ mv → fs″ ≡ fs′ → Concludes mv fs′ → Concludes mv′ fs″
+  concludes-as mv mv′ fs′ fs″ e f c = subst (λ (w : Move). Concludes w fs″) (sym e) (subst (Concludes mv) (sym f) c)
+
+  -- the current edge and the triangle across it
+  module _ (e f : Node) (ps : List Node) (ws : List Ring) (sh : s .loops ≡ (e ∷ (f ∷ ps)) ∷ ws) where
+    read : EdgeRead maxPlaces (t .front .loops) m e f ps ws
+    read = edge-read maxPlaces (t .front .loops) m (ringsIn maxPlaces (t .front .loops) m) (h .standing .stands) e f ps ws (sym (h .standing .loops) ∙ sh)
+
+    across-as : (r : Across) → across (vertex f) (vertex e) (s .mesh) ≡ r → across (endOf (t .front .loops) m) (startOf (t .front .loops) m) (trianglesOf xs) ≡ r
+    across-as r q =
+        ap₂ (λ (x y : ℕ). across x y (trianglesOf xs)) (read .end) (read .start) ∙ ap (across (vertex f) (vertex e)) (sym (h .mesh)) ∙ q
+
+    move-as : (r : Across) → across (vertex f) (vertex e) (s .mesh) ≡ r → moveOf xs fs ns m (t .front .loops) ≡ moveBy xs fs ns m (t .front .loops) r
+    unfolding moveOf
+    move-as r q = ap (moveBy xs fs ns m (t .front .loops)) (across-as r q)
+
+    flags-as : (r : Across) → across (vertex f) (vertex e) (s .mesh) ≡ r → flagsOf xs fs m (t .front .loops) ≡ flagsBy fs r
+    unfolding flagsOf
+    flags-as r q = ap (flagsBy fs) (across-as r q)
+
+    before : Keeps (s .mesh) (s .left) (h .built) ((e ∷ (f ∷ ps)) ∷ ws) (h .rims)
+    before = subst (λ (ls : List Ring). Keeps (s .mesh) (s .left) (h .built) ls (h .rims)) sh (h .fits .keeps)
+
+    -- border
+    at-border : Unused (vertex f) (vertex e) (s .left)
+        → Keeps (s .mesh) (s .left) (h .built) (withRing (afterBorder e f ps) ws) (withRim (afterBorder e f ps) (rimOf e f ps) (h .rims))
+        → AllGood (withRing (afterBorder e f ps) ws) → (t .front .loops .live ≡ 0 → ⊥)
+        → Concludes (moveOf xs fs ns m (t .front .loops)) (flagsOf xs fs m (t .front .loops))
+    unfolding effect
+    at-border u k gd live =
+        let none : across (vertex f) (vertex e) (s .mesh) ≡ Nothing =
+        across-none (vertex f) (vertex e) (s .mesh) (border-free (s .mesh) (s .left) (h .built) e f ps ws (h .rims) before u) in
+        let ls = withRing (afterBorder e f ps) ws in
+        let mk = effects.border-marks 0 e f ps ws in
+        let ch : choose s ≡ limited Border (packingAfter s (s .left) (s .numbered) ls) =
+        choose-border s e f ps ws ls (edge (vertex e) (vertex f)) (mk .0) sh none (mk .1) in
+        concludes-as (moveBy xs fs ns m (t .front .loops) Nothing) _ fs _ (move-as Nothing none) (flags-as Nothing none)
+        (lives Border 0 false 0 ls fs (h .built) (withRim (afterBorder e f ps) (rimOf e f ps) (h .rims))
+        (ch ∙ ap (λ (R : List Triangle). limited Border (packingAfter s R (s .numbered) ls)) (h .left))
+        (record {
+          keeps = subst (λ (R : List Triangle). Keeps (s .mesh) R (h .built) ls (withRim (afterBorder e f ps) (rimOf e f ps) (h .rims))) (h .left) k;
+          good = gd;
+          numbers = h .fits .numbers;
+          distinct = h .fits .distinct;
+        })
+        (inl (subst (λ (l : List Ring). (places ls ≤ places l) × (length ls ≤ length l)) (sym sh) (border-shrinks e f ps ws)))
+        (omega (arith, ap length (h .left))) (omega (arith, ap length (h .left))) refl (λ j z. z) (λ z. absurd (false≢true z)) (doneOf (readied (t .front) 0) m Border) (memoryOf (readied (t .front) 0) m Border)
+        (border-outcome v (length (trianglesOf xs)) (t .front) m (s .loops) (s .mostPlaces) (s .mostLoops) (h .standing) live ls (edge (vertex e) (vertex f)) (mk .0)
+        (ap (effect Border 0) sh ∙ mk .1)))
+
+    -- a triangle that is left
+    module _ (c : ℕ) (i : In (vertex f) (vertex e) c (s .left)) (p : Packed (s .mesh) (others i) (h .built) e f ps ws (h .rims) c) (gd : AllGood (p .ls)) where
+      found : Finds (vertex f) (vertex e) c (s .mesh)
+      found = across-some (vertex f) (vertex e) c (s .mesh) (h .fits .keeps .onceM) (h .fits .keeps .subR _ _ _ i)
+
+      below : c < v
+      below = packable .below c (vertex f) (vertex e) (in-next (in-next (subst (In (vertex f) (vertex e) c) (h .mesh) (h .fits .keeps .subR _ _ _ i))))
+
+      number : ℕ
+      number = found .number
+
+      flagged : List ℕ
+      flagged = set fs number 1
+
+      near : number < length (trianglesOf xs)
+      unfolding number
+      near = subst (λ (M : List Triangle). found .number < length M) (h .mesh) (found-below (vertex f) (vertex e) (s .mesh) (found .number) (found .corner) c (found .found))
+
+      dropped : dropTriangle (vertex f) (vertex e) (s .left) ≡ unbuiltOf flagged xs
+      unfolding flagged number
+      dropped =
+          let z : 0 + found .number ≡ found .number = omega arith in
+          let fd : across (vertex f) (vertex e) (trianglesOf xs) ≡ Found (found .number) (found .corner) c =
+          ap (across (vertex f) (vertex e)) (sym (h .mesh)) ∙ found .found in
+          ap (dropTriangle (vertex f) (vertex e)) (h .left)
+          ∙ sym
+          (subst (λ (k : ℕ). unbuilt (set fs k 1) 0 (trianglesOf xs) ≡ dropTriangle (vertex f) (vertex e) (unbuiltOf fs xs)) z
+          (flag-drops (vertex f) (vertex e) fs 0 (trianglesOf xs) (found .number) (found .corner) c (packable .once) fd (omega (arith, h .flags, triangles .2))))
+
+      same-left : others i ≡ unbuiltOf flagged xs
+      same-left = sym (drop-others (vertex f) (vertex e) c (s .left) i (h .fits .keeps .once)) ∙ dropped
+
+      -- what is left is fewer by one
+      less : 1 + length (unbuiltOf flagged xs) ≡ length (s .left)
+      less = omega (arith, others-length i, ap length same-left)
+
+      does : atEdge (p .o) c (vertex e) (f ∷ ps) ws ≡ effects.built (p .o) e f (p .ls) c
+      does = effects.allows (p .o) e f ps ws (p .ls) c (p .does)
+
+      edge-used : (z : ℕ) × In (vertex e) (vertex f) z (h .built)
+      edge-used = legal-used (h .built) ((e ∷ (f ∷ ps)) ∷ ws) (h .rims) (before .legal) .0 .0 .1
+
+      met-e : Met (vertex e) (h .built)
+      met-e = (vertex f, edge-used .0, edge-used .1)
+
+      met-f : Met (vertex f) (h .built)
+      met-f = (edge-used .0, vertex e, in-next (edge-used .1))
+
+      kept : Keeps (s .mesh) (unbuiltOf flagged xs) (triangleAt e f c ∷ h .built) (p .ls) (h .rims)
+      kept = subst (λ (R : List Triangle). Keeps (s .mesh) R (triangleAt e f c ∷ h .built) (p .ls) (h .rims)) same-left (p .keeps)
+
+      stays : (j : ℕ) → flagOf flagged j ≡ 0 → flagOf fs j ≡ 0
+      unfolding flagged
+      stays j z = go (eqb j number) refl
+        where
+          go : (b : Bool) → eqb j number ≡ b → flagOf fs j ≡ 0
+          go true q =
+              let w : flagOf (set fs number 1) j ≡ 1 =
+              ap (flagOf (set fs number 1)) (eqb-true j number q) ∙ getD-set-same fs number 1 0 (omega (arith, near, h .flags, triangles .2)) in
+              absurd (omega (arith, z, w))
+          go false q = sym (getD-set-other fs number j 1 0 (eqb-false j number q)) ∙ z
+
+      outcome : c + newNumbers (p .o) ≤ v
+          → Outcome v (length (trianglesOf xs)) (t .front) (p .ls) (s .mostPlaces) (s .mostLoops) 1 (doneOf (readied (t .front) c) m (p .o)) (memoryOf (readied (t .front) c) m (p .o))
+      unfolding effect
+      outcome room =
+          let d = corners (s .left) i (h .fits .keeps .once) in
+          built-outcome v (length (trianglesOf xs)) (t .front) m (s .loops) (s .mostPlaces) (s .mostLoops) (h .standing) c (omega (arith, below)) (p .o) (p .ls) (triangleAt e f c) _ _ _ _ _ _
+          (ap (effect (p .o) c) sh ∙ does) (d .0) (d .1) (d .2) room (omega (arith, less, h .count))
+
+      -- c has no number yet: new
+      at-new : ((x y : ℕ) → In c x y (h .built) → ⊥) → p .o ≡ New → Concludes (moveOf xs fs ns m (t .front .loops)) (flagsOf xs fs m (t .front .loops))
+      unfolding flagged number
+      at-new none q =
+          let no : has c (s .numbered) ≡ false = not-met (s .numbered) (h .built) (h .fits .numbers) c none in
+          let z : isNumbered ns c ≡ false =
+          ap (λ (b : Bool). elim b [ true ↦ false | false ↦ true ])
+          (eq-eqb (getD ns c 0) unnumbered (entry-read v (s .numbered) rest ns c (h .numbers) below ∙ entry-none c (s .numbered) no)) in
+          let mv : moveOf xs fs ns m (t .front .loops) ≡ record { operation = New; vertex = c; fresh = true } =
+          move-as (Found (found .number) (found .corner) c) (found .found)
+          ∙ ap (λ (b : Bool). placedBy b xs (set fs (found .number) 1) m (t .front .loops) (startOf (t .front .loops) m) (endOf (t .front .loops) m) c) z in
+          let ch : choose s ≡ limited New (packingAfter s (unbuiltOf flagged xs) (s .numbered ++ (c ∷ [])) (p .ls)) =
+          choose-new s e f ps ws (p .ls) (unbuiltOf flagged xs) c (found .number) (found .corner) sh (found .found) dropped no
+          (subst (λ (k : Operation). atEdge k c (vertex e) (f ∷ ps) ws ≡ effects.built k e f (p .ls) c) q does) in
+          concludes-as (record { operation = New; vertex = c; fresh = true }) _ flagged _ mv (flags-as (Found (found .number) (found .corner) c) (found .found))
+          (lives New c true 1 (p .ls) flagged (triangleAt e f c ∷ h .built) (h .rims) ch
+          (record {
+            keeps = kept;
+            good = gd;
+            numbers = numbered-new (s .numbered) (h .built) (triangleAt e f c) (h .fits .numbers) met-f met-e;
+            distinct = distinct-new (s .numbered) c (h .fits .distinct) no;
+          })
+          (subst (λ (l : List Ring). Grows l (p .ls)) (sym sh) (surgery-grows e f ps ws (p .ls) c (p .o) (p .does)))
+          less (omega (arith, less, length-append (s .numbered) (c ∷ []))) (length-set fs (found .number) 1) stays (λ w. (below, no))
+          (doneOf (readied (t .front) c) m New) (memoryOf (readied (t .front) c) m New)
+          (subst (λ (k : Operation). Outcome v (length (trianglesOf xs)) (t .front) (p .ls) (s .mostPlaces) (s .mostLoops) 1 (doneOf (readied (t .front) c) m k) (memoryOf (readied (t .front) c) m k)) q
+          (outcome (omega (arith, below, ap newNumbers q)))))
+
+      -- it has one: the place is chosen
+      at-old : (x : ℕ) (y : ℕ) → In c x y (h .built) → choosePlace (vertex e) (vertex f) c (others i) ((e ∷ (f ∷ ps)) ∷ ws) ≡ p .o
+          → Concludes (moveOf xs fs ns m (t .front .loops)) (flagsOf xs fs m (t .front .loops))
+      unfolding flagged number
+      at-old x y j q =
+          let yes : has c (s .numbered) ≡ true = h .fits .numbers .numbered c (x, y, j) in
+          let en : getD ns c 0 < unnumbered =
+          omega (arith, entry-read v (s .numbered) rest ns c (h .numbers) below, entry-some c (s .numbered) yes, index-below c (s .numbered) yes, numbers-few) in
+          let z : isNumbered ns c ≡ true =
+          ap (λ (b : Bool). elim b [ true ↦ false | false ↦ true ]) (ne-eqb (getD ns c 0) unnumbered (λ w. omega (arith, en, w))) in
+          let q′ : choosePlace (vertex e) (vertex f) c (unbuiltOf flagged xs) ((e ∷ (f ∷ ps)) ∷ ws) ≡ p .o =
+          ap (λ (R : List Triangle). choosePlace (vertex e) (vertex f) c R ((e ∷ (f ∷ ps)) ∷ ws)) (sym same-left) ∙ q in
+          let pl : choosePlace (startOf (t .front .loops) m) (endOf (t .front .loops) m) c (unbuiltOf flagged xs) (loopsIn maxPlaces (t .front .loops) m) ≡ p .o =
+          ap₂ (λ (k l : ℕ). choosePlace k l c (unbuiltOf flagged xs) (loopsIn maxPlaces (t .front .loops) m)) (read .start) (read .end)
+          ∙ ap (choosePlace (vertex e) (vertex f) c (unbuiltOf flagged xs)) (sym (h .standing .loops) ∙ sh) ∙ q′ in
+          let mv : moveOf xs fs ns m (t .front .loops) ≡ record { operation = p .o; vertex = c; fresh = false } =
+          move-as (Found (found .number) (found .corner) c) (found .found)
+          ∙ ap (λ (b : Bool). placedBy b xs (set fs (found .number) 1) m (t .front .loops) (startOf (t .front .loops) m) (endOf (t .front .loops) m) c) z
+          ∙ ap (λ (k : Operation). record { operation = k; vertex = c; fresh = false }) pl in
+          let ch : choose s ≡ limited (p .o) (packingAfter s (unbuiltOf flagged xs) (s .numbered) (p .ls)) =
+          choose-old s e f ps ws (p .ls) (unbuiltOf flagged xs) (p .o) c (found .number) (found .corner) sh (found .found) dropped yes q′ does in
+          let nn : newNumbers (p .o) ≡ 0 = ap newNumbers (sym q) ∙ no-new (vertex e) (vertex f) c (others i) ((e ∷ (f ∷ ps)) ∷ ws) in
+          concludes-as (record { operation = p .o; vertex = c; fresh = false }) _ flagged _ mv (flags-as (Found (found .number) (found .corner) c) (found .found))
+          (lives (p .o) c false 1 (p .ls) flagged (triangleAt e f c ∷ h .built) (h .rims) ch
+          (record {
+            keeps = kept;
+            good = gd;
+            numbers = numbered-old (s .numbered) (h .built) (triangleAt e f c) (h .fits .numbers) met-f met-e (x, y, j);
+            distinct = h .fits .distinct;
+          })
+          (subst (λ (l : List Ring). Grows l (p .ls)) (sym sh) (surgery-grows e f ps ws (p .ls) c (p .o) (p .does)))
+          less (omega (arith, less)) (length-set fs (found .number) 1) stays (λ w. absurd (false≢true w))
+          (doneOf (readied (t .front) c) m (p .o)) (memoryOf (readied (t .front) c) m (p .o))
+          (outcome (omega (arith, below, nn))))
+
+  -- the step at a live loop
+  pub live-concludes : (t .front .loops .live ≡ 0 → ⊥) → Concludes (moveOf xs fs ns m (t .front .loops)) (flagsOf xs fs m (t .front .loops))
+  live-concludes live = go (progress (s .mesh) (s .left) (h .built) (s .loops) (h .rims) (h .fits .keeps) (h .fits .good) fan)
+    where
+      none : s .loops ≡ [] → ⊥
+      none e = live (none-live maxPlaces (t .front .loops) m (ringsIn maxPlaces (t .front .loops) m) (h .standing .stands) (sym (h .standing .loops) ∙ e))
+
+      go : ((s .loops ≡ []) × (s .left ≡ [])) ⊎ Goes (s .mesh) (s .left) (h .built) (s .loops) (h .rims)
+          → Concludes (moveOf xs fs ns m (t .front .loops)) (flagsOf xs fs m (t .front .loops))
+      go (inl e) = absurd (none (e .0))
+      go (inr (by-start x R q sh k gd)) = absurd (none sh)
+      go (inr (by-build e f ps ws c i sh p (inl w) gd)) = at-new e f ps ws sh c i p gd (w .0) (w .1)
+      go (inr (by-build e f ps ws c i sh p (inr w) gd)) = at-old e f ps ws sh c i p gd (w .0 .0) (w .0 .1) (w .0 .2) (w .1)
+      go (inr (by-border e f ps ws sh u k gd)) = at-border e f ps ws sh u k gd live

@@ -1,0 +1,5 @@
+pub mod Sound
+pub mod Writing
+pub mod After
+pub mod Operating
+pub mod Lifting

@@ -1,0 +1,236 @@
+-- Two lists of records with the same first 1,024: the test of 21 says the same of both, and a state that passes is read as the same machine.
+-- Assumes nothing.
+use Prim.Native.Nat.{ℕ, zero, suc, _*_, _<_}
+use mathlib.Core.Bool.{Bool, true, false, _&&_, false≢true}
+use mathlib.Core.List.{List, [], _∷_, _++_}
+use mathlib.Core.Path.{_≡_, refl, sym, ap, ap₂, _∙_, subst}
+use lib.Dec.{eqb, ltb, leb}
+use lib.ListN.{length, getD}
+use borrow.Author.Tests.{ltb-true, eqb-true}
+use Rattle.rules.specs.declared.Place.{Place}
+use Rattle.rules.specs.declared.Builder.{Builder}
+use Rattle.rules.specs.Limits.{maxPlaces}
+use Rattle.rules.specs.Ring.{Node, Ring}
+use Rattle.rules.specs.Check.{allBelow}
+use Rattle.rules.specs.Machine.{roomy}
+use Rattle.rules.specs.Buffer.{Buffers, lengths}
+use Rattle.rules.specs.View.{placeAt, follow, followed, nodeOf, nodes, loopPlaces, placesOf, loopsOf, view}
+use Rattle.rules.specs.Test21.{countsFit, sumsFit, apart, placeFits, placesFit, loopFits, loopsFit, linksFit, trianglesFit, sound}
+use Rattle.book.proofs.Counting.{and-left, and-right}
+use Rattle.reading.proofs.Trails.{both, fit-append}
+
+-- the first n records are the same
+abbrev pub Alike : ℕ → List Place → List Place → Type 0
+Alike n ps qs = (i : ℕ) → i < n → placeAt qs i ≡ placeAt ps i
+
+pub alike-back : (n : ℕ) (ps qs : List Place) → Alike n ps qs → Alike n qs ps
+alike-back n ps qs a i h = sym (a i h)
+
+iff : (s t : Bool) → (s ≡ true → t ≡ true) → (t ≡ true → s ≡ true) → s ≡ t
+iff true t f g = sym (f refl)
+iff false true f g = g refl
+iff false false f g = refl
+
+below-left : (n : ℕ) (xs ys : List ℕ) → allBelow n (xs ++ ys) ≡ true → allBelow n xs ≡ true
+unfolding allBelow
+below-left n [] ys h = refl
+below-left n (x ∷ xs) ys h = both _ _ (and-left (ltb x n) _ h) (below-left n xs ys (and-right (ltb x n) _ h))
+
+below-right : (n : ℕ) (xs ys : List ℕ) → allBelow n (xs ++ ys) ≡ true → allBelow n ys ≡ true
+unfolding allBelow
+below-right n [] ys h = h
+below-right n (x ∷ xs) ys h = below-right n xs ys (and-right (ltb x n) _ h)
+
+fit-left : (ps : List Place) (u : ℕ) (xs ys : List ℕ) → placesFit ps u (xs ++ ys) ≡ true → placesFit ps u xs ≡ true
+unfolding placesFit
+fit-left ps u [] ys h = refl
+fit-left ps u (x ∷ xs) ys h = both _ _ (and-left (placeFits ps u x) _ h) (fit-left ps u xs ys (and-right (placeFits ps u x) _ h))
+
+fit-right : (ps : List Place) (u : ℕ) (xs ys : List ℕ) → placesFit ps u (xs ++ ys) ≡ true → placesFit ps u ys ≡ true
+unfolding placesFit
+fit-right ps u [] ys h = h
+fit-right ps u (x ∷ xs) ys h = fit-right ps u xs ys (and-right (placeFits ps u x) _ h)
+
+module _ (n : ℕ) (ps qs : List Place) (a : Alike n ps qs) where
+  -- one loop
+  after-alike : (e : ℕ) → e < n → placeAt qs e .after ≡ placeAt ps e .after
+  after-alike e h = ap (λ (p : Place). p .after) (a e h)
+
+  first-near : (k e : ℕ) → allBelow n (follow ps (suc k) e) ≡ true → e < n
+  unfolding follow allBelow
+  first-near k e h = ltb-true e n (and-left (ltb e n) _ h)
+
+  rest-below : (k e : ℕ) → allBelow n (follow ps (suc k) e) ≡ true → allBelow n (follow ps k (placeAt ps e .after)) ≡ true
+  unfolding follow allBelow
+  rest-below k e h = and-right (ltb e n) _ h
+
+  follow-alike : (k e : ℕ) → allBelow n (follow ps k e) ≡ true → follow qs k e ≡ follow ps k e
+  unfolding follow
+  follow-alike zero e h = refl
+  follow-alike (suc k) e h =
+      ap (λ (xs : List ℕ). e ∷ xs)
+      (ap (follow qs k) (after-alike e (first-near k e h)) ∙ follow-alike k (placeAt ps e .after) (rest-below k e h))
+
+  followed-alike : (k e : ℕ) → allBelow n (follow ps k e) ≡ true → followed qs k e ≡ followed ps k e
+  unfolding followed
+  followed-alike zero e h = refl
+  followed-alike (suc k) e h =
+      ap (followed qs k) (after-alike e (first-near k e h)) ∙ followed-alike k (placeAt ps e .after) (rest-below k e h)
+
+  nodes-alike : (is : List ℕ) → allBelow n is ≡ true → nodes qs is ≡ nodes ps is
+  unfolding nodes allBelow
+  nodes-alike [] h = refl
+  nodes-alike (i ∷ is) h =
+      ap₂ (λ (p : Node) (r : List Node). p ∷ r) (ap nodeOf (a i (ltb-true i n (and-left (ltb i n) _ h))))
+      (nodes-alike is (and-right (ltb i n) _ h))
+
+  -- the place after one whose walk ends below n
+  next-near : (k e : ℕ) → allBelow n (follow ps k e) ≡ true → followed ps k e < n → e < n
+  unfolding followed
+  next-near zero e h g = g
+  next-near (suc k) e h g = first-near k e h
+
+  place-alike : (u i : ℕ) → i < n → placeAt ps i .after < n → placeFits ps u i ≡ true → placeFits qs u i ≡ true
+  place-alike u i h g f =
+      ap₂ (λ (y x : ℕ). eqb y i && ltb x u)
+      (ap (λ (y : ℕ). placeAt qs y .before) (after-alike i h) ∙ ap (λ (p : Place). p .before) (a (placeAt ps i .after) g))
+      (ap (λ (p : Place). p .vertex) (a i h))
+      ∙ f
+
+  fit-alike : (u k e : ℕ) → allBelow n (follow ps k e) ≡ true → followed ps k e < n → placesFit ps u (follow ps k e) ≡ true
+      → placesFit qs u (follow ps k e) ≡ true
+  unfolding follow followed placesFit
+  fit-alike u zero e h g f = refl
+  fit-alike u (suc k) e h g f =
+      let r = rest-below k e h in
+      both _ _
+      (place-alike u e (first-near k e h) (next-near k (placeAt ps e .after) r g) (and-left (placeFits ps u e) _ f))
+      (fit-alike u k (placeAt ps e .after) r g (and-right (placeFits ps u e) _ f))
+
+  -- a loop that returns stays below n
+  loop-near : (k e : ℕ) (o : Bool) → allBelow n (follow ps k e) ≡ true → leb 1 k && eqb (followed ps k e) e && o ≡ true → e < n
+  loop-near zero e o h f = absurd (false≢true f)
+  loop-near (suc k) e o h f = first-near k e h
+
+  loop-back : (k e : ℕ) (o : Bool) → leb 1 k && eqb (followed ps k e) e && o ≡ true → followed ps k e ≡ e
+  loop-back k e o f = eqb-true (followed ps k e) e (and-right (leb 1 k) _ (and-left (leb 1 k && eqb (followed ps k e) e) o f))
+
+  loop-alike : (k e : ℕ) → allBelow n (follow ps k e) ≡ true → leb 1 k && eqb (followed ps k e) e && placeAt ps e .«open» ≡ true
+      → leb 1 k && eqb (followed qs k e) e && placeAt qs e .«open» ≡ true
+  loop-alike k e h f =
+      ap₂ (λ (x : ℕ) (o : Bool). leb 1 k && eqb x e && o) (followed-alike k e h)
+      (ap (λ (p : Place). p .«open») (a e (loop-near k e (placeAt ps e .«open») h f)))
+      ∙ f
+
+  loop-fit : (u k e : ℕ) → allBelow n (follow ps k e) ≡ true → leb 1 k && eqb (followed ps k e) e && placeAt ps e .«open» ≡ true
+      → placesFit ps u (follow ps k e) ≡ true → placesFit qs u (follow ps k e) ≡ true
+  loop-fit u k e h f g =
+      let o = placeAt ps e .«open» in
+      fit-alike u k e h (subst (λ (x : ℕ). x < n) (sym (loop-back k e o f)) (loop-near k e o h f)) g
+
+  -- the first j loops of a builder's state
+  module _ (b : Builder) where
+    first-below : (j : ℕ) → allBelow n (placesOf b ps (suc j)) ≡ true → allBelow n (loopPlaces b ps j) ≡ true
+    unfolding placesOf
+    first-below j h = below-left n (loopPlaces b ps j) (placesOf b ps j) h
+
+    others-below : (j : ℕ) → allBelow n (placesOf b ps (suc j)) ≡ true → allBelow n (placesOf b ps j) ≡ true
+    unfolding placesOf
+    others-below j h = below-right n (loopPlaces b ps j) (placesOf b ps j) h
+
+    places-alike : (j : ℕ) → allBelow n (placesOf b ps j) ≡ true → placesOf b qs j ≡ placesOf b ps j
+    unfolding placesOf
+    places-alike zero h = refl
+    places-alike (suc j) h =
+        ap₂ (λ (xs ys : List ℕ). xs ++ ys) (follow-alike (getD (b .sizes) j 0) (getD (b .current) j 0) (first-below j h))
+        (places-alike j (others-below j h))
+
+    loops-alike : (j : ℕ) → allBelow n (placesOf b ps j) ≡ true → loopsOf b qs j ≡ loopsOf b ps j
+    unfolding loopsOf
+    loops-alike zero h = refl
+    loops-alike (suc j) h =
+        ap₂ (λ (l : Ring) (ls : List Ring). l ∷ ls)
+        (ap (nodes qs) (follow-alike (getD (b .sizes) j 0) (getD (b .current) j 0) (first-below j h)) ∙ nodes-alike (loopPlaces b ps j) (first-below j h))
+        (loops-alike j (others-below j h))
+
+    loops-fit-alike : (j : ℕ) → allBelow n (placesOf b ps j) ≡ true → loopsFit b ps j ≡ true → loopsFit b qs j ≡ true
+    unfolding loopsFit
+    loops-fit-alike zero h f = refl
+    loops-fit-alike (suc j) h f =
+        both _ _ (loop-alike (getD (b .sizes) j 0) (getD (b .current) j 0) (first-below j h) (and-left (loopFits b ps j) _ f))
+        (loops-fit-alike j (others-below j h) (and-right (loopFits b ps j) _ f))
+
+    places-fit-alike : (u j : ℕ) → allBelow n (placesOf b ps j) ≡ true → loopsFit b ps j ≡ true → placesFit ps u (placesOf b ps j) ≡ true
+        → placesFit qs u (placesOf b ps j) ≡ true
+    unfolding placesOf loopsFit placesFit
+    places-fit-alike u zero h f g = refl
+    places-fit-alike u (suc j) h f g =
+        let is = loopPlaces b ps j in
+        let js = placesOf b ps j in
+        fit-append qs u is js
+        (loop-fit u (getD (b .sizes) j 0) (getD (b .current) j 0) (first-below j h) (and-left (loopFits b ps j) _ f) (fit-left ps u is js g))
+        (places-fit-alike u j (others-below j h) (and-right (loopFits b ps j) _ f) (fit-right ps u is js g))
+
+-- the four tests of the links
+record Parts (b : Builder) (ps : List Place) : Type 0 where
+  below : allBelow maxPlaces (placesOf b ps (b .live)) ≡ true
+  once : apart (placesOf b ps (b .live)) ≡ true
+  places : placesFit ps (b .used) (placesOf b ps (b .live)) ≡ true
+  loops : loopsFit b ps (b .live) ≡ true
+
+parts : (b : Builder) (ps : List Place) → linksFit b ps ≡ true → Parts b ps
+unfolding linksFit
+parts b ps h =
+    let is = placesOf b ps (b .live) in
+    let below = allBelow maxPlaces is in
+    let once = apart is in
+    let places = placesFit ps (b .used) is in
+    let three : below && once && places ≡ true = and-left (below && once && places) (loopsFit b ps (b .live)) h in
+    let two : below && once ≡ true = and-left (below && once) places three in
+    record {
+      below = and-left below once two;
+      once = and-right below once two;
+      places = and-right (below && once) places three;
+      loops = and-right (below && once && places) (loopsFit b ps (b .live)) h;
+    }
+
+module _ (ps qs : List Place) (a : Alike maxPlaces ps qs) (b : Builder) where
+  links-by : linksFit b ps ≡ true → linksFit b qs ≡ true
+  unfolding linksFit
+  links-by h =
+      let p = parts b ps h in
+      let e : placesOf b qs (b .live) ≡ placesOf b ps (b .live) = places-alike maxPlaces ps qs a b (b .live) (p .below) in
+      both _ _
+      (both _ _ (both _ _ (ap (allBelow maxPlaces) e ∙ p .below) (ap apart e ∙ p .once))
+      (ap (placesFit qs (b .used)) e ∙ places-fit-alike maxPlaces ps qs a b (b .used) (b .live) (p .below) (p .loops) (p .places)))
+      (loops-fit-alike maxPlaces ps qs a b (b .live) (p .below) (p .loops))
+
+  pub view-alike : (xs : List ℕ) → linksFit b ps ≡ true → view b xs qs ≡ view b xs ps
+  unfolding view
+  view-alike xs h t = record {
+    stated = b .stated;
+    triangles = view b xs ps .triangles;
+    loops = loops-alike maxPlaces ps qs a b (b .live) (parts b ps h .below) t;
+    used = b .used;
+    mostPlaces = b .peaks .places;
+    mostLoops = b .peaks .loops;
+    edges = b .edges;
+    starts = b .starts;
+    unions = b .unions;
+    rims = b .rims;
+  }
+
+pub links-alike : (ps qs : List Place) → Alike maxPlaces ps qs → (b : Builder) → linksFit b qs ≡ linksFit b ps
+links-alike ps qs a b = iff _ _ (links-by qs ps (alike-back maxPlaces ps qs a) b) (links-by ps qs a b)
+
+pub sound-alike : (ps qs : List Place) → Alike maxPlaces ps qs → leb maxPlaces (length qs) ≡ leb maxPlaces (length ps) → (b : Builder) (xs : List ℕ)
+    → sound b (record { triangles = xs; places = qs }) ≡ sound b (record { triangles = xs; places = ps })
+unfolding sound
+sound-alike ps qs a l b xs =
+    ap₂ (λ (r t : Bool). leb (3 * b .stated .triangles) (length xs) && r && countsFit b && sumsFit b && t && trianglesFit b xs) l (links-alike ps qs a b)
+
+pub sound-links : (b : Builder) (r : Buffers) → sound b r ≡ true → linksFit b (r .places) ≡ true
+unfolding sound
+sound-links b r h =
+    let front = roomy (lengths r) (b .stated) && countsFit b && sumsFit b in
+    and-right front (linksFit b (r .places)) (and-left (front && linksFit b (r .places)) (trianglesFit b (r .triangles)) h)

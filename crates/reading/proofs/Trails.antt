@@ -1,0 +1,182 @@
+-- Rings of places that stand in the plain memory, followed over the list of its records: they are read off, return, and fit.
+-- Assumes nothing.
+use Prim.Native.Nat.{ℕ, suc, _+_, _*_, _≤_, _<_}
+use native.Mathlib.Omega.{arith}
+use mathlib.Core.Bool.{Bool, true, false, _&&_, false≢true}
+use mathlib.Core.List.{List, [], _∷_, _++_}
+use mathlib.Core.Path.{_≡_, refl, sym, ap, ap₂, _∙_, subst}
+use lib.Dec.{eqb, ltb, leb}
+use lib.ListN.{length}
+use borrow.Author.Tests.{lt-ltb, le-leb, eq-eqb}
+use Rattle.rules.specs.declared.Place.{Place}
+use Rattle.rules.specs.Count.{num, same, occurs}
+use Rattle.rules.specs.Ring.{Node, opened, marked, Ring, vertex, isOpen, firstOpen, startOr}
+use Rattle.rules.specs.Check.{allBelow}
+use Rattle.rules.specs.View.{placeAt, follow, followed, nodeOf, nodes}
+use Rattle.rules.specs.Test21.{apart, placeFits, placesFit}
+use Rattle.book.specs.Sums.{pathSum, ringSum, loopsSum}
+use Rattle.book.specs.Numbers.{NodesBelow, LoopsBelow}
+use Rattle.book.proofs.Counting.{and-left, and-right, same-yes}
+use Rattle.links.specs.Memory.{nodeFrom, named, namedRing, namedLoops, placed, Apart}
+use Rattle.links.proofs.Named.{named-vertex}
+use Rattle.places.specs.Memory.{isOne, records}
+use Rattle.memory.specs.Layout.{at, verticesOf}
+use Rattle.memory.proofs.Columns.{column-at}
+use Rattle.memory.proofs.Standing.{Hop, Trail, Trails}
+use Rattle.reading.specs.Walks.{Walk, ringPlaces, ringsPlaces}
+use Rattle.reading.proofs.Records.{records-at}
+use Rattle.reading.proofs.Walks.{after-at, node-at}
+
+pub both : (a b : Bool) → a ≡ true → b ≡ true → a && b ≡ true
+both a b h g = ap₂ _&&_ h g
+
+num-le : (t : Bool) → num t ≤ 1
+num-le true = omega arith
+num-le false = omega arith
+
+node-same : (p : Node) → nodeFrom (num (isOpen p)) (vertex p) ≡ p
+node-same (opened v) = refl
+node-same (marked v) = refl
+
+module _ (n : ℕ) (m : List ℕ) where
+  hop-after : (x y : ℕ) (o : Bool) → Hop n m x y o → placeAt (records n m) x .after ≡ y
+  hop-after x y o h = after-at n m x (h .near) ∙ h .fore
+
+  -- a run of nodes whose last edge goes to b
+  pub trail-walk : (ps : List Node) (b : ℕ) → Trail n m ps b → Walk n m (length ps) (startOr b ps)
+  trail-walk [] b t = tt
+  trail-walk (p ∷ ps) b t = (
+    t .0 .near,
+    subst (λ (x : ℕ). x ≤ 1) (sym (t .0 .mark)) (num-le (isOpen p)),
+    subst (Walk n m (length ps)) (sym (t .0 .fore)) (trail-walk ps b (t .1)),
+  )
+
+  pub follow-trail : (ps : List Node) (b : ℕ) → Trail n m ps b → follow (records n m) (length ps) (startOr b ps) ≡ ringPlaces ps
+  unfolding follow ringPlaces
+  follow-trail [] b t = refl
+  follow-trail (p ∷ ps) b t =
+      ap (λ (xs : List ℕ). vertex p ∷ xs)
+      (ap (follow (records n m) (length ps)) (hop-after (vertex p) (startOr b ps) (isOpen p) (t .0)) ∙ follow-trail ps b (t .1))
+
+  pub followed-trail : (ps : List Node) (b : ℕ) → Trail n m ps b → followed (records n m) (length ps) (startOr b ps) ≡ b
+  unfolding followed
+  followed-trail [] b t = refl
+  followed-trail (p ∷ ps) b t =
+      ap (followed (records n m) (length ps)) (hop-after (vertex p) (startOr b ps) (isOpen p) (t .0)) ∙ followed-trail ps b (t .1)
+
+  node-trail : (p : Node) (y : ℕ) → Hop n m (vertex p) y (isOpen p) → nodeOf (placeAt (records n m) (vertex p)) ≡ named (verticesOf n m) p
+  node-trail p y h =
+      node-at n m (vertex p) (h .near) (subst (λ (x : ℕ). x ≤ 1) (sym (h .mark)) (num-le (isOpen p)))
+      ∙ ap (λ (f : ℕ). named (verticesOf n m) (nodeFrom f (vertex p))) (column-at m 3 n (vertex p) (h .near) ∙ h .mark)
+      ∙ ap (named (verticesOf n m)) (node-same p)
+
+  pub nodes-trail : (ps : List Node) (b : ℕ) → Trail n m ps b → nodes (records n m) (ringPlaces ps) ≡ namedRing (verticesOf n m) ps
+  unfolding nodes ringPlaces namedRing
+  nodes-trail [] b t = refl
+  nodes-trail (p ∷ ps) b t =
+      ap₂ (λ (q : Node) (qs : List Node). q ∷ qs) (node-trail p (startOr b ps) (t .0)) (nodes-trail ps b (t .1))
+
+  -- each place is below n; the link back agrees, and the vertex is below u
+  trail-below : (ps : List Node) (b : ℕ) → Trail n m ps b → allBelow n (ringPlaces ps) ≡ true
+  unfolding allBelow ringPlaces
+  trail-below [] b t = refl
+  trail-below (p ∷ ps) b t = both (ltb (vertex p) n) _ (lt-ltb (vertex p) n (t .0 .near)) (trail-below ps b (t .1))
+
+  start-trail : (ps : List Node) (b : ℕ) → b < n → Trail n m ps b → startOr b ps < n
+  start-trail [] b h t = h
+  start-trail (p ∷ ps) b h t = t .0 .near
+
+  vertex-at : (p : Node) → vertex p < n → placeAt (records n m) (vertex p) .vertex ≡ vertex (named (verticesOf n m) p)
+  vertex-at p h =
+      ap (λ (r : Place). r .vertex) (records-at n m (vertex p) h) ∙ ap (at m) plus ∙ sym (column-at m 0 n (vertex p) h)
+      ∙ sym (named-vertex (verticesOf n m) p)
+    where
+      plus : 4 * vertex p ≡ 4 * vertex p + 0
+      plus = omega arith
+
+  hop-fits : (u : ℕ) (p : Node) (y : ℕ) → y < n → Hop n m (vertex p) y (isOpen p) → vertex (named (verticesOf n m) p) < u
+      → placeFits (records n m) u (vertex p) ≡ true
+  hop-fits u p y l h g =
+      both _ _ (eq-eqb _ _ back) (lt-ltb _ _ (subst (λ (x : ℕ). x < u) (sym (vertex-at p (h .near))) g))
+    where
+      back : placeAt (records n m) (placeAt (records n m) (vertex p) .after) .before ≡ vertex p
+      back =
+          ap (λ (x : ℕ). placeAt (records n m) x .before) (hop-after (vertex p) y (isOpen p) h)
+          ∙ ap (λ (r : Place). r .before) (records-at n m y l) ∙ h .back
+
+  trail-fits : (u : ℕ) (ps : List Node) (b : ℕ) → b < n → Trail n m ps b → NodesBelow u (namedRing (verticesOf n m) ps)
+      → placesFit (records n m) u (ringPlaces ps) ≡ true
+  unfolding placesFit ringPlaces namedRing
+  trail-fits u [] b l t g = refl
+  trail-fits u (p ∷ ps) b l t g =
+      both _ _ (hop-fits u p (startOr b ps) (start-trail ps b l (t .1)) (t .0) (g .0)) (trail-fits u ps b l (t .1) (g .1))
+
+  -- a loop whose first edge is open
+  pub loop-fits : (l : Ring) → firstOpen l ≡ true → Trail n m l (startOr 0 l)
+      → leb 1 (length l) && eqb (followed (records n m) (length l) (startOr 0 l)) (startOr 0 l) && placeAt (records n m) (startOr 0 l) .«open» ≡ true
+  loop-fits [] h t = absurd (false≢true h)
+  loop-fits (p ∷ ps) h t =
+      both _ _ (both _ _ (le-leb 1 (suc (length ps)) (omega arith)) (eq-eqb _ _ (followed-trail (p ∷ ps) (vertex p) t))) flag
+    where
+      flag : placeAt (records n m) (vertex p) .«open» ≡ true
+      flag =
+          ap (λ (r : Place). r .«open») (records-at n m (vertex p) (t .0 .near)) ∙ ap isOne (t .0 .mark)
+          ∙ ap (λ (o : Bool). isOne (num o)) h
+
+-- two lists of places
+below-append : (n : ℕ) (xs ys : List ℕ) → allBelow n xs ≡ true → allBelow n ys ≡ true → allBelow n (xs ++ ys) ≡ true
+unfolding allBelow
+below-append n [] ys h g = g
+below-append n (x ∷ xs) ys h g = both _ _ (and-left (ltb x n) _ h) (below-append n xs ys (and-right (ltb x n) _ h) g)
+
+pub fit-append : (rs : List Place) (u : ℕ) (xs ys : List ℕ) → placesFit rs u xs ≡ true → placesFit rs u ys ≡ true → placesFit rs u (xs ++ ys) ≡ true
+unfolding placesFit
+fit-append rs u [] ys h g = g
+fit-append rs u (x ∷ xs) ys h g =
+    both _ _ (and-left (placeFits rs u x) _ h) (fit-append rs u xs ys (and-right (placeFits rs u x) _ h) g)
+
+occurs-append : (x : ℕ) (xs ys : List ℕ) → occurs x (xs ++ ys) ≡ occurs x xs + occurs x ys
+unfolding occurs
+occurs-append x [] ys = omega arith
+occurs-append x (y ∷ xs) ys = omega (arith, occurs-append x xs ys)
+
+-- no number twice
+pub apart-by : (is : List ℕ) → ((x : ℕ) → occurs x is ≤ 1) → apart is ≡ true
+unfolding apart occurs
+apart-by [] h = refl
+apart-by (i ∷ is) h =
+    both _ _ (eq-eqb (occurs i is) 0 (omega (arith, h i, same-yes i))) (apart-by is (λ x. omega (arith, h x)))
+
+occurs-ring : (x : ℕ) (ps : List Node) (b : ℕ) → occurs x (ringPlaces ps) ≡ pathSum (λ p q o. same x p) ps b
+unfolding occurs ringPlaces pathSum
+occurs-ring x [] b = refl
+occurs-ring x (p ∷ ps) b = ap (λ (k : ℕ). same x (vertex p) + k) (occurs-ring x ps b)
+
+pub occurs-rings : (x : ℕ) (rs : List Ring) → occurs x (ringsPlaces rs) ≡ placed x rs
+unfolding ringsPlaces loopsSum ringSum occurs
+occurs-rings x [] = refl
+occurs-rings x (l ∷ ls) =
+    occurs-append x (ringPlaces l) (ringsPlaces ls) ∙ ap₂ _+_ (occurs-ring x l (startOr 0 l)) (occurs-rings x ls)
+
+pub rings-apart : (rs : List Ring) → Apart rs → apart (ringsPlaces rs) ≡ true
+rings-apart rs h = apart-by (ringsPlaces rs) (λ x. omega (arith, h x, occurs-rings x rs))
+
+-- all rings
+module _ (n : ℕ) (m : List ℕ) where
+  pub rings-below : (rs : List Ring) → Trails n m rs → allBelow n (ringsPlaces rs) ≡ true
+  unfolding ringsPlaces allBelow
+  rings-below [] t = refl
+  rings-below (l ∷ ls) t = below-append n (ringPlaces l) (ringsPlaces ls) (trail-below n m l (startOr 0 l) (t .0)) (rings-below ls (t .1))
+
+  ring-fits : (u : ℕ) (l : Ring) → Trail n m l (startOr 0 l) → NodesBelow u (namedRing (verticesOf n m) l)
+      → placesFit (records n m) u (ringPlaces l) ≡ true
+  unfolding placesFit ringPlaces
+  ring-fits u [] t g = refl
+  ring-fits u (p ∷ ps) t g = trail-fits n m u (p ∷ ps) (vertex p) (t .0 .near) t g
+
+  pub rings-fit : (u : ℕ) (rs : List Ring) → Trails n m rs → LoopsBelow u (namedLoops (verticesOf n m) rs)
+      → placesFit (records n m) u (ringsPlaces rs) ≡ true
+  unfolding ringsPlaces placesFit namedLoops
+  rings-fit u [] t g = refl
+  rings-fit u (l ∷ ls) t g =
+      fit-append (records n m) u (ringPlaces l) (ringsPlaces ls) (ring-fits u l (t .0) (g .0)) (rings-fit u ls (t .1) (g .1))

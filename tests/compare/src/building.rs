@@ -1,0 +1,247 @@
+//! The building calls compared with the builder's book of the second program.
+
+use crate::{count, met, Tally};
+use compare::{Building, RECORDS};
+use cutborder::book::Book;
+use cutborder::gen;
+use cutborder::ops::{Counts, Op};
+use cutborder::rng::Rng;
+
+/// One of the three calls.
+enum Call {
+    Begin(Counts),
+    Operate(Op),
+    Finish,
+}
+
+/// A call and the buffers' lengths, from a line of the second program's protocol.
+fn parsed(line: &str) -> (Call, Option<(usize, usize)>) {
+    let w: Vec<&str> = line.split(' ').collect();
+    let n = |i: usize| w[i].parse::<u32>().expect("a number");
+    match w[0] {
+        "begin" => (Call::Begin(Counts { v: n(1), t: n(2), places: n(3), loops: n(4) }), Some((n(5) as usize, n(6) as usize))),
+        "finish" => (Call::Finish, None),
+        _ => {
+            let op = match w[1] {
+                "new" => Op::New,
+                "forward" => Op::Forward,
+                "backward" => Op::Backward,
+                "border" => Op::Border,
+                "close" => Op::Close,
+                "start" => Op::Start,
+                "split" => Op::Split(n(2)),
+                _ => Op::Union(n(2), n(3)),
+            };
+            (Call::Operate(op), None)
+        }
+    }
+}
+
+/// The builder's state and what it holds of the book, all compared.
+fn same(b: &Building, book: &Book) {
+    let s = &b.state;
+    let found = [s[4], s[6], s[7], s[8], s[9], s[10], s[11], s[12]].map(u32::from);
+    let expected =
+        [book.used, book.peak_places, book.peak_loops, book.edges(), book.starts, book.unions, book.rims, book.live.len() as u32];
+    assert_eq!(found, expected, "counts");
+    assert_eq!(b.rings(), book.live, "rings");
+    let t = 3 * book.triangles.len();
+    assert_eq!(s[5] as usize, book.triangles.len(), "triangles");
+    assert_eq!(b.triangles[..t], book.triangles.concat(), "triangle buffer");
+}
+
+/// A list of calls; the answers are counted.
+fn list(rng: &mut Rng, max_t: usize, tally: &mut Tally) -> usize {
+    let lines = gen::calls(rng, max_t);
+    let Some((entries, records)) = lines.iter().find_map(|l| parsed(l).1) else { return 0 };
+    let mut b = Building::new(entries, records, rng.below(65_536) as u16);
+    let mut book: Option<Book> = None;
+    // Never begun: 21.
+    let answer = b.operate(Op::Start);
+    assert_eq!((answer, b.finish().err()), (Err(21), Some(21)));
+    count(tally, &answer);
+    for line in &lines {
+        let before = b.clone();
+        let refused = match parsed(line).0 {
+            Call::Begin(c) => {
+                let expected = Book::begin(c, entries, records);
+                let answer = b.begin(c);
+                assert_eq!(answer, expected.as_ref().map(|_| ()).map_err(|&n| n), "{line}");
+                count(tally, &answer);
+                if let Ok(x) = expected {
+                    assert!(b.m[..RECORDS].iter().all(|&x| x == 0), "records after {line}");
+                    assert_eq!(b.triangles, before.triangles, "triangles after {line}");
+                    book = Some(x);
+                }
+                answer.is_err()
+            }
+            Call::Operate(o) => {
+                let expected = book.as_mut().map_or(Err(21), |x| x.op(o));
+                let answer = b.operate(o);
+                assert_eq!(answer, expected, "{line}");
+                count(tally, &answer);
+                answer.is_err()
+            }
+            Call::Finish => {
+                let expected = book.as_ref().map_or(Err(21), |x| x.finish());
+                let answer = b.finish();
+                assert_eq!(answer, expected, "{line}");
+                count(tally, &answer);
+                true
+            }
+        };
+        if refused {
+            assert!(b.state == before.state && b.triangles == before.triangles, "changed by {line}");
+            assert_eq!(records_of(&b), records_of(&before), "records changed by {line}");
+        }
+        if let Some(x) = &book {
+            same(&b, x);
+        }
+    }
+    lines.len()
+}
+
+fn records_of(b: &Building) -> Vec<(u16, usize, usize, bool)> {
+    (0..b.records.min(1_024)).map(|i| b.record(i)).collect()
+}
+
+pub fn lists(rng: &mut Rng, rounds: usize) -> (usize, Tally) {
+    let mut tally = Tally::new();
+    let mut n = 0;
+    for i in 0..rounds {
+        n += list(rng, [8, 30, 120, 600][i % 4], &mut tally);
+    }
+    met(&tally, &[0, 13, 14, 15, 16, 17, 18, 19, 20, 21]);
+    (n, tally)
+}
+
+/// Whether 21 lets a state pass, by its sentence.
+fn passes(b: &Building) -> bool {
+    let s = |i: usize| b.state[i] as usize;
+    let (v, t, places, loops) = (s(0), s(1), s(2), s(3));
+    let ranges = (3..=4_096).contains(&v) && (1..=8_192).contains(&t) && (3..=1_024).contains(&places) && (1..=100).contains(&loops);
+    if !ranges || b.triangles.len() < 3 * t || b.records < 1_024 {
+        return false;
+    }
+    if s(4) > v || s(5) > t || s(6) > places || s(7) > loops || s(12) > loops || (8..12).any(|i| s(i) > 3 * t) {
+        return false;
+    }
+    if (0..s(12)).map(|l| s(113 + l)).sum::<usize>() > places {
+        return false;
+    }
+    let mut met = vec![false; 1_024];
+    for l in 0..s(12) {
+        let first = s(13 + l);
+        let mut at = first;
+        if s(113 + l) == 0 || first >= 1_024 || !b.record(first).3 {
+            return false;
+        }
+        for _ in 0..s(113 + l) {
+            if at >= 1_024 || std::mem::replace(&mut met[at], true) {
+                return false;
+            }
+            let (vertex, _, after, _) = b.record(at);
+            if after >= 1_024 || b.record(after).1 != at || vertex as usize >= s(4) {
+                return false;
+            }
+            at = after;
+        }
+        if at != first {
+            return false;
+        }
+    }
+    b.triangles[..3 * s(5)].iter().all(|&x| (x as usize) < s(4))
+}
+
+/// A change of a state, its records or its triangles.
+fn damage(rng: &mut Rng, b: &mut Building) {
+    let near = |rng: &mut Rng, x: u16| match rng.below(6) {
+        0 => rng.below(65_536) as u16,
+        1 => rng.below(1_100) as u16,
+        2 => 0,
+        3 => x.wrapping_sub(1),
+        _ => x.wrapping_add(1),
+    };
+    match rng.below(5) {
+        0 => {
+            let i = rng.below(13);
+            b.state[i] = near(rng, b.state[i]);
+        }
+        1 => {
+            let i = [13, 113][rng.below(2)] + rng.below((b.state[12] as usize).clamp(1, 100));
+            b.state[i] = near(rng, b.state[i]);
+        }
+        2 | 3 => {
+            let live = (b.state[12] as usize).clamp(1, 100);
+            let mut at = b.state[13 + rng.below(live)] as usize % 1_024;
+            for _ in 0..rng.below(4) {
+                at = b.record(at).2 % 1_024;
+            }
+            let field = rng.below(4);
+            b.m[4 * at + field] = if field == 3 { 1 - b.m[4 * at + 3].min(1) } else { near(rng, b.m[4 * at + field]) };
+        }
+        _ => {
+            if !b.triangles.is_empty() {
+                let i = rng.below(b.triangles.len());
+                b.triangles[i] = near(rng, b.triangles[i]);
+            }
+        }
+    }
+}
+
+/// A state that is built up, damaged, and called once more.
+fn damaged_call(rng: &mut Rng, tally: &mut Tally) -> bool {
+    let size = rng.range(1, 30);
+    let w = gen::walk(rng, size, 100);
+    let mut c = w.counts();
+    c.v = (c.v + rng.below(3) as u32).clamp(3, 4_096);
+    c.t = (c.t + rng.below(3) as u32).clamp(1, 8_192);
+    c.places = (c.places + rng.below(3) as u32).clamp(3, 1_024);
+    c.loops = (c.loops + rng.below(2) as u32).clamp(1, 100);
+    let mut b = Building::new(3 * c.t as usize, 1_024, 0);
+    let mut book = Book::empty(c);
+    b.begin(c).expect("a beginning");
+    for &o in &w.ops[..rng.below(w.ops.len() + 1)] {
+        let built = book.op(o).expect("an operation");
+        assert_eq!(b.operate(o), Ok(built));
+    }
+    let built = b.triangles.clone();
+    for _ in 0..rng.range(1, 2) {
+        damage(rng, &mut b);
+    }
+    let before = b.clone();
+    let passes = passes(&b);
+    let op = if rng.chance(1, 2) && w.ops.len() > book.triangles.len() { w.ops[rng.below(w.ops.len())] } else { [Op::New, Op::Border, Op::Forward, Op::Backward, Op::Split(2), Op::Union(1, 0), Op::Close, Op::Start][rng.below(8)] };
+    if !passes {
+        assert_eq!(b.finish(), Err(21), "finish of {:?}", before.state);
+        let answer = b.operate(op);
+        assert_eq!(answer, Err(21), "{op:?} on {:?}", before.state);
+        count(tally, &answer);
+    } else {
+        // The book with what the state says; its edges are those of the triangles that were built.
+        let rings = b.rings();
+        book.counts = Counts { v: b.state[0].into(), t: b.state[1].into(), places: b.state[2].into(), loops: b.state[3].into() };
+        book.used = b.state[4].into();
+        book.live = rings.clone();
+        let comparable = b.triangles == built && b.state[5] as usize == book.triangles.len() && rings.first().map_or(true, |r| r.len() > 1);
+        let expected = comparable.then(|| book.test(op));
+        let answer = b.operate(op);
+        assert_ne!(answer, Err(21), "{op:?} on {:?}", before.state);
+        if let Some(n) = expected {
+            assert_eq!(answer.map_or_else(|n| n, |_| 0), n, "{op:?} on {:?}", before.state);
+        }
+        count(tally, &answer);
+    }
+    if !passes || b.state == before.state {
+        assert!(b.state == before.state && b.triangles == before.triangles, "changed");
+        assert_eq!(records_of(&b), records_of(&before), "records changed");
+    }
+    passes
+}
+
+pub fn damaged(rng: &mut Rng, rounds: usize) -> (usize, usize, Tally) {
+    let mut tally = Tally::new();
+    let passed = (0..rounds).filter(|_| damaged_call(rng, &mut tally)).count();
+    met(&tally, &[0, 16, 17, 18, 21]);
+    (rounds, passed, tally)
+}
