@@ -4,9 +4,11 @@ from bridge import bridge
 
 bridge('service', 'unpack(pack: &[u8], triangles: &mut [u16], places: &mut [Place]) -> Unpacked',
        core='unpacker::unpack_on', promise='Calls.UnpacksOn', law='Laws.unpacks')
+bridge('service', 'pack(v: usize, list: &[u16], numbering: &mut [u16], room: &mut [u8], places: &mut [Place]) -> Packed',
+       core='packer::pack_on', promise='packing::Lent.PackedOn', law='PackLaws.packs')
 bridge('service', 'begin(stated: Counts, triangles: &mut [u16], places: &mut [Place]) -> Begun',
        core='calls::begin::begin_on', promise='finishing::Promises.BeginsOn', law='Laws.begins-as')
 bridge('service', 'operation(state: Builder, op: Operation, triangles: &mut [u16], places: &mut [Place]) -> Performed',
-       core='builder::operation_on', promise='performing::Performing.OperatesOn', law='Laws.operates-as', asks='Laws.loaded-fits')
+       core='calls::operation::operation_on', promise='performing::Performing.OperatesOn', law='Laws.operates-as', asks='Laws.loaded-fits')
 bridge('service', 'finish(state: Builder, triangles: &[u16], places: &[Place]) -> Finished',
        core='calls::finish::finish_on', promise='finishing::Promises.FinishesOn', law='Laws.finishes-as', asks='Laws.loaded-fits')

@@ -1,9 +1,9 @@
 // The building calls. A builder's state is 213 numbers: the four counts stated, vertices, triangles, both peaks, edges, starts,
 // unions, rims, live loops, then the loops' current places and their sizes.
 use crate::operation_of;
-use builder::operation_on;
 use calls::begin::begin_on;
 use calls::finish::finish_on;
+use calls::operation::operation_on;
 use places::Memory;
 use places::count;
 use places::settle;

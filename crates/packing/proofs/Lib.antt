@@ -12,3 +12,4 @@ pub mod Stepping
 pub mod Running
 pub mod Ways
 pub mod Ending
+pub mod Lending

@@ -36,7 +36,7 @@ use Rattle.performing.proofs.Lifting.{operates-lent, finishes-same}
 use Rattle.service.specs.Calls.{UnpacksOn, Unpacks}
 
 -- of a list's length only whether it is 1,024 counts
-counted-long : (k : ℕ) → leb maxPlaces k ≡ leb maxPlaces (countOf k)
+pub counted-long : (k : ℕ) → leb maxPlaces k ≡ leb maxPlaces (countOf k)
 unfolding countOf
 counted-long k = go (ltb k maxPlaces) refl
   where
@@ -65,7 +65,7 @@ snoc-replicate : (n : ℕ) (p : Place) → replicate n p ++ (p ∷ []) ≡ repli
 snoc-replicate zero p = refl
 snoc-replicate (suc n) p = ap (λ (ps : List Place). p ∷ ps) (snoc-replicate n p)
 
-records-zero : (n : ℕ) (m : List ℕ) → n ≤ maxPlaces → take recordNumbers m ≡ replicate recordNumbers 0 → records n m ≡ replicate n freePlace
+pub records-zero : (n : ℕ) (m : List ℕ) → n ≤ maxPlaces → take recordNumbers m ≡ replicate recordNumbers 0 → records n m ≡ replicate n freePlace
 unfolding records
 records-zero zero m h e = refl
 records-zero (suc n) m h e =

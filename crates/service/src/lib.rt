@@ -1,5 +1,5 @@
 // The service's calls over a lent list of place records. Each loads the records into a plain memory, calls the core that works
-// there, and saves them. The contracts cite specs/Calls.antt, and of the crate building specs/Promised.antt, on which demand 3 rests.
+// there, and saves them. The contracts cite specs/Calls.antt and specs/Packing.antt, and of the crate building specs/Promised.antt, on which demand 3 rests.
 use places::count;
 use places::empty;
 use places::load;
@@ -9,11 +9,13 @@ use rules::Builder;
 use rules::Counts;
 use rules::Finished;
 use rules::Operation;
+use rules::Packed;
 use rules::Performed;
 use rules::Place;
 use rules::Unpacked;
 ghost use Rattle.building.specs.Promised.{Beginning, Operating, Finishing};
 ghost use Rattle.service.specs.Calls.{Unpacks};
+ghost use Rattle.service.specs.Packing.{Packs};
 
 // Unpacks any bytes: refusals 12 to 20, or the model, whose triangles then stand in the first entries as built. Past 14 the first
 // 1,024 place records are left zero; after 12 to 14 nothing has changed.
@@ -24,6 +26,26 @@ pub fn unpack(pack: &[u8], triangles: &mut [u16], places: &mut [Place]) -> Unpac
     let mut m = empty();
     load(places, &mut m, n);
     let r = unpacker::unpack_on(pack, triangles, &mut m, n);
+    save(&m, places, n);
+    r
+}
+
+// Packs any list of a model of v vertices: refusals 1 to 11, or the pack's length. Then the pack stands in the first bytes of the pack
+// buffer, and for each old vertex the numbering buffer holds the new number. After 9 to 11 the first v numbering entries and the
+// whole pack buffer are zero. Past 8 the first 1,024 place records are left zero; after 1 to 8 nothing has changed.
+pub fn pack(
+    v: usize,
+    list: &[u16],
+    numbering: &mut [u16],
+    room: &mut [u8],
+    places: &mut [Place],
+) -> Packed
+    ensures { λ r. ⌜ Packs v (now (list .entry)) (now (numbering .entry)) (now (room .entry)) (now (places .entry)) r (now (numbering .exit)) (now (room .exit)) (now (places .exit)) ⌝ }
+{
+    let n = count(places.len());
+    let mut m = empty();
+    load(places, &mut m, n);
+    let r = packer::pack_on(v, list, numbering, room, &mut m, n);
     save(&m, places, n);
     r
 }
@@ -54,7 +76,7 @@ pub fn operation(
     let n = count(places.len());
     let mut m = empty();
     load(places, &mut m, n);
-    let r = builder::operation_on(state, op, triangles, &mut m, n);
+    let r = calls::operation::operation_on(state, op, triangles, &mut m, n);
     save(&m, places, n);
     r
 }

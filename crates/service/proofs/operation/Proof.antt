@@ -75,10 +75,10 @@ use Rattle.places.proofs.load as load′
 use Rattle.places.proofs.load.Symbol as load-def
 use Rattle.places.proofs.load.Symbol.{name as #load}
 use Rattle.places.proofs.load.Met as load-thm
-use Rattle.builder.proofs.operation_on as core′
-use Rattle.builder.proofs.operation_on.Symbol as core-def
-use Rattle.builder.proofs.operation_on.Symbol.{name as #core}
-use Rattle.builder.proofs.operation_on.Met as core-thm
+use Rattle.calls.proofs.operation.operation_on as core′
+use Rattle.calls.proofs.operation.operation_on.Symbol as core-def
+use Rattle.calls.proofs.operation.operation_on.Symbol.{name as #core}
+use Rattle.calls.proofs.operation.operation_on.Met as core-thm
 use Rattle.places.proofs.save as save′
 use Rattle.places.proofs.save.Symbol as save-def
 use Rattle.places.proofs.save.Symbol.{name as #save}
@@ -357,5 +357,5 @@ operation-spec 𝓤 H 𝓜 𝓖 𝓡 =
     (cited 𝓤 H (Count 𝓤 H (𝓖 .A) (𝓜 .mem) (𝓡 .run)) 𝓜 𝓡 code.env #count count-def.routine code.calls-places·count (count-thm.met 𝓤 H 𝓜 𝓖 𝓡))
     (cited 𝓤 H (Empty 𝓤 H (𝓖 .A) (𝓜 .mem) (𝓡 .run)) 𝓜 𝓡 code.env #empty empty-def.routine code.calls-places·empty (empty-thm.met 𝓤 H 𝓜 𝓖 𝓡))
     (cited 𝓤 H (Load 𝓤 H (𝓖 .A) (𝓜 .mem) (𝓡 .run)) 𝓜 𝓡 code.env #load load-def.routine code.calls-places·load (load-thm.met 𝓤 H 𝓜 𝓖 𝓡))
-    (cited 𝓤 H (Core 𝓤 H (𝓖 .A) (𝓜 .mem) (𝓡 .run)) 𝓜 𝓡 code.env #core core-def.routine code.calls-builder·operation-on (core-thm.met 𝓤 H 𝓜 𝓖 𝓡))
+    (cited 𝓤 H (Core 𝓤 H (𝓖 .A) (𝓜 .mem) (𝓡 .run)) 𝓜 𝓡 code.env #core core-def.routine code.calls-calls·operation·operation-on (core-thm.met 𝓤 H 𝓜 𝓖 𝓡))
     (cited 𝓤 H (Save 𝓤 H (𝓖 .A) (𝓜 .mem) (𝓡 .run)) 𝓜 𝓡 code.env #save save-def.routine code.calls-places·save (save-thm.met 𝓤 H 𝓜 𝓖 𝓡)))

@@ -6,7 +6,7 @@ use Rattle.capi.proofs.building.service_operate.Statement.{statement}
 use Rattle.capi.proofs.building.service_operate.Tie as tie
 use Rattle.capi.proofs.building.service_operate.Reads as reads
 use Rattle.capi.proofs.building.service_operate.Lts as lts
-use Rattle.builder.proofs.operation_on.Reads as operation-on-reads
+use Rattle.calls.proofs.operation.operation_on.Reads as operation-on-reads
 use Rattle.capi.proofs.building.state_of.Reads as state-of-reads
 use Rattle.capi.proofs.building.store_state.Reads as store-state-reads
 use Rattle.capi.proofs.building.store_triangle.Reads as store-triangle-reads

@@ -1,10 +1,10 @@
--- `builder::operate` meets its contract: what is decided is what the machine does.
+-- `calls::operation::operate` meets its contract: what is decided is what the machine does.
 -- Assumes nothing.
 use mathlib.Core.Path.{sym, _∙_}
 use Rattle.performing.proofs.Operating.{decision-refused, mark-live, marked-live, edge-marked}
 use borrow.Author.Needs.{needs}
-use Rattle.builder.proofs.operate.Statement.{statement}
-use Rattle.builder.proofs.operate.Tie as tie
+use Rattle.calls.proofs.operation.operate.Statement.{statement}
+use Rattle.calls.proofs.operation.operate.Tie as tie
 
 decide-requires : tie.Need-decide-requires
 decide-requires c κs = search needs

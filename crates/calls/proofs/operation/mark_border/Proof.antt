@@ -1,12 +1,12 @@
--- `builder::mark_border` meets its contract: the edge is marked, and the state is given back.
+-- `calls::operation::mark_border` meets its contract: the edge is marked, and the state is given back.
 -- Assumes nothing.
 use mathlib.Core.Path.{sym, subst}
 use Prim.Native.Nat.{_≤_}
 use Rattle.memory.specs.declared.Front.{Front}
 use Rattle.performing.proofs.Operating.{marked-given}
 use borrow.Author.Needs.{needs}
-use Rattle.builder.proofs.mark_border.Statement.{statement}
-use Rattle.builder.proofs.mark_border.Tie as tie
+use Rattle.calls.proofs.operation.mark_border.Statement.{statement}
+use Rattle.calls.proofs.operation.mark_border.Tie as tie
 
 mark-requires : tie.Need-mark-requires
 mark-requires c κs = search needs

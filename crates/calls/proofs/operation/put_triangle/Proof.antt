@@ -1,11 +1,11 @@
--- `builder::put_triangle` meets its contract: three stores.
+-- `calls::operation::put_triangle` meets its contract: three stores.
 -- Assumes nothing.
 use native.Mathlib.Omega.{arith}
 use lib.ListN.{length-set}
 use Rattle.performing.proofs.Writing.{stored-is}
 use borrow.Author.Needs.{needs}
-use Rattle.builder.proofs.put_triangle.Statement.{statement}
-use Rattle.builder.proofs.put_triangle.Tie as tie
+use Rattle.calls.proofs.operation.put_triangle.Statement.{statement}
+use Rattle.calls.proofs.operation.put_triangle.Tie as tie
 
 mul-i : tie.Need-mul-i
 mul-i c = search needs

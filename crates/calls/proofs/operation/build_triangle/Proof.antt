@@ -1,9 +1,9 @@
--- `builder::build_triangle` meets its contract: 18 leaves all as it was; else buffer and memory hold the triangle.
+-- `calls::operation::build_triangle` meets its contract: 18 leaves all as it was; else buffer and memory hold the triangle.
 -- Assumes nothing.
 use Rattle.performing.proofs.Operating.{rule-room, rule-fails, write-room, built-live, triangle-built}
 use borrow.Author.Needs.{needs}
-use Rattle.builder.proofs.build_triangle.Statement.{statement}
-use Rattle.builder.proofs.build_triangle.Tie as tie
+use Rattle.calls.proofs.operation.build_triangle.Statement.{statement}
+use Rattle.calls.proofs.operation.build_triangle.Tie as tie
 
 edge-rule-requires : tie.Need-edge-rule-requires
 edge-rule-requires c κs =

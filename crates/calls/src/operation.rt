@@ -1,4 +1,4 @@
-// The core of the building operation: a state is tested (21), the operation is decided, the edge rule is tested, and then it is done.
+// A building operation: a state is tested (21), the operation is decided, the edge rule is tested, and then it is done.
 // What the contracts cite stands in the crate performing.
 use border::build;
 use border::decide;

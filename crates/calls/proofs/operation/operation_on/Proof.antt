@@ -1,9 +1,9 @@
--- `builder::operation_on` meets its contract: 21, or the operation on the state that has passed it.
+-- `calls::operation::operation_on` meets its contract: 21, or the operation on the state that has passed it.
 -- Assumes nothing.
 use Rattle.performing.proofs.Operating.{opens-failed, opens-passed, opened, from-open}
 use borrow.Author.Needs.{needs}
-use Rattle.builder.proofs.operation_on.Statement.{statement}
-use Rattle.builder.proofs.operation_on.Tie as tie
+use Rattle.calls.proofs.operation.operation_on.Statement.{statement}
+use Rattle.calls.proofs.operation.operation_on.Tie as tie
 
 open-requires : tie.Need-open-requires
 open-requires c κs = c .before .before .before .pre
