@@ -10,8 +10,11 @@ use std::path::Path;
 const PACKS: &str = include_str!("../../../../reference/vectors/packs.txt");
 const CALLS: &str = include_str!("../../../../reference/vectors/calls.txt");
 
+/// M2 of the paper.
+const M2: [u16; 12] = [0, 1, 2, 1, 0, 3, 2, 1, 3, 0, 2, 3];
+
 /// A program's input and the output that is expected.
-fn store(folder: &Path, program: &str, input: &[u8], output: &str) {
+fn store(folder: &Path, program: &str, input: &[u8], output: &[u8]) {
     let at = folder.join(program);
     fs::create_dir_all(&at).expect("a folder");
     fs::write(at.join("stdin"), input).expect("stdin");
@@ -51,7 +54,10 @@ fn main() {
     };
     let mut second = Service::new(Engine::Plain);
     let (input, output) = packs(&mut second);
-    store(Path::new(&folder), "packs", &input, &output);
+    store(Path::new(&folder), "packs", &input, output.as_bytes());
     let (input, output) = calls();
-    store(Path::new(&folder), "build", input.as_bytes(), &output);
+    store(Path::new(&folder), "build", input.as_bytes(), output.as_bytes());
+    let (bytes, _) = second.pack(4, &M2).expect("an accepted list");
+    store(Path::new(&folder), "pack", b"4\n0 1 2\n1 0 3\n2 1 3\n0 2 3\n", &bytes);
+    store(Path::new(&folder), "unpack", &bytes, second.program(&bytes).as_bytes());
 }
