@@ -7,10 +7,10 @@ use Rattle.rules.specs.declared.Counts.{Counts}
 use Rattle.rules.specs.Limits.{inRange}
 use Rattle.rules.specs.Machine.{Machine, empty, Step, refused, begun, built, declared, finished, Rooms, beginning, finish}
 use Rattle.rules.specs.Book.{Call, begin, operate, end, Book, recounted, emptyBook, entered, after, afterAll, isAccepted}
-use Rattle.book.specs.Consistent.{Consistent, Possible}
-use Rattle.book.specs.Promises.{reached}
+use Rattle.book.specs.Consistent.{Consistent}
+use Rattle.book.specs.Reached.{reached}
 use Rattle.book.proofs.Kept.{test-law, kept, empty-consistent}
-use Rattle.book.proofs.Bounds.{Bounded, bounded-ranges, bounded-kept, empty-bounded}
+use Rattle.book.proofs.Bounds.{Bounded, bounded-kept, empty-bounded}
 
 -- a beginning that is accepted
 pub record Begun (s : Counts) (x : Step) : Type 0 where
@@ -88,6 +88,3 @@ holds-all r b k (c ∷ cs) = holds-all r (after r b c) (holds-kept r b k c) cs
 -- an accepted beginning, then any list of calls
 pub holds-after : (r : Rooms) (s : Counts) → isAccepted (beginning r s) ≡ true → (cs : List Call) → Holds (afterAll r (emptyBook s) cs)
 holds-after r s ok cs = holds-all r (emptyBook s) (empty-holds s (begins-empty r s ok .range)) cs
-
-pub possible : (b : Book) → Holds b → Possible (b .machine)
-possible b k = record { borders = b .borders; consistent = k .consistent; ranges = bounded-ranges b (k .bounded) }

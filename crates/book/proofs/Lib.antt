@@ -5,9 +5,7 @@ pub mod Numbers
 pub mod Kept
 pub mod Bounds
 pub mod Calls
-pub mod Answers
 pub mod Euler
-pub mod Demand
+pub mod Open
 pub mod EdgeRule
-pub mod Ideal
 pub mod Below

@@ -69,9 +69,3 @@ pub record Ranges (m : Machine) : Type 0 where
   pub starts : m .starts ≤ 3 * m .stated .triangles
   pub unions : m .unions ≤ 3 * m .stated .triangles
   pub rims : m .rims ≤ 3 * m .stated .triangles
-
--- a machine that some book with all this has
-pub record Possible (m : Machine) : Type 0 where
-  pub borders : List Edge
-  pub consistent : Consistent (record { machine = m; borders = borders })
-  pub ranges : Ranges m

@@ -2,5 +2,4 @@ pub mod Sums
 pub mod Below
 pub mod Consistent
 pub mod Numbers
-pub mod Promises
-pub mod Demand
+pub mod Reached

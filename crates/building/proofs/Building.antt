@@ -25,7 +25,7 @@ use Rattle.book.specs.Sums.{openEdges}
 use Rattle.book.specs.Consistent.{openIf, modelOpen}
 use Rattle.book.proofs.Counting.{and-right}
 use Rattle.book.proofs.Calls.{Holds, empty-holds, holds-kept, holds-after, begins-empty, refused-same, finish-same}
-use Rattle.book.proofs.Demand.{open-edges-exact}
+use Rattle.book.proofs.Open.{open-edges-exact}
 use Rattle.book.proofs.Euler.{euler-signed}
 use Rattle.building.specs.Building.{World, buffersOf, roomsOf, Called, Run, Replayed, KeepsTheBook, BuildersBook}
 use Rattle.building.proofs.OpenEdges.{open-recorded}

@@ -27,7 +27,7 @@ use Rattle.rules.specs.View.{view, trianglesBuilt, placesOf, loopsOf}
 use Rattle.rules.specs.Test21.{sizesOf, countsFit, sumsFit, apart, placesFit, loopsFit, linksFit, trianglesFit, sound}
 use Rattle.rules.specs.Build.{viewed, operates, begunBuilder, begunBuffers, BegunBy, withTriangle, Operated}
 use Rattle.book.specs.Consistent.{Ranges}
-use Rattle.book.specs.Promises.{reached}
+use Rattle.book.specs.Reached.{reached}
 use Rattle.book.proofs.Counting.{and-left, and-right}
 use Rattle.book.proofs.Kept.{test-law}
 use Rattle.book.proofs.Bounds.{bounded-ranges}

@@ -12,7 +12,7 @@ use Rattle.rules.specs.Triangle.{tri, edge}
 use Rattle.rules.specs.Table.{edgeRule}
 use Rattle.rules.specs.Machine.{Machine, Step, refused, built, declared, test, operation}
 use Rattle.book.specs.Consistent.{Ranges}
-use Rattle.book.specs.Promises.{reached}
+use Rattle.book.specs.Reached.{reached}
 use Rattle.memory.specs.declared.Front.{Front}
 use Rattle.memory.specs.declared.Plan.{Plan}
 use Rattle.memory.specs.declared.Decided.{Decided}

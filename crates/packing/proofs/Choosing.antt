@@ -1,10 +1,10 @@
 -- A packing that is held at a live loop can be chosen from.
 -- Assumes nothing.
-use Prim.Native.Nat.{ℕ, suc, _+_, _*_, _≤_, _<_}
+use Prim.Native.Nat.{ℕ, _≤_, _<_}
 use native.Mathlib.Omega.{arith}
 use mathlib.Core.Bool.{Bool, true, false}
-use mathlib.Core.List.{List, [], _∷_, _++_}
-use mathlib.Core.Path.{_≡_, refl, sym, ap, ap₂, _∙_, subst}
+use mathlib.Core.List.{List, [], _∷_}
+use mathlib.Core.Path.{_≡_, refl, sym, ap, _∙_, subst}
 use mathlib.Core.Logic.{_⊎_, inl, inr}
 use lib.ListN.{length, set, length-append}
 use lib.Seq.{getD-set-same}
@@ -23,7 +23,7 @@ use Rattle.fans.proofs.Corners.{in-next}
 use Rattle.gap.specs.Turn.{Unused}
 use Rattle.gap.specs.Spots.{OpenAt, Unique}
 use Rattle.gap.proofs.Bools.{and-true}
-use Rattle.gap.proofs.Turning.{Finds, across-some, across-none, look}
+use Rattle.gap.proofs.Turning.{across-some, across-none, look}
 use Rattle.gap.proofs.Standing.{legal-used}
 use Rattle.gap.proofs.Steps.{Keeps, packs}
 use Rattle.gap.proofs.Canonical.{open-used}
@@ -33,11 +33,8 @@ use Rattle.gap.proofs.Progress.{AllGood}
 use Rattle.gap.proofs.Accepted.{Packable, accepted-packable}
 use Rattle.chains.specs.Chains.{Linked}
 use Rattle.roundtrip.proofs.Fitting.{accepted-count}
-use Rattle.memory.specs.declared.Loops.{Loops}
-use Rattle.memory.specs.Stands.{ringsIn, loopsIn}
-use Rattle.choosing.specs.Choosable.{flagOf, Choosable}
+use Rattle.memory.specs.Stands.{ringsIn}
 use Rattle.packing.specs.declared.Course.{Course}
-use Rattle.packing.specs.declared.Move.{Move}
 use Rattle.packing.specs.Numbers.{entries}
 use Rattle.packing.specs.Course.{Holds, startOf, endOf, isNumbered, placedBy, moveBy, moveOf, FoundNear, Chooses}
 use Rattle.packing.proofs.Numbers.{entries-length}

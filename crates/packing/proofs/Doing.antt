@@ -1,44 +1,42 @@
 -- An operation on the loops of a packing comes to what the table says: the loops after it, or it would exceed a limit.
 -- Assumes nothing.
-use Prim.Native.Nat.{ℕ, zero, suc, _+_, _*_, _≤_, _<_, max}
+use Prim.Native.Nat.{ℕ, zero, suc, _+_, _≤_, max}
 use native.Mathlib.Omega.{arith}
 use mathlib.Core.Bool.{Bool, true, false, _&&_, not, false≢true}
-use mathlib.Core.List.{List, [], _∷_}
-use mathlib.Core.Path.{_≡_, refl, sym, ap, ap₂, _∙_, subst}
+use mathlib.Core.List.{List}
+use mathlib.Core.Path.{_≡_, refl, sym, ap, _∙_, subst}
 use lib.ListN.{length, replicate, length-replicate}
 use lib.Dec.{eqb, leb}
-use borrow.Author.Tests.{eqb-true, leb-true, leb-false, le-leb, eq-eqb, ne-eqb}
+use borrow.Author.Tests.{eqb-true, leb-true, eq-eqb, ne-eqb}
 use Rattle.rules.specs.declared.Triangle.{Triangle}
 use Rattle.rules.specs.declared.Counts.{Counts}
 use Rattle.rules.specs.declared.Operation.{Operation}
 use Rattle.rules.specs.declared.Operation.the-variants.{Border}
-use Rattle.rules.specs.Limits.{maxPlaces, maxLoops, maxTriangles, minVertices, maxVertices, between, vertexRange, inRange}
+use Rattle.rules.specs.Limits.{maxPlaces, maxLoops, maxTriangles, between, vertexRange, inRange}
 use Rattle.rules.specs.Triangle.{tri, distinct, Edge, edge, edgesOf}
-use Rattle.rules.specs.Count.{count, unjoined}
+use Rattle.rules.specs.Count.{count}
 use Rattle.rules.specs.Ring.{Ring, places}
-use Rattle.rules.specs.Table.{Side, glued, fresh, Effect, builds, marks, effect, sideRule, edgeRule}
+use Rattle.rules.specs.Table.{Side, glued, fresh, builds, marks, effect, sideRule, edgeRule}
 use Rattle.rules.specs.Machine.{Machine, afterBuild, afterMark, Step, refused, built, declared, test, within, done, operation}
 use Rattle.book.specs.Consistent.{Ranges}
 use Rattle.book.proofs.Counting.{no-from, no-to}
 use Rattle.fans.proofs.Counting.{and-both}
 use Rattle.gap.proofs.Bools.{and-true}
-use Rattle.gap.proofs.Operating.{Room, within-of}
+use Rattle.gap.proofs.Operating.{within-of}
 use Rattle.memory.specs.declared.Front.{Front}
 use Rattle.memory.specs.declared.Plan.{Plan}
 use Rattle.memory.specs.declared.Decided.{Decided}
 use Rattle.memory.specs.declared.Decided.the-variants as D
-use Rattle.memory.specs.Stands.{ringsIn, loopsIn}
+use Rattle.memory.specs.Stands.{ringsIn}
 use Rattle.memory.specs.Layout.{verticesOf}
-use Rattle.memory.specs.Moves.{markedHeld}
-use Rattle.memory.specs.Decision.{borderPlan, proposedBy, proposed, decidedBy, decided, sideOf, heldAfter, builtFront, markedFront}
+use Rattle.memory.specs.Decision.{borderPlan, proposedBy, proposed, decidedBy, decided, builtFront, markedFront}
 use Rattle.memory.specs.Keeps.{Keeps, Ready, Decides, BuildsIt, MarksIt}
 use Rattle.memory.proofs.Room.{room}
 use Rattle.memory.proofs.Counts.{places-named}
 use Rattle.memory.proofs.Deciding.{decides}
 use Rattle.memory.proofs.Ready.{ready}
-use Rattle.packing.specs.declared.Done.{Done}
-use Rattle.packing.specs.declared.Done.the-variants.{Going, Refused}
-use Rattle.packing.specs.Doing.{statedFor, readied, refusalAt, doneBy, memoryBy, doneOf, memoryOf, Standing, Outcome}
+use Rattle.packing.specs.declared.Done.the-variants.{Refused}
+use Rattle.packing.specs.Doing.{readied, doneBy, memoryBy, doneOf, memoryOf, Standing, Outcome}
 
 -- the triangles of the machine do not matter: they join nothing
 abbrev joinless : ℕ → List Triangle

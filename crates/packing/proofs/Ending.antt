@@ -3,50 +3,46 @@
 use Prim.Native.Nat.{ℕ, zero, suc, _+_, _-_, _*_, _/_, _≤_, _<_}
 use native.Mathlib.Omega.{arith}
 use mathlib.Core.Bool.{Bool, true, false, _&&_}
-use mathlib.Core.List.{List, [], _∷_, _++_, append-nil}
+use mathlib.Core.List.{List, [], _++_}
 use mathlib.Core.Path.{_≡_, refl, sym, ap, ap₂, _∙_, subst}
-use lib.ListN.{length, getD, take, drop, replicate, length-append, length-replicate, getD-replicate, List·getD-eq-default, drop-of-length-le}
+use lib.ListN.{length, drop, replicate, length-replicate, drop-of-length-le}
 use lib.Dec.{leb}
-use borrow.Author.Tests.{leb-true, le-leb, lt-leb, leb-false}
-use Rattle.rules.specs.declared.Triangle.{Triangle}
+use borrow.Author.Tests.{leb-true, le-leb, lt-leb}
 use Rattle.rules.specs.declared.Counts.{Counts}
 use Rattle.rules.specs.declared.Packed.{Packed}
 use Rattle.rules.specs.declared.Checked.{Checked}
 use Rattle.rules.specs.declared.Checked.the-variants as C
 use Rattle.rules.specs.declared.Packed.the-variants as P
 use Rattle.rules.specs.declared.Operation.{Operation}
-use Rattle.rules.specs.Limits.{maxPlaces, maxLoops, maxTriangles}
+use Rattle.rules.specs.Limits.{maxPlaces, maxTriangles}
 use Rattle.rules.specs.Triangle.{trianglesOf}
 use Rattle.rules.specs.Check.{check}
-use Rattle.rules.specs.Answer.{Answer, refusal, packed, packedAnswer}
-use Rattle.rules.specs.Bits.{bytesOf}
-use Rattle.rules.specs.Code.{operationsBits}
-use Rattle.rules.specs.Fields.{packBytes}
-use Rattle.rules.specs.Buffer.{over, zeroed}
+use Rattle.rules.specs.Answer.{refusal, packed, packedAnswer}
+use Rattle.rules.specs.Buffer.{zeroed}
 use Rattle.rules.specs.Choice.{Packing, has}
-use Rattle.rules.specs.Pack.{Chosen, stopped, chosen, chooseAll, most, nothingBuilt, chosenFor, packOf, newNumbers, PackBuffers, PackResult, packRefused, packDone, packStored, packChosen, packRooms, turnedDown, packChecked}
+use Rattle.rules.specs.Pack.{Chosen, stopped, chosen, chooseAll, most, nothingBuilt, chosenFor, packOf, newNumbers, PackResult, packRefused, packDone, packChosen, packRooms, turnedDown, packChecked}
 use Rattle.fans.proofs.Checks.{check-accepted}
 use Rattle.codes.specs.Room.{bytesFor}
 use Rattle.chains.specs.Chains.{Linked}
 use Rattle.gap.proofs.Bools.{and-true}
 use Rattle.gap.proofs.Whole as whole
 use Rattle.gap.proofs.Whole.{Complete, fits-begin, complete-all}
-use Rattle.gap.proofs.Accepted.{Packable, accepted-packable, accepted-packs}
+use Rattle.gap.proofs.Accepted.{accepted-packable, accepted-packs}
 use Rattle.roundtrip.proofs.Fitting.{accepted-count, between-of}
 use Rattle.memory.specs.declared.Front.{Front}
 use Rattle.memory.specs.Fresh.{allFree, freshFront}
 use Rattle.memory.specs.Keeps.{Roomy}
 use Rattle.memory.proofs.Fresh.{free-length, fresh-keeps}
-use Rattle.choosing.specs.Choosable.{flagOf, unbuiltOf}
+use Rattle.choosing.specs.Choosable.{flagOf}
 use Rattle.packing.specs.declared.Course.{Course}
 use Rattle.packing.specs.declared.Ran.{Ran}
 use Rattle.packing.specs.declared.Ran.the-variants.{Refused, Ended}
-use Rattle.packing.specs.Numbers.{unnumbered, entries}
+use Rattle.packing.specs.Numbers.{entries}
 use Rattle.packing.specs.Doing.{statedFor, Standing}
 use Rattle.packing.specs.Course.{Holds, Held}
-use Rattle.packing.specs.Writing.{headerBits, Writes}
-use Rattle.packing.specs.Steps.{Beyond, EndsAt, Ends, RunOf}
-use Rattle.packing.specs.Finish.{countsAt, fitsRoom, answerIf, finishAnswer, numbersIf, finishNumbers, packIf, finishPack, Sized}
+use Rattle.packing.specs.Writing.{Writes}
+use Rattle.packing.specs.Steps.{Beyond, Ends, RunOf}
+use Rattle.packing.specs.Finish.{countsAt, answerIf, finishAnswer, numbersIf, finishNumbers, packIf, finishPack, Sized}
 use Rattle.packing.specs.Lent.{lent, packOn, isPast, recordNumbers, ClearedIf, PackedOn, Fitting, RunGives}
 use Rattle.packing.proofs.Numbers.{entries-length, entries-none, entries-all}
 use Rattle.packing.proofs.Flags.{unbuilt-all}

@@ -1,13 +1,12 @@
 -- The flags of the triangles that are built: setting one drops that triangle from those left, and the lowest one left.
 -- Assumes nothing.
-use Prim.Native.Nat.{ℕ, zero, suc, _+_, _-_, _*_, _≤_, _<_}
-use native.Mathlib.Nat.{add-suc}
+use Prim.Native.Nat.{ℕ, zero, suc, _+_, _*_, _≤_, _<_}
 use native.Mathlib.Omega.{arith}
 use mathlib.Core.Bool.{Bool, true, false, _&&_}
-use mathlib.Core.List.{List, [], _∷_, _++_}
+use mathlib.Core.List.{List, [], _∷_}
 use mathlib.Core.Path.{_≡_, refl, sym, ap, _∙_, subst}
 use mathlib.Core.Logic.{_⊎_, inl, inr}
-use lib.ListN.{length, getD, set, drop, length-set, drop-of-length-le}
+use lib.ListN.{length, set, drop, drop-of-length-le}
 use lib.Seq.{getD-set-same, getD-set-other}
 use lib.Dec.{eqb}
 use borrow.Author.Tests.{eqb-true, eqb-false, eq-eqb, ne-eqb}
@@ -15,9 +14,9 @@ use Rattle.rules.specs.declared.Triangle.{Triangle}
 use Rattle.rules.specs.declared.Across.{Across}
 use Rattle.rules.specs.declared.Across.the-variants.{Found, Nothing}
 use Rattle.rules.specs.Across.{inTriangle, across}
-use Rattle.rules.specs.Triangle.{tri, trianglesOf}
+use Rattle.rules.specs.Triangle.{trianglesOf}
 use Rattle.rules.specs.Choice.{dropTriangle}
-use Rattle.fans.specs.Corner.{Rot, In, here, there, Free, Once}
+use Rattle.fans.specs.Corner.{In, Free, Once}
 use Rattle.chains.specs.Corner.{triangleAt}
 use Rattle.gap.proofs.Turning.{Told, told, across-none, look}
 use Rattle.gap.proofs.Links.{free-rot}

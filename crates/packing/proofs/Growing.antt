@@ -4,7 +4,7 @@ use Prim.Native.Nat.{ℕ, suc, _+_, _≤_, _<_}
 use native.Mathlib.Omega.{arith}
 use mathlib.Core.Bool.{Bool, true, false}
 use mathlib.Core.List.{List, [], _∷_, _++_}
-use mathlib.Core.Path.{_≡_, refl, sym, ap, _∙_, subst}
+use mathlib.Core.Path.{_≡_, refl, ap, _∙_}
 use mathlib.Core.Logic.{_⊎_, inl, inr}
 use lib.ListN.{length, length-append}
 use lib.Dec.{eqb, leb}
@@ -14,10 +14,10 @@ use Rattle.rules.specs.declared.Operation.the-variants.{New, Forward, Backward,
 use Rattle.rules.specs.Limits.{maxPlaces, maxLoops}
 use Rattle.rules.specs.Ring.{Node, opened, marked, Ring, vertex, places}
 use Rattle.rules.specs.Table.{inOrder, shorterFirst}
-use Rattle.rules.specs.Choice.{Packing, Next, refuses, takes, limited}
+use Rattle.rules.specs.Choice.{Packing, refuses, limited}
 use Rattle.gap.specs.Surgery.{Surgery, on-new, on-forward, on-backward, on-close, on-split, on-union}
 use Rattle.gap.specs.Trace.{afterBorder, withRing}
-use Rattle.gap.proofs.Onward.{Turned, turned-ring}
+use Rattle.gap.proofs.Onward.{turned-ring}
 use Rattle.gap.proofs.Bordering.{rimOf}
 use Rattle.packing.specs.Doing.{refusalAt}
 

@@ -3,7 +3,7 @@
 use Prim.Native.Nat.{ℕ, _≤_}
 use mathlib.Core.Bool.{Bool, true, false, _&&_, false≢true}
 use mathlib.Core.List.{List}
-use mathlib.Core.Path.{_≡_, refl, sym, ap, _∙_, subst}
+use mathlib.Core.Path.{_≡_, refl, sym, ap, _∙_}
 use lib.ListN.{length, replicate, length-replicate}
 use lib.Dec.{leb}
 use borrow.Author.Tests.{leb-true}
@@ -16,7 +16,7 @@ use Rattle.rules.specs.Triangle.{trianglesOf}
 use Rattle.rules.specs.Check.{check}
 use Rattle.rules.specs.Buffer.{freePlace, cleared}
 use Rattle.rules.specs.Pack.{Chosen, stopped, chosen, most, chosenFor, packOf, newNumbers, PackBuffers, PackResult, turnedDown, packRefused, packDone, packStored, packChosen, packRooms, packChecked, pack}
-use Rattle.packing.specs.Lent.{lent, packOn, isPast}
+use Rattle.packing.specs.Lent.{packOn, isPast}
 
 abbrev pub lentTo : List ℕ → List Place → List ℕ → PackBuffers
 lentTo ns ps bs = record { numbering = ns; places = ps; pack = bs }

@@ -1,6 +1,6 @@
 -- A step at a live loop: what the packer takes is what is chosen, and what it comes to is the packing after it.
 -- Assumes nothing.
-use Prim.Native.Nat.{ℕ, zero, suc, _+_, _*_, _≤_, _<_}
+use Prim.Native.Nat.{ℕ, _+_, _*_, _≤_, _<_}
 use native.Mathlib.Omega.{arith}
 use mathlib.Core.Bool.{Bool, true, false, false≢true}
 use mathlib.Core.List.{List, [], _∷_, _++_}
@@ -15,47 +15,43 @@ use Rattle.rules.specs.declared.Across.{Across}
 use Rattle.rules.specs.declared.Across.the-variants.{Found, Nothing}
 use Rattle.rules.specs.declared.Operation.{Operation}
 use Rattle.rules.specs.declared.Operation.the-variants.{New, Border}
-use Rattle.rules.specs.Limits.{maxPlaces, maxLoops, maxTriangles}
-use Rattle.rules.specs.Triangle.{tri, edge, trianglesOf}
+use Rattle.rules.specs.Limits.{maxPlaces, maxTriangles}
+use Rattle.rules.specs.Triangle.{edge, trianglesOf}
 use Rattle.rules.specs.Across.{across}
-use Rattle.rules.specs.Ring.{Node, Ring, vertex, isOpen, places}
-use Rattle.rules.specs.Table.{Effect, builds, marks, atEdge, effect}
-use Rattle.rules.specs.Choice.{Packing, has, dropTriangle, choosePlace, Next, refuses, takes, packingAfter, limited, choose}
-use Rattle.fans.specs.Corner.{In, Once}
+use Rattle.rules.specs.Ring.{Node, Ring, vertex, places}
+use Rattle.rules.specs.Table.{atEdge, effect}
+use Rattle.rules.specs.Choice.{Packing, has, dropTriangle, choosePlace, refuses, packingAfter, limited, choose}
+use Rattle.fans.specs.Corner.{In}
 use Rattle.fans.specs.Neighbours.{Neighbours}
 use Rattle.fans.proofs.Corners.{in-next}
 use Rattle.gap.specs.Turn.{Unused}
-use Rattle.gap.specs.Spots.{OpenAt, Unique}
 use Rattle.gap.specs.Trace.{triangleAt, afterBorder, withRing}
 use Rattle.gap.specs.Tally.{newNumbers}
 use Rattle.gap.proofs.Turning.{others, others-length, Finds, across-some, across-none}
 use Rattle.gap.proofs.Effects as effects
 use Rattle.gap.proofs.Standing.{legal-used}
-use Rattle.gap.proofs.Steps.{Keeps, Packed, packs}
-use Rattle.gap.proofs.Canonical.{open-used}
+use Rattle.gap.proofs.Steps.{Keeps, Packed}
 use Rattle.gap.proofs.Taking.{corners}
 use Rattle.gap.proofs.Bordering.{withRim, rimOf, border-free}
 use Rattle.gap.proofs.Progress.{AllGood, Goes, by-start, by-build, by-border, progress}
 use Rattle.gap.proofs.Choosing.{Fits, choose-border, choose-new, choose-old, no-new}
-use Rattle.gap.proofs.Numbering.{Met, Numbered, not-met, numbered-old, numbered-new}
+use Rattle.gap.proofs.Numbering.{Met, not-met, numbered-old, numbered-new}
 use Rattle.gap.proofs.Distinct.{distinct-new}
 use Rattle.gap.proofs.Dropping.{drop-others}
 use Rattle.gap.proofs.Accepted.{Packable, accepted-packable}
 use Rattle.gap.proofs.Following.{limited-takes}
 use Rattle.roundtrip.proofs.Fitting.{accepted-count}
-use Rattle.memory.specs.declared.Loops.{Loops}
-use Rattle.memory.specs.declared.Front.{Front}
 use Rattle.memory.specs.Stands.{ringsIn, loopsIn}
-use Rattle.choosing.specs.Choosable.{flagOf, unbuilt, unbuiltOf, Choosable}
+use Rattle.choosing.specs.Choosable.{flagOf, unbuilt, unbuiltOf}
 use Rattle.packing.specs.declared.Course.{Course}
 use Rattle.packing.specs.declared.Move.{Move}
 use Rattle.packing.specs.declared.Done.{Done}
 use Rattle.packing.specs.declared.Done.the-variants.{Going, Refused}
-use Rattle.packing.specs.Numbers.{unnumbered, entryOf, entries}
-use Rattle.packing.specs.Doing.{readied, refusalAt, doneOf, memoryOf, Standing, Outcome}
+use Rattle.packing.specs.Numbers.{unnumbered, entries}
+use Rattle.packing.specs.Doing.{readied, doneOf, memoryOf, Outcome}
 use Rattle.packing.specs.Course.{Holds, startOf, endOf, isNumbered, placedBy, flagsBy, moveBy, moveOf, flagsOf, givenBy, numbersBy}
 use Rattle.packing.specs.Steps.{StepsTo}
-use Rattle.packing.proofs.Numbers.{entry-read, entry-none, entry-some, entry-tells, entry-marked, index-below, number-stored}
+use Rattle.packing.proofs.Numbers.{entry-read, entry-none, entry-some, index-below, number-stored}
 use Rattle.packing.proofs.Flags.{flag-drops, found-below}
 use Rattle.packing.proofs.Doing.{standing-places, built-outcome, border-outcome}
 use Rattle.packing.proofs.Growing.{Grows, surgery-grows, border-shrinks, limited-refuses}

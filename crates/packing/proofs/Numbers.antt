@@ -1,15 +1,14 @@
 -- The numbering buffer: what is read there, what a new number stored there gives, and what it holds in the end.
 -- Assumes nothing.
-use Prim.Native.Nat.{ℕ, zero, suc, _+_, _≤_, _<_}
+use Prim.Native.Nat.{ℕ, zero, suc, _≤_, _<_}
 use native.Mathlib.Omega.{arith}
 use mathlib.Core.Bool.{Bool, true, false, false≢true}
 use mathlib.Core.List.{List, [], _∷_, _++_}
-use mathlib.Core.Path.{_≡_, refl, sym, ap, _∙_, subst}
-use mathlib.Core.Logic.{_⊎_, inl, inr}
+use mathlib.Core.Path.{_≡_, refl, sym, ap, _∙_}
 use lib.ListN.{length, getD, set, replicate, length-append, length-set, length-replicate, List·getD-append, getD-replicate}
 use lib.Seq.{getD-at, ext-getD, set-append-left, getD-set-same, getD-set-other}
 use lib.Dec.{eqb}
-use borrow.Author.Tests.{eqb-true, eqb-false, eq-eqb, ne-eqb}
+use borrow.Author.Tests.{eqb-true, eqb-false}
 use Rattle.rules.specs.Choice.{has}
 use Rattle.rules.specs.Pack.{indexOf, newNumbers}
 use Rattle.gap.proofs.Numbering.{has-left, has-not, has-last, index-next}

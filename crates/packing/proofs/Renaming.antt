@@ -7,15 +7,15 @@ use mathlib.Core.List.{List, [], _∷_}
 use mathlib.Core.Path.{_≡_, refl, sym, ap, ap₂, _∙_, subst}
 use lib.ListN.{length, getD, set, length-set}
 use lib.Seq.{getD-set-same, getD-set-other}
-use Rattle.rules.specs.Count.{num, same}
-use Rattle.rules.specs.Ring.{Node, opened, marked, Ring, vertex, isOpen, startOr, vertexAt, loopAt}
+use Rattle.rules.specs.Count.{same}
+use Rattle.rules.specs.Ring.{Node, opened, marked, Ring, isOpen, loopAt}
 use Rattle.book.specs.Sums.{pathSum, ringSum, loopsSum}
 use Rattle.book.proofs.Counting.{same-yes}
-use Rattle.links.specs.Memory.{Memory, Holds, placed, named, namedRing, namedLoops}
+use Rattle.links.specs.Memory.{Memory, Holds, namedRing, namedLoops}
 use Rattle.links.proofs.Named.{named-open}
 use Rattle.memory.specs.declared.Loops.{Loops}
-use Rattle.memory.specs.Layout.{at, afterOf, verticesOf, linksOf, stacked}
-use Rattle.memory.specs.Stands.{ringsIn, loopsIn, Waits, Named, StandsAt, Stands}
+use Rattle.memory.specs.Layout.{afterOf, verticesOf}
+use Rattle.memory.specs.Stands.{ringsIn, loopsIn, Named, StandsAt, Stands}
 use Rattle.memory.proofs.Columns.{column-length, named-vertices, named-links, named-above}
 use Rattle.memory.proofs.Standing.{trails, apart, rings-read}
 use Rattle.memory.proofs.Relinked.{stacked-same, waits-same}

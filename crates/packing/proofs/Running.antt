@@ -18,7 +18,6 @@ use Rattle.rules.specs.Pack.{Chosen, stopped, chosen, cons, chooseAll}
 use Rattle.codes.specs.Room.{writtenAt, bytesFor}
 use Rattle.codes.specs.Whole.{widthOf}
 use Rattle.codes.proofs.Operations.{width-most}
-use Rattle.chains.specs.Chains.{Linked}
 use Rattle.gap.proofs.Whole.{all-ended, all-taken, choose-ended}
 use Rattle.memory.specs.declared.Front.{Front}
 use Rattle.memory.specs.Stands.{ringsIn}
@@ -28,8 +27,8 @@ use Rattle.packing.specs.declared.Taken.the-variants as T
 use Rattle.packing.specs.declared.Ran.{Ran}
 use Rattle.packing.specs.declared.Ran.the-variants as R
 use Rattle.packing.specs.Course.{Holds, Held}
-use Rattle.packing.specs.Writing.{headerBits, Writes}
-use Rattle.packing.specs.Steps.{StepsTo, Beyond, Steps, StepOf, isDone, EndsAt, Ends, RunOf, prepended, Comes, Loop}
+use Rattle.packing.specs.Writing.{headerBits}
+use Rattle.packing.specs.Steps.{StepsTo, Steps, StepOf, isDone, EndsAt, Ends, RunOf, prepended, Comes, Loop}
 use Rattle.packing.proofs.Reading.{live-none}
 use Rattle.packing.proofs.Writing.{writes-none, writes-more}
 

@@ -1,20 +1,20 @@
 -- A step with no live loop: nothing is left, or the lowest triangle left is built as a loop of three places.
 -- Assumes nothing.
-use Prim.Native.Nat.{ℕ, zero, suc, _+_, _*_, _≤_, _<_, max}
+use Prim.Native.Nat.{ℕ, _+_, _*_, _≤_, _<_}
 use native.Mathlib.Omega.{arith}
-use mathlib.Core.Bool.{Bool, true, false, false≢true}
+use mathlib.Core.Bool.{false}
 use mathlib.Core.List.{List, [], _∷_, _++_, append-assoc}
-use mathlib.Core.Path.{_≡_, refl, sym, ap, ap₂, _∙_, subst}
-use lib.ListN.{length, getD, set, drop, length-set, length-append}
+use mathlib.Core.Path.{_≡_, refl, sym, ap, _∙_, subst}
+use lib.ListN.{length, getD, set, length-set, length-append}
 use Rattle.rules.specs.declared.Triangle.{Triangle}
 use Rattle.rules.specs.declared.Counts.{Counts}
 use Rattle.rules.specs.declared.Operation.the-variants.{Start}
-use Rattle.rules.specs.Limits.{maxPlaces, maxLoops, maxTriangles}
+use Rattle.rules.specs.Limits.{maxPlaces, maxTriangles}
 use Rattle.rules.specs.Triangle.{tri, trianglesOf}
 use Rattle.rules.specs.Ring.{opened, Ring, places}
-use Rattle.rules.specs.Table.{fresh, builds, atRest, effect}
-use Rattle.rules.specs.Choice.{Packing, has, takes, packingAfter, limited, choose}
-use Rattle.fans.specs.Corner.{at-p, at-q, at-r, Rot, In, here, Once}
+use Rattle.rules.specs.Table.{fresh, atRest, effect}
+use Rattle.rules.specs.Choice.{Packing, has, packingAfter, limited, choose}
+use Rattle.fans.specs.Corner.{at-p, at-q, at-r, Rot, In, here}
 use Rattle.fans.specs.Neighbours.{Neighbours}
 use Rattle.chains.specs.Corner.{triangleAt}
 use Rattle.gap.proofs.Steps.{Keeps}
@@ -25,15 +25,13 @@ use Rattle.gap.proofs.Distinct.{distinct-start}
 use Rattle.gap.proofs.Accepted.{Packable, accepted-packable}
 use Rattle.gap.proofs.Following.{limited-takes}
 use Rattle.roundtrip.proofs.Fitting.{accepted-count}
-use Rattle.memory.specs.declared.Front.{Front}
-use Rattle.memory.specs.Layout.{afterOf}
 use Rattle.memory.specs.Stands.{ringsIn}
-use Rattle.choosing.specs.Choosable.{flagOf, unbuilt, unbuiltOf}
+use Rattle.choosing.specs.Choosable.{flagOf, unbuiltOf}
 use Rattle.packing.specs.declared.Course.{Course}
 use Rattle.packing.specs.declared.Done.{Done}
 use Rattle.packing.specs.declared.Done.the-variants.{Going, Refused}
 use Rattle.packing.specs.Numbers.{entries}
-use Rattle.packing.specs.Doing.{readied, doneOf, memoryOf, Standing, Outcome}
+use Rattle.packing.specs.Doing.{readied, doneOf, memoryOf, Outcome}
 use Rattle.packing.specs.Course.{Holds, renamed, numberedThree}
 use Rattle.packing.specs.Steps.{StepsTo}
 use Rattle.packing.proofs.Numbers.{number-stored}

@@ -1,21 +1,18 @@
 -- One law for each way through a step, as the code takes it: for each packing that is held.
 -- Assumes nothing.
-use Prim.Native.Nat.{ℕ, suc, _+_, _*_, _/_, _≤_, _<_}
+use Prim.Native.Nat.{ℕ, _+_, _*_, _/_, _≤_, _<_}
 use native.Mathlib.Omega.{arith}
 use mathlib.Core.Bool.{Bool, true, false, false≢true}
-use mathlib.Core.List.{List, [], _∷_, _++_}
-use mathlib.Core.Path.{_≡_, refl, sym, ap, ap₂, _∙_, subst}
-use lib.ListN.{length, getD, set, drop, length-append}
+use mathlib.Core.List.{List}
+use mathlib.Core.Path.{_≡_, refl, sym, ap, _∙_, subst}
+use lib.ListN.{length, getD, set, drop}
 use lib.Seq.{drop-at}
 use lib.Dec.{eqb, leb}
 use borrow.Author.Tests.{leb-true, leb-false, eq-eqb}
-use Rattle.rules.specs.declared.Operation.{Operation}
 use Rattle.rules.specs.declared.Operation.the-variants.{Start}
-use Rattle.rules.specs.Limits.{maxPlaces, maxTriangles, minVertices, maxVertices}
+use Rattle.rules.specs.Limits.{maxPlaces}
 use Rattle.rules.specs.Triangle.{trianglesOf}
-use Rattle.rules.specs.Choice.{Packing, choose, refuses, takes}
-use Rattle.gap.proofs.Bools.{and-true}
-use Rattle.chains.specs.Chains.{Linked}
+use Rattle.rules.specs.Choice.{Packing, choose}
 use Rattle.chains.proofs.Listing.{below-each}
 use Rattle.fans.proofs.Checks.{check-accepted}
 use Rattle.roundtrip.proofs.Fitting.{accepted-count}

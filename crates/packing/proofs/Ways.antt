@@ -1,13 +1,13 @@
 -- One law for each way through the small functions of the packer.
 -- Assumes nothing.
-use Prim.Native.Nat.{ℕ, suc, _+_, _-_, _*_, _/_, _≤_, _<_}
+use Prim.Native.Nat.{ℕ, _+_, _-_, _*_, _/_, _≤_, _<_}
 use native.Mathlib.Omega.{arith}
-use mathlib.Core.Bool.{Bool, true, false, not, false≢true}
-use mathlib.Core.List.{List, [], _∷_, _++_}
+use mathlib.Core.Bool.{Bool, true, false, not}
+use mathlib.Core.List.{List, _++_}
 use mathlib.Core.Path.{_≡_, refl, sym, ap, ap₂, _∙_, subst}
-use lib.ListN.{length, getD, set, take, drop, replicate, length-set, length-replicate}
+use lib.ListN.{length, set, take, drop, replicate, length-set, length-replicate}
 use lib.Seq.{take-at}
-use lib.Dec.{eqb, leb}
+use lib.Dec.{eqb}
 use borrow.Author.Fill.{fill-none, fill-more}
 use borrow.Author.Tests.{eq-eqb, ne-eqb, le-leb, lt-leb, eqb-true, eqb-false, not-true, not-false}
 use Rattle.rules.specs.declared.Across.{Across}
@@ -24,7 +24,7 @@ use Rattle.rules.specs.Choice.{choosePlace}
 use Rattle.rules.specs.Buffer.{over, zeroed}
 use Rattle.codes.specs.Header.{headerOf}
 use Rattle.codes.specs.Room.{bytesFor}
-use Rattle.chains.specs.Chains.{Finds, Linked}
+use Rattle.chains.specs.Chains.{Finds}
 use Rattle.chains.proofs.Finding.{linked-found}
 use Rattle.memory.specs.declared.Loops.{Loops}
 use Rattle.memory.specs.declared.Front.{Front}
@@ -35,7 +35,6 @@ use Rattle.memory.specs.Layout.{vertexOf, afterOf}
 use Rattle.memory.specs.Stands.{loopsIn}
 use Rattle.memory.specs.Moves.{markedHeld}
 use Rattle.memory.specs.Decision.{decided, heldAfter, builtFront, markedFront}
-use Rattle.memory.specs.Keeps.{Ready}
 use Rattle.memory.proofs.Next.{marks-live}
 use Rattle.choosing.specs.Choosable.{flagOf, unbuiltOf, Choosable}
 use Rattle.packing.specs.declared.Course.{Course}

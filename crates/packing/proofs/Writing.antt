@@ -1,11 +1,11 @@
 -- Operations written one after the other, and the header at last: the pack.
 -- Assumes nothing.
-use Prim.Native.Nat.{ℕ, _+_, _-_, _*_, _/_, _≤_, _<_}
+use Prim.Native.Nat.{ℕ, _+_, _-_, _/_, _≤_}
 use native.Mathlib.Omega.{arith}
 use mathlib.Core.List.{List, [], _∷_, _++_, append-assoc, append-nil}
-use mathlib.Core.Path.{_≡_, refl, sym, ap, ap₂, _∙_, subst}
+use mathlib.Core.Path.{_≡_, refl, sym, ap, ap₂, _∙_}
 use lib.ListN.{length, take, drop, length-append}
-use lib.Seq.{length-take-le, drop-at, drop-drop}
+use lib.Seq.{length-take-le, drop-at}
 use Rattle.rules.specs.declared.Operation.{Operation}
 use Rattle.rules.specs.declared.Counts.{Counts}
 use Rattle.rules.specs.Bits.{bitsOfBytes, bytesOf}

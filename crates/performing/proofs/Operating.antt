@@ -25,7 +25,7 @@ use Rattle.rules.specs.View.{view, trianglesBuilt}
 use Rattle.rules.specs.Test21.{linksFit, sound}
 use Rattle.rules.specs.Build.{viewed, operates, withTriangle, Leaves, Operated}
 use Rattle.book.specs.Consistent.{Ranges}
-use Rattle.book.specs.Promises.{reached}
+use Rattle.book.specs.Reached.{reached}
 use Rattle.book.proofs.Counting.{and-left}
 use Rattle.links.proofs.Named.{named-lives}
 use Rattle.memory.specs.declared.Front.{Front}

@@ -15,7 +15,6 @@ use Rattle.rules.specs.Buffer.{freePlace}
 use Rattle.rules.specs.View.{placeAt}
 use Rattle.places.specs.Memory.{isOne, recordAt, records}
 use Rattle.places.proofs.Reading.{length-records}
-use Rattle.memory.specs.Layout.{at}
 use Rattle.reading.specs.Reading.{SameRecords}
 
 -- record i of the list is record i of the memory

@@ -7,11 +7,6 @@ use lib.ListN.{length}
 use borrow.Author.Needs.{needs}
 use Rattle.build.proofs.answer_all.Statement.{statement}
 use Rattle.build.proofs.answer_all.Tie as tie
-use Rattle.build.proofs.answer_all.Reads as reads
-use Rattle.build.proofs.answer_all.Lts as lts
-use Rattle.build.proofs.answer.answer_line.Reads as answer-line-reads
-use Rattle.build.proofs.answer.fresh.Reads as fresh-reads
-use Rattle.text.proofs.line_end.Reads as line-end-reads
 
 abbrev Inv-loop : tie.InvT-loop
 Inv-loop input triangles₀ m₀ s₀ at₀ triangles m s at =

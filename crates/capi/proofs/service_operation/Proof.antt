@@ -3,11 +3,6 @@
 use borrow.Author.Needs.{needs}
 use Rattle.capi.proofs.service_operation.Statement.{statement}
 use Rattle.capi.proofs.service_operation.Tie as tie
-use Rattle.capi.proofs.service_operation.Reads as reads
-use Rattle.capi.proofs.service_operation.Lts as lts
-use Rattle.capi.proofs.refusal_of.Reads as refusal-of-reads
-use Rattle.capi.proofs.service_read.Reads as service-read-reads
-use Rattle.wire.proofs.fields.fields_of.Reads as fields-of-reads
 
 fields-of-requires : tie.Need-fields-of-requires
 fields-of-requires c κs = search needs

@@ -6,10 +6,6 @@ use lib.ListN.{length}
 use borrow.Author.Needs.{needs}
 use Rattle.packs.proofs.run_all.Statement.{statement}
 use Rattle.packs.proofs.run_all.Tie as tie
-use Rattle.packs.proofs.run_all.Reads as reads
-use Rattle.packs.proofs.run_all.Lts as lts
-use Rattle.packs.proofs.run.Reads as run-reads
-use Rattle.packs.proofs.size_at.Reads as size-at-reads
 
 abbrev Inv-loop : tie.InvT-loop
 Inv-loop input triangles₀ m₀ left₀ triangles m left = left ≤ length input

@@ -1,13 +1,11 @@
 -- `text::is_same` is safe and ends.
 -- Assumes nothing.
-use Prim.Native.Nat.{_≤_, _-_, _*_}
+use Prim.Native.Nat.{_≤_, _-_}
 use native.Mathlib.Omega.{arith}
 use lib.ListN.{length}
 use borrow.Author.Needs.{needs}
 use Rattle.text.proofs.is_same.Statement.{statement}
 use Rattle.text.proofs.is_same.Tie as tie
-use Rattle.text.proofs.is_same.Reads as reads
-use Rattle.text.proofs.is_same.Lts as lts
 
 abbrev Inv-loop : tie.InvT-loop
 Inv-loop a b i₀ i = i ≤ length a

@@ -5,12 +5,6 @@ use lib.Seq.{length-take-le}
 use borrow.Author.Needs.{needs}
 use Rattle.build.proofs.answer.begin.Statement.{statement}
 use Rattle.build.proofs.answer.begin.Tie as tie
-use Rattle.build.proofs.answer.begin.Reads as reads
-use Rattle.build.proofs.answer.begin.Lts as lts
-use Rattle.build.proofs.answer.at_most.Reads as at-most-reads
-use Rattle.build.proofs.answer.print.Reads as print-reads
-use Rattle.calls.proofs.begin.begin_on.Reads as begin-on-reads
-use Rattle.show.proofs.print_refusal.Reads as print-refusal-reads
 
 array-read-at-most : tie.Need-array-read-at-most
 array-read-at-most c = search needs

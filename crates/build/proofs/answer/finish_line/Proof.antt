@@ -5,12 +5,6 @@ use lib.Seq.{length-take-le}
 use borrow.Author.Needs.{needs}
 use Rattle.build.proofs.answer.finish_line.Statement.{statement}
 use Rattle.build.proofs.answer.finish_line.Tie as tie
-use Rattle.build.proofs.answer.finish_line.Reads as reads
-use Rattle.build.proofs.answer.finish_line.Lts as lts
-use Rattle.build.proofs.answer.print.Reads as print-reads
-use Rattle.build.proofs.answer.print_finished.Reads as print-finished-reads
-use Rattle.calls.proofs.finish.finish_on.Reads as finish-on-reads
-use Rattle.places.proofs.settle.Reads as settle-reads
 
 slice-aggregate-print : tie.Need-slice-aggregate-print
 slice-aggregate-print c = search needs

@@ -5,11 +5,6 @@ use lib.Seq.{length-take-le}
 use borrow.Author.Needs.{needs}
 use Rattle.build.proofs.answer.operate.Statement.{statement}
 use Rattle.build.proofs.answer.operate.Tie as tie
-use Rattle.build.proofs.answer.operate.Reads as reads
-use Rattle.build.proofs.answer.operate.Lts as lts
-use Rattle.build.proofs.answer.print_operated.Reads as print-operated-reads
-use Rattle.calls.proofs.operation.operation_on.Reads as operation-on-reads
-use Rattle.places.proofs.settle.Reads as settle-reads
 
 settle-requires : tie.Need-settle-requires
 settle-requires c κs = search needs

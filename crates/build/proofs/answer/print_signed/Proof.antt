@@ -4,10 +4,6 @@ use borrow.Author.Needs.{needs}
 use Rattle.build.proofs.Signed.{cast-fits, as-it-is, turned-fits, turned}
 use Rattle.build.proofs.answer.print_signed.Statement.{statement}
 use Rattle.build.proofs.answer.print_signed.Tie as tie
-use Rattle.build.proofs.answer.print_signed.Reads as reads
-use Rattle.build.proofs.answer.print_signed.Lts as lts
-use Rattle.io.proofs.print_decimal.Reads as print-decimal-reads
-use Rattle.io.proofs.write_all.Reads as write-all-reads
 
 cast-wide : tie.Need-cast-wide
 cast-wide c = cast-fits _ (c .fits .n)

@@ -6,11 +6,6 @@ use lib.ListN.{length}
 use borrow.Author.Needs.{needs}
 use Rattle.build.proofs.words.numbers_from.Statement.{statement}
 use Rattle.build.proofs.words.numbers_from.Tie as tie
-use Rattle.build.proofs.words.numbers_from.Reads as reads
-use Rattle.build.proofs.words.numbers_from.Lts as lts
-use Rattle.text.proofs.number_of.Reads as number-of-reads
-use Rattle.text.proofs.word_end.Reads as word-end-reads
-use Rattle.text.proofs.word_start.Reads as word-start-reads
 
 abbrev Inv-loop : tie.InvT-loop
 Inv-loop line from valid₀ values₀ at₀ count₀ valid values at count = (at ≤ length line) × (count ≤ 6)

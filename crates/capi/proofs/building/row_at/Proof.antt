@@ -5,8 +5,6 @@ use native.Mathlib.Omega.{arith}
 use borrow.Author.Needs.{needs}
 use Rattle.capi.proofs.building.row_at.Statement.{statement}
 use Rattle.capi.proofs.building.row_at.Tie as tie
-use Rattle.capi.proofs.building.row_at.Reads as reads
-use Rattle.capi.proofs.building.row_at.Lts as lts
 
 abbrev Inv-loop : tie.InvT-loop
 Inv-loop s from row₀ i₀ row i = i ≤ 100

@@ -4,13 +4,7 @@ use borrow.Author.Needs.{needs}
 use Rattle.capi.proofs.Counted.{count-most}
 use Rattle.capi.proofs.building.service_finish.Statement.{statement}
 use Rattle.capi.proofs.building.service_finish.Tie as tie
-use Rattle.capi.proofs.building.service_finish.Reads as reads
-use Rattle.capi.proofs.building.service_finish.Lts as lts
-use Rattle.calls.proofs.finish.finish_on.Reads as finish-on-reads
-use Rattle.capi.proofs.building.state_of.Reads as state-of-reads
-use Rattle.capi.proofs.building.store_totals.Reads as store-totals-reads
 use Rattle.places.proofs.count.Reads as count-reads
-use Rattle.places.proofs.settle.Reads as settle-reads
 
 settle-requires : tie.Need-settle-requires
 settle-requires c κs = search needs

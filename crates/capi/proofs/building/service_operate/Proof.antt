@@ -4,15 +4,7 @@ use borrow.Author.Needs.{needs}
 use Rattle.capi.proofs.Counted.{count-most}
 use Rattle.capi.proofs.building.service_operate.Statement.{statement}
 use Rattle.capi.proofs.building.service_operate.Tie as tie
-use Rattle.capi.proofs.building.service_operate.Reads as reads
-use Rattle.capi.proofs.building.service_operate.Lts as lts
-use Rattle.calls.proofs.operation.operation_on.Reads as operation-on-reads
-use Rattle.capi.proofs.building.state_of.Reads as state-of-reads
-use Rattle.capi.proofs.building.store_state.Reads as store-state-reads
-use Rattle.capi.proofs.building.store_triangle.Reads as store-triangle-reads
-use Rattle.capi.proofs.operation_of.Reads as operation-of-reads
 use Rattle.places.proofs.count.Reads as count-reads
-use Rattle.places.proofs.settle.Reads as settle-reads
 
 settle-requires : tie.Need-settle-requires
 settle-requires c κs = search needs

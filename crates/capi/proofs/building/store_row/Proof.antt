@@ -5,8 +5,6 @@ use native.Mathlib.Omega.{arith}
 use borrow.Author.Needs.{needs}
 use Rattle.capi.proofs.building.store_row.Statement.{statement}
 use Rattle.capi.proofs.building.store_row.Tie as tie
-use Rattle.capi.proofs.building.store_row.Reads as reads
-use Rattle.capi.proofs.building.store_row.Lts as lts
 
 abbrev Inv-loop : tie.InvT-loop
 Inv-loop s₀ from row i₀ s i = i ≤ 100

@@ -1,7 +1,6 @@
 -- `packer::finish::finish` meets its contract: a refusal, 11, or the header.
 -- Assumes nothing.
 use native.Mathlib.Omega.{arith}
-use mathlib.Core.Path.{sym, _∙_}
 use borrow.Author.Needs.{needs}
 use Rattle.packing.proofs.Ways.{finish-refused, finish-short, finish-whole, finish-sized}
 use Rattle.packer.proofs.Wiring.{written-header}
