@@ -1,1 +1,1 @@
-// What holds of the book after any list of calls, and of every builder that keeps its promises. It has no function.
+// Theorems about the builder's book: what holds of it after any list of calls. Definitions in specs/, proofs in proofs/; no code.

@@ -28,6 +28,7 @@ pub(crate) fn alter(m: &mut [u16], n: usize, s: Front, o: Operation, p: Plan) ->
         Operation::New => grow(m, n, l, u),
         Operation::Forward => cut_next(m, n, l),
         Operation::Backward => cut_current(m, n, l),
+        // Never met: an edge that is marked has no plan.
         Operation::Border => {
             let k = mark_edge(m, n, l);
             Loops {

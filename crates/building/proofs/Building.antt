@@ -145,6 +145,7 @@ keeps-the-book w s cs xs v ok e g =
     let l = loops-long (v .state) (v .places) (v .state .live) in
     let f : EulerSum (viewOf v) = subst EulerSum (sym (g .same)) (euler-signed b c) in
     record {
+      first-answer = λ b₀. ap answerOf (begins-empty R s ok .step);
       each-answer = e;
       passes = g .passes;
       machine = g .same;

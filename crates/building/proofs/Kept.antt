@@ -25,7 +25,7 @@ use Rattle.rules.specs.Book.{operate, end, Book, recounted, emptyBook, entered,
 use Rattle.rules.specs.Buffer.{freePlace, cleared, Buffers, lengths}
 use Rattle.rules.specs.View.{view, trianglesBuilt, placesOf, loopsOf}
 use Rattle.rules.specs.Test21.{sizesOf, countsFit, sumsFit, apart, placesFit, loopsFit, linksFit, trianglesFit, sound}
-use Rattle.rules.specs.Build.{viewed, operates, begunBuilder, begunBuffers, BegunBy, withTriangle, Operated}
+use Rattle.rules.specs.Build.{viewed, operates, begunBuilder, begunBuffers, BegunBy, withTriangle, OperatedBy}
 use Rattle.book.specs.Consistent.{Ranges}
 use Rattle.book.specs.Reached.{reached}
 use Rattle.book.proofs.Counting.{and-left, and-right}
@@ -198,28 +198,28 @@ writes b r k (finished x) h e g l = tt
 
 -- what an operation leaves
 module _ (b : Builder) (r : Buffers) (b′ : Builder) (r′ : Buffers) where
-  pub operated-same : (x : Step) → Operated b r x b′ r′ → isAccepted x ≡ false → (b′ ≡ b) × (r′ ≡ r)
+  pub operated-same : (x : Step) → OperatedBy b r x b′ r′ → isAccepted x ≡ false → (b′ ≡ b) × (r′ ≡ r)
   operated-same (refused n) a h = a
   operated-same (begun m) a h = absurd a
   operated-same (built t m) a h = absurd (true≢false h)
   operated-same (declared d m) a h = absurd (true≢false h)
   operated-same (finished y) a h = absurd a
 
-  pub operated-view : (M : Machine) (x : Step) → Operated b r x b′ r′ → isAccepted x ≡ true → viewed b′ r′ ≡ reached M x
+  pub operated-view : (M : Machine) (x : Step) → OperatedBy b r x b′ r′ → isAccepted x ≡ true → viewed b′ r′ ≡ reached M x
   operated-view M (refused n) a h = absurd (false≢true h)
   operated-view M (begun m) a h = absurd a
   operated-view M (built t m) a h = a .machine
   operated-view M (declared d m) a h = a .machine
   operated-view M (finished y) a h = absurd a
 
-  operated-passes : (x : Step) → Operated b r x b′ r′ → isAccepted x ≡ true → sumsFit b′ ≡ true → sound b′ r′ ≡ true
+  operated-passes : (x : Step) → OperatedBy b r x b′ r′ → isAccepted x ≡ true → sumsFit b′ ≡ true → sound b′ r′ ≡ true
   operated-passes (refused n) a h = absurd (false≢true h)
   operated-passes (begun m) a h = absurd a
   operated-passes (built t m) a h = a .passes
   operated-passes (declared d m) a h = a .passes
   operated-passes (finished y) a h = absurd a
 
-  operated-long : (x : Step) → Operated b r x b′ r′ → isAccepted x ≡ true → Writes b r x → lengths r′ ≡ lengths r
+  operated-long : (x : Step) → OperatedBy b r x b′ r′ → isAccepted x ≡ true → Writes b r x → lengths r′ ≡ lengths r
   operated-long (refused n) a h k = absurd (false≢true h)
   operated-long (begun m) a h k = absurd a
   operated-long (built t m) a h k = λ i. record {
@@ -282,10 +282,10 @@ module _ (R : Rooms) where
     goes-on =
         ap (λ (t : Bool). elim t [ true ↦ operation (viewOf w) o | false ↦ refused 21 ]) (g .passes) ∙ ap (λ (m : Machine). operation m o) (g .same)
 
-    operated : Operated (w .state) (buffersOf w) (operation (b .machine) o) (v .state) (buffersOf v)
+    operated : OperatedBy (w .state) (buffersOf w) (operation (b .machine) o) (v .state) (buffersOf v)
     operated =
-        subst (λ (x : Step). Operated (w .state) (buffersOf w) x (v .state) (buffersOf v)) goes-on
-        (subst (λ (b₁ : Builder). Operated (w .state) (buffersOf w) (operates (w .state) (buffersOf w) o) b₁ (buffersOf v)) (sym (c .state)) (c .promised .after))
+        subst (λ (x : Step). OperatedBy (w .state) (buffersOf w) x (v .state) (buffersOf v)) goes-on
+        (subst (λ (b₁ : Builder). OperatedBy (w .state) (buffersOf w) (operates (w .state) (buffersOf w) o) b₁ (buffersOf v)) (sym (c .state)) (c .promised .after))
 
     pub operate-answer : a ≡ answerOf (operation (b .machine) o)
     operate-answer = c .answer ∙ c .promised .answer ∙ ap answerOf goes-on

@@ -19,7 +19,7 @@ use Rattle.rules.specs.Triangle.{corners, edgesOf}
 use Rattle.rules.specs.Count.{different, pairs}
 use Rattle.rules.specs.Machine.{Rooms}
 use Rattle.rules.specs.Answer.{Answer, accepted, begunAnswer, operatedAnswer, finishedAnswer}
-use Rattle.rules.specs.Book.{Call, begin, operate, end, Book, emptyBook, answers, afterAll, logAll}
+use Rattle.rules.specs.Book.{Call, begin, operate, end, Book, emptyBook, answer, answers, afterAll, logAll}
 use Rattle.rules.specs.Buffer.{Buffers, lengths}
 use Rattle.rules.specs.View.{openAt}
 use Rattle.rules.specs.Test21.{sound}
@@ -100,6 +100,8 @@ Replayed (c ∷ cs) w v = Follows c (Replayed cs) w v
 -- After an accepted beginning with the counts s on the world w, and the calls cs, which led to the answers xs: v is the world then, b
 -- the book. The book is fed the calls' arguments and the buffers' lengths, and nothing else of the builder.
 pub record KeepsTheBook (w : World) (s : Counts) (cs : List Call) (xs : List Answer) (v : World) (b : Book) : Type 0 where
+  -- the beginning too is answered as by the book, whatever this held
+  pub first-answer : (b₀ : Book) → answer (roomsOf w) b₀ (begin s) ≡ accepted
   -- each answer is the book's
   pub each-answer : xs ≡ answers (roomsOf w) (emptyBook s) cs
   -- 21 does not arise

@@ -13,7 +13,7 @@ use Rattle.rules.specs.declared.Finished.{Finished}
 use Rattle.rules.specs.Answer.{begunAnswer, operatedAnswer, finishedAnswer}
 use Rattle.rules.specs.Book.{answerOf}
 use Rattle.rules.specs.Buffer.{Buffers}
-use Rattle.rules.specs.Build.{begins, operates, finishes, Begins, Operated}
+use Rattle.rules.specs.Build.{begins, operates, finishes, Begins, OperatedBy}
 
 -- the triangle buffer and the place list that a call is lent
 abbrev pub lentTo : List ℕ → List Place → Buffers
@@ -27,7 +27,7 @@ pub record Beginning (s : Counts) (ts : List ℕ) (ps : List Place) (r : Begun) 
 -- an operation on the state b: the same
 pub record Operating (b : Builder) (o : Operation) (ts : List ℕ) (ps : List Place) (r : Performed) (ts′ : List ℕ) (ps′ : List Place) : Type 0 where
   pub answer : operatedAnswer (r .answer) ≡ answerOf (operates b (lentTo ts ps) o)
-  pub after : Operated b (lentTo ts ps) (operates b (lentTo ts ps) o) (r .state) (lentTo ts′ ps′)
+  pub after : OperatedBy b (lentTo ts ps) (operates b (lentTo ts ps) o) (r .state) (lentTo ts′ ps′)
 
 -- a finish: its answer; it changes nothing, for both buffers are only read
 pub record Finishing (b : Builder) (ts : List ℕ) (ps : List Place) (r : Finished) : Type 0 where

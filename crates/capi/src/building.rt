@@ -99,7 +99,7 @@ fn store_state(s: &mut State, b: Builder) {
 
 // A beginning with n place records, whose numbers m holds.
 #[no_mangle]
-pub extern "C" fn service_begin(
+pub extern "C" fn core_begin(
     counts: &[u16; 4],
     triangles: &mut [u16],
     m: &mut Memory,
@@ -132,7 +132,7 @@ fn store_triangle(t: Triangle, out: &mut [u16; 3]) {
 
 // An operation: 0 and the triangle that it built, or 255 where it marked an edge.
 #[no_mangle]
-pub extern "C" fn service_operate(
+pub extern "C" fn core_operate(
     state: &mut State,
     code: u32,
     p: u32,
@@ -169,7 +169,7 @@ fn store_totals(t: Totals, out: &mut [i32; 4]) {
 
 // A finish: edges, rims, unions and the Euler number.
 #[no_mangle]
-pub extern "C" fn service_finish(
+pub extern "C" fn core_finish(
     state: &State,
     triangles: &[u16],
     m: &mut Memory,

@@ -1,4 +1,5 @@
-// The service for tests and benchmarks in Rust: numbers and slices only, an answer as its number in the rules, 0 for acceptance.
+// The cores of the service for tests and benchmarks in Rust: numbers and slices only, an answer as its number in the rules, 0 for
+// acceptance. The public calls over place records differ from them by the bridge of the crate places.
 mod building; // the building calls
 
 use rules::Checked;
@@ -11,7 +12,7 @@ use wire::reader::OperationRead;
 
 // Refusals 1 to 7.
 #[no_mangle]
-pub extern "C" fn service_check(v: usize, list: &[u16]) -> u32 {
+pub extern "C" fn core_check(v: usize, list: &[u16]) -> u32 {
     let c = mesh::check(v, list);
     match c {
         Checked::Accepted => 0,
@@ -21,7 +22,7 @@ pub extern "C" fn service_check(v: usize, list: &[u16]) -> u32 {
 
 // Refusals 12 and 13, or the four counts and where the operations start and end.
 #[no_mangle]
-pub extern "C" fn service_fields(pack: &[u8], out: &mut [u32; 6]) -> u32 {
+pub extern "C" fn core_fields(pack: &[u8], out: &mut [u32; 6]) -> u32 {
     let f = wire::fields::fields_of(pack);
     match f {
         PackFields::Found(c, from, to) => {
@@ -86,7 +87,7 @@ pub(crate) fn operation_of(code: u32, p: u32, j: u32) -> Operation {
 
 // The operation at a bit position: its code, its indices, and the position after it; 15 if the bytes break off.
 #[no_mangle]
-pub extern "C" fn service_read(ops: &[u8], at: usize, out: &mut [u32; 4]) -> u32 {
+pub extern "C" fn core_read(ops: &[u8], at: usize, out: &mut [u32; 4]) -> u32 {
     let r = wire::reader::read_operation(ops, at);
     match r {
         OperationRead::Found(o, next) => {
@@ -102,12 +103,12 @@ pub extern "C" fn service_read(ops: &[u8], at: usize, out: &mut [u32; 4]) -> u32
 
 // The same at a bit position of a pack's operations, which are handed on as a part of the pack; 12 or 13 if it has none.
 #[no_mangle]
-pub extern "C" fn service_operation(pack: &[u8], at: usize, out: &mut [u32; 4]) -> u32 {
+pub extern "C" fn core_read_in_pack(pack: &[u8], at: usize, out: &mut [u32; 4]) -> u32 {
     let f = wire::fields::fields_of(pack);
     let PackFields::Found(_, from, to) = f else {
         return refusal_of(f);
     };
-    service_read(&pack[from..to], at, out)
+    core_read(&pack[from..to], at, out)
 }
 
 // The number of a refusal.
@@ -120,7 +121,7 @@ fn refusal_of(f: PackFields) -> u32 {
 
 // Writes an operation at a bit position: 1 if it fits, and the position after it.
 #[no_mangle]
-pub extern "C" fn service_write(
+pub extern "C" fn core_write(
     pack: &mut [u8],
     at: usize,
     code: u32,
@@ -136,7 +137,7 @@ pub extern "C" fn service_write(
 
 // An unpacking with n place records, whose numbers m holds: vertices, triangles, edges, rims, unions and the Euler number.
 #[no_mangle]
-pub extern "C" fn service_unpack(
+pub extern "C" fn core_unpack(
     pack: &[u8],
     triangles: &mut [u16],
     m: &mut [u16; 5320],
@@ -166,7 +167,7 @@ fn store_model(model: Model, out: &mut [i32; 6]) {
 
 // A packing with n place records, whose numbers m holds: the pack's length.
 #[no_mangle]
-pub extern "C" fn service_pack(
+pub extern "C" fn core_pack(
     v: usize,
     list: &[u16],
     numbering: &mut [u16],

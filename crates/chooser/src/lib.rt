@@ -125,5 +125,6 @@ pub fn choose_place(
     if let Seat::At(w, _, i) = t {
         return operation_for(k, w, i);
     }
+    // Never met in an accepted list.
     Operation::Border
 }

@@ -10,10 +10,10 @@ ghost use Rattle.reading.specs.Closing.{waitingRow, liveRow, builderOf};
 
 // The waiting loops' numbers stand from here on, two each, the oldest loop's first: where its current edge starts, and how
 // many places it has.
-pub const WAITING: usize = 5 * PLACES;
+const WAITING: usize = 5 * PLACES;
 
 // A number of each of the first k waiting loops, the first loop's at a.
-pub fn waiting_row(m: &Memory, a: usize, k: usize) -> [u16; Builder::MAX_LOOPS]
+fn waiting_row(m: &Memory, a: usize, k: usize) -> [u16; Builder::MAX_LOOPS]
     requires { ⌜ (a ≤ 5121) × (k ≤ 100) ⌝ }
     ensures { λ r. ⌜ r ≡ waitingRow (now (m .entry)) a k ⌝ }
 {
@@ -27,7 +27,7 @@ pub fn waiting_row(m: &Memory, a: usize, k: usize) -> [u16; Builder::MAX_LOOPS]
 }
 
 // The same of all live loops: the current one, whose number is x, comes last.
-pub fn live_row(m: &Memory, a: usize, live: u16, x: u16) -> [u16; Builder::MAX_LOOPS]
+fn live_row(m: &Memory, a: usize, live: u16, x: u16) -> [u16; Builder::MAX_LOOPS]
     requires { ⌜ (a ≤ 5121) × (live ≤ 100) ⌝ }
     ensures { λ r. ⌜ r ≡ liveRow (now (m .entry)) a live x ⌝ }
 {

@@ -4,6 +4,7 @@ use libc::STDIN_FILENO;
 use libc::STDOUT_FILENO;
 use rules::Packed;
 use show::print_refusal;
+use text::is_space;
 
 // A text is read in parts of so many bytes, and at most so many of them; a longer one is no model.
 const PART: usize = 65536;
@@ -91,20 +92,6 @@ fn end_number(t: Text, numbers: &mut [u16]) -> Text {
         inside: false,
         bad: t.bad,
     }
-}
-
-// Whether a byte is white space.
-fn is_space(b: u8) -> bool {
-    if b == b' ' {
-        return true;
-    }
-    if b == b'\n' {
-        return true;
-    }
-    if b == b'\t' {
-        return true;
-    }
-    b == b'\r'
 }
 
 // One byte more.

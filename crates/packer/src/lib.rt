@@ -17,6 +17,7 @@ use mesh::Links;
 use mesh::VERTICES;
 use mesh::check_into;
 use packing::Course;
+use rules::Builder;
 use rules::Checked;
 use rules::Counts;
 use rules::Packed;
@@ -28,7 +29,7 @@ ghost use Rattle.packing.specs.Doing.{statedFor};
 ghost use Rattle.packing.specs.Lent.{PackedOn, Fitting, RunGives};
 
 // How many places the memory has, how many numbers their records are, and how many all the memory has.
-pub(crate) const PLACES: usize = 1024;
+pub(crate) const PLACES: usize = Builder::MAX_PLACES;
 
 const RECORDS: usize = 4096;
 

@@ -17,7 +17,7 @@ use Rattle.rules.specs.Book.{answerOf, isAccepted}
 use Rattle.rules.specs.Buffer.{Buffers}
 use Rattle.rules.specs.View.{view}
 use Rattle.rules.specs.Test21.{linksFit, sound}
-use Rattle.rules.specs.Build.{viewed, operates, finishes, Leaves, Operated}
+use Rattle.rules.specs.Build.{viewed, operates, finishes, Leaves, OperatedBy}
 use Rattle.book.proofs.Counting.{and-right}
 use Rattle.places.specs.Memory.{records, saved, counted, memoryOf}
 use Rattle.places.proofs.Counting.{count-long, count-within}
@@ -94,7 +94,7 @@ module _ (b : Builder) (o : Operation) (xs : List ℕ) (ps : List Place) (r : Pe
       let f : ps′ ≡ ps = saves ∙ saved-same (counted ps) m′ ps (count-within (length ps) .0) (ap (λ (q : Buffers). q .places) e ∙ memory-reads ps) in
       λ i. record { triangles = e i .triangles; places = f i }
 
-  lifted : (x : Step) → operates b r₀ o ≡ x → Operated b r₀ x (r .state) r₁ → Operated b (lentTo xs ps) x (r .state) (lentTo xs′ ps′)
+  lifted : (x : Step) → operates b r₀ o ≡ x → OperatedBy b r₀ x (r .state) r₁ → OperatedBy b (lentTo xs ps) x (r .state) (lentTo xs′ ps′)
   lifted (refused n) e a = (a .0, same-buffers (a .1))
   lifted (begun m) e a = a
   lifted (built t m) e a = leaves (passes-if (sound b r₀) refl (ap isAccepted e)) _ m a
@@ -108,7 +108,7 @@ operates-lent b o xs ps r xs′ m′ ps′ p e =
     record {
       answer = p .kept .answer ∙ ap answerOf (sym s);
       after =
-          subst (λ (x : Step). Operated b (lentTo xs ps) x (r .state) (lentTo xs′ ps′)) (sym s)
+          subst (λ (x : Step). OperatedBy b (lentTo xs ps) x (r .state) (lentTo xs′ ps′)) (sym s)
           (lifted b o xs ps r xs′ m′ ps′ (p .links) e (operates b (lent xs (counted ps) (memoryOf ps)) o) refl (p .kept .after));
     }
 

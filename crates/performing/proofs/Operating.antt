@@ -23,7 +23,7 @@ use Rattle.rules.specs.Book.{answerOf}
 use Rattle.rules.specs.Buffer.{Buffers, lengths}
 use Rattle.rules.specs.View.{view, trianglesBuilt}
 use Rattle.rules.specs.Test21.{linksFit, sound}
-use Rattle.rules.specs.Build.{viewed, operates, withTriangle, Leaves, Operated}
+use Rattle.rules.specs.Build.{viewed, operates, withTriangle, Leaves, OperatedBy}
 use Rattle.book.specs.Consistent.{Ranges}
 use Rattle.book.specs.Reached.{reached}
 use Rattle.book.proofs.Counting.{and-left}
@@ -63,7 +63,7 @@ refuses b o xs m n m′ k e s r er =
       kept = record {
         answer = sym (ap answerOf e);
         after =
-            subst (λ (x : Step). Operated b (lent xs n m) x b (lent xs n m′)) (sym e) (refl, ap (λ (ps : List Place). record { triangles = xs; places = ps }) s);
+            subst (λ (x : Step). OperatedBy b (lent xs n m) x b (lent xs n m′)) (sym e) (refl, ap (λ (ps : List Place). record { triangles = xs; places = ps }) s);
       };
       links = λ h. ap (linksFit b) s ∙ parts b (lent xs n m) h .links;
     })
@@ -279,7 +279,7 @@ module _ (b : Builder) (o : Operation) (xs m : List ℕ) (f : Front) (w : Open b
             kept = record {
               answer = sym (ap answerOf y);
               after =
-                  subst (λ (z : Step). Operated b r₀ z b′ (lent xs′ maxPlaces m′)) (sym y)
+                  subst (λ (z : Step). OperatedBy b r₀ z b′ (lent xs′ maxPlaces m′)) (sym y)
                   (subst (λ (r : Buffers). Leaves r₀ (withTriangle (b .built) (p .triangle) xs) M₁ b′ r) (sym g)
                   (subst (λ (b₁ : Builder). Leaves r₀ (withTriangle (b .built) (p .triangle) xs) M₁ b₁
                   (lent (withTriangle (b .built) (p .triangle) xs) maxPlaces (heldAfter maxPlaces f m o p .memory))) (sym c) built-leaves));
@@ -336,7 +336,7 @@ module _ (b : Builder) (o : Operation) (xs m : List ℕ) (f : Front) (w : Open b
         (record {
           kept = record {
             answer = sym (ap answerOf z);
-            after = subst (λ (s : Step). Operated b r₀ s (builderOf f₂ m₂) (lent xs maxPlaces m₂)) (sym z) marked-leaves;
+            after = subst (λ (s : Step). OperatedBy b r₀ s (builderOf f₂ m₂) (lent xs maxPlaces m₂)) (sym z) marked-leaves;
           };
           links = λ h. marked-links;
         }))

@@ -1,5 +1,4 @@
 pub mod Counting
-pub mod Clearing
 pub mod Stored
 pub mod Own
 pub mod Reading

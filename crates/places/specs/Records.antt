@@ -1,13 +1,10 @@
 -- Changes of a list of place records.
 -- Assumes nothing.
 use Prim.Native.Nat.{ℕ}
-use mathlib.Core.Bool.{true, false}
-use mathlib.Core.List.{List, _++_}
-use lib.Dec.{ltb}
-use lib.ListN.{length, replicate, drop, set}
+use mathlib.Core.List.{List}
+use lib.ListN.{set}
 use Rattle.rules.specs.declared.Place.{Place}
-use Rattle.rules.specs.Limits.{maxPlaces}
-use Rattle.rules.specs.Buffer.{freePlace, cleared}
+use Rattle.rules.specs.Buffer.{freePlace}
 use Rattle.rules.specs.View.{placeAt}
 
 -- a record with other places before and after it
@@ -20,15 +17,3 @@ linkedAt ps i before after = set ps i (linked (placeAt ps i) before after)
 -- record i zero, its edge not open
 abbrev pub freedAt : List Place → ℕ → List Place
 freedAt ps i = set ps i freePlace
-
--- the first n records p
-abbrev pub filled : ℕ → Place → List Place → List Place
-filled n p ps = replicate n p ++ drop n ps
-
--- of n records 1,024, or none where there are fewer
-unfoldable pub clearCount : ℕ → ℕ
-clearCount n = elim (ltb n maxPlaces) [ true ↦ 0 | false ↦ maxPlaces ]
-
--- the first 1,024 records zero; a shorter list as it was
-unfoldable pub clearedIfLong : List Place → List Place
-clearedIfLong ps = elim (ltb (length ps) maxPlaces) [ true ↦ ps | false ↦ cleared ps ]

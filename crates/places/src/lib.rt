@@ -1,16 +1,17 @@
 // The list of place records that a caller lends: thin functions over it, and the way to the core's plain memory and back.
 // The contracts cite specs/Records.antt and specs/Memory.antt, and `placeAt` of the crate rules.
+use rules::Builder;
 use rules::Place;
 ghost use mathlib.Core.Path.{_≡_};
 ghost use Prim.Native.Nat.{ℕ, _+_, _*_, _<_, _≤_};
 ghost use lib.ListN.{length, getD, set};
 ghost use Rattle.rules.specs.Limits.{maxPlaces};
 ghost use Rattle.rules.specs.View.{placeAt};
-ghost use Rattle.places.specs.Records.{linkedAt, freedAt, filled, clearCount, clearedIfLong};
+ghost use Rattle.places.specs.Records.{linkedAt, freedAt};
 ghost use Rattle.places.specs.Memory.{numberOf, isOne, storedAt, recordAt, loaded, saved, blank, countOf};
 
 // All loops together have at most so many places.
-pub const PLACES: usize = 1024;
+pub const PLACES: usize = Builder::MAX_PLACES;
 
 // How many numbers the core's plain memory has: four for each of 1,024 records, then 1,224 that are the core's own.
 pub const NUMBERS: usize = 5320;
@@ -34,14 +35,6 @@ pub fn take(s: &[Place], i: usize) -> Place
     s[i]
 }
 
-// Record i becomes p.
-pub fn put(s: &mut [Place], i: usize, p: Place)
-    requires { ⌜ i < length (now s) ⌝ }
-    ensures { λ _. ⌜ now (s .exit) ≡ set (now (s .entry)) i p ⌝ }
-{
-    s[i] = p;
-}
-
 // Record i gets these places before and after it, and keeps its vertex and whether its edge is open.
 pub fn link(s: &mut [Place], i: usize, before: u16, after: u16)
     requires { ⌜ i < length (now s) ⌝ }
@@ -57,36 +50,6 @@ pub fn free(s: &mut [Place], i: usize)
     ensures { λ _. ⌜ now (s .exit) ≡ freedAt (now (s .entry)) i ⌝ }
 {
     s[i] = FREE;
-}
-
-// The first n records become p.
-pub fn fill(s: &mut [Place], n: usize, p: Place)
-    requires { ⌜ n ≤ length (now s) ⌝ }
-    ensures { λ _. ⌜ now (s .exit) ≡ filled n p (now (s .entry)) ⌝ }
-{
-    let mut i = 0;
-    while i < n {
-        s[i] = p;
-        i += 1;
-    }
-}
-
-// How many of n records `clear` makes zero: 1,024, or none where there are fewer.
-pub fn clear_count(n: usize) -> usize
-    ensures { λ r. ⌜ r ≡ clearCount n ⌝ }
-{
-    if n < PLACES {
-        return 0;
-    }
-    PLACES
-}
-
-// The first 1,024 records become zero, their edges not open. A shorter list is left as it is.
-pub fn clear(s: &mut [Place])
-    ensures { λ _. ⌜ now (s .exit) ≡ clearedIfLong (now (s .entry)) ⌝ }
-{
-    let n = clear_count(s.len());
-    fill(s, n, FREE)
 }
 
 // An edge's openness as a number: 1 for open, else 0.
@@ -138,7 +101,8 @@ pub fn record_at(m: &Memory, i: usize) -> Place
 
 // What is not 1 in a record's last number becomes 0: the records are as they were.
 pub fn settle(m: &mut Memory)
-    ensures { λ _. ⌜ ((p : ℕ) → p < maxPlaces → getD (now (m .exit)) (4 * p + 3) 0 ≤ 1) ⌝ }
+    ensures small { λ _. ⌜ ((p : ℕ) → p < maxPlaces → getD (now (m .exit)) (4 * p + 3) 0 ≤ 1) ⌝ }
+    ensures same { λ _. ⌜ ((p : ℕ) → recordAt (now (m .exit)) p ≡ recordAt (now (m .entry)) p) ⌝ }
 {
     let mut i = 0;
     while i < PLACES {

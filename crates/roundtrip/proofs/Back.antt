@@ -1,6 +1,6 @@
 -- Claim 3: every accepted pack is the pack of its list.
 -- Assumes nothing.
-use Prim.Native.Nat.{ℕ, suc, _+_, _*_, _≤_, _<_}
+use Prim.Native.Nat.{ℕ, zero, suc, _+_, _*_, _≤_, _<_}
 use native.Mathlib.Omega.{arith}
 use mathlib.Core.Bool.{true, _&&_}
 use mathlib.Core.List.{List, [], _∷_, _++_, append-assoc}
@@ -25,6 +25,7 @@ use Rattle.rules.specs.Fields.{packBytes}
 use Rattle.rules.specs.Pack.{Chosen, stopped, chosen, most, chosenFor, packOf, indexOf, newNumbers, PackBuffers, PackResult, packDone, packChosen, packRooms, pack}
 use Rattle.rules.specs.Buffer.{Buffers}
 use Rattle.rules.specs.Unpack.{numbersOf, UnpackResult, unpack}
+use Rattle.fans.proofs.Accepted.{accepted-mesh}
 use Rattle.gap.specs.Works.{Reads, none-read, one-read}
 use Rattle.gap.proofs.Bools.{and-true}
 use Rattle.gap.proofs.Working.{works-stated}
@@ -201,7 +202,21 @@ bytes-are bytes hb r m e =
     let u = unpacked-by bytes r m e in
     sym (pack-is bytes hb r m u) ∙ ap (bytesFor (m .vertices) (listIn m (unpack bytes r))) (sym (chose bytes r m u))
 
+-- The list settles V. Accepted for v and for w, it uses every number below v (6 for v), and those that it uses are below w (3 for w)
+no-more-vertices : (v w : ℕ) (xs : List ℕ) → check v xs ≡ Accepted → check w xs ≡ Accepted → v ≤ w
+no-more-vertices zero w xs h k = omega arith
+no-more-vertices (suc n) w xs h k =
+    let c = accepted-mesh (suc n) xs .0 h .2 .used n (omega arith) in
+    let l = accepted-mesh w xs .0 k .2 .below n (c .0) (c .1) (c .2) in
+    omega (arith, l)
+
+pub same-vertices : (v w : ℕ) (xs : List ℕ) → check v xs ≡ Accepted → check w xs ≡ Accepted → v ≡ w
+same-vertices v w xs h k = omega (arith, no-more-vertices v w xs h k, no-more-vertices w v xs k h)
+
 pub no-two-packs-of-one-list : NoTwoPacksOfOneList
-no-two-packs-of-one-list bytes bytes′ hb hb′ r r′ m m′ e e′ v l =
+no-two-packs-of-one-list bytes bytes′ hb hb′ r r′ m m′ e e′ l =
+    let k = checks bytes r m (unpacked-by bytes r m e) in
+    let k′ = checks bytes′ r′ m′ (unpacked-by bytes′ r′ m′ e′) in
+    let v = same-vertices (m .vertices) (m′ .vertices) (listIn m′ (unpack bytes′ r′)) (subst (λ (xs : List ℕ). check (m .vertices) xs ≡ Accepted) l k) k′ in
     bytes-are bytes hb r m e
     ∙ (ap₂ (λ (k : ℕ) (xs : List ℕ). bytesFor k xs (chosenFor most (trianglesOf xs))) v l ∙ sym (bytes-are bytes′ hb′ r′ m′ e′))

@@ -149,11 +149,11 @@ abbrev pub EveryAcceptedPackIsThePackOfItsList : Type 0
 EveryAcceptedPackIsThePackOfItsList = (bytes : List ℕ) → Bytes bytes → (r : Buffers) (m : Model) → unpack bytes r .answer ≡ unpacked m
     → PackOf bytes m (listIn m (unpack bytes r))
 
--- no two accepted packs unpack to one list
+-- no two accepted packs unpack to one list: the list settles V too
 abbrev pub NoTwoPacksOfOneList : Type 0
 NoTwoPacksOfOneList = (bytes bytes′ : List ℕ) → Bytes bytes → Bytes bytes′ → (r r′ : Buffers) (m m′ : Model)
     → unpack bytes r .answer ≡ unpacked m → unpack bytes′ r′ .answer ≡ unpacked m′
-    → m .vertices ≡ m′ .vertices → listIn m (unpack bytes r) ≡ listIn m′ (unpack bytes′ r′) → bytes ≡ bytes′
+    → listIn m (unpack bytes r) ≡ listIn m′ (unpack bytes′ r′) → bytes ≡ bytes′
 
 -- 4. Packing depends on v and the list alone, not on what the buffers hold: of their lengths only on whether they are long enough
 abbrev pub SameInAllBuffers : Type 0

@@ -71,7 +71,7 @@ withTriangle n t xs = take (3 * n) xs ++ ((t .p ∷ (t .q ∷ (t .r ∷ []))) ++
 
 -- What an accepted operation leaves: the triangle buffer xs; a state that is read as the machine m and that passes 21, unless its
 -- edges, starts, unions or rims now exceed 3T, as no list of calls leads to; no record beyond the first 1,024 changed. Free is which
--- of these the places use, and what the records hold that no loop uses.
+-- of these the places use, what the records hold that no loop uses, and what the state's arrays hold past the live loops.
 pub record Leaves (r : Buffers) (xs : List ℕ) (m : Machine) (b′ : Builder) (r′ : Buffers) : Type 0 where
   pub triangles : r′ .triangles ≡ xs
   pub passes : sumsFit b′ ≡ true → sound b′ r′ ≡ true
@@ -80,9 +80,9 @@ pub record Leaves (r : Buffers) (xs : List ℕ) (m : Machine) (b′ : Builder) (
   pub beyond : drop {A = Place} maxPlaces (r′ .places) ≡ drop maxPlaces (r .places)
 
 -- a refused operation changes nothing; it is never a beginning or a finish
-abbrev pub Operated : Builder → Buffers → Step → Builder → Buffers → Type 0
-Operated b r (refused n) b′ r′ = (b′ ≡ b) × (r′ ≡ r)
-Operated b r (begun m) b′ r′ = ⊥
-Operated b r (built t m) b′ r′ = Leaves r (withTriangle (b .built) t (r .triangles)) m b′ r′
-Operated b r (declared d m) b′ r′ = Leaves r (r .triangles) m b′ r′
-Operated b r (finished x) b′ r′ = ⊥
+abbrev pub OperatedBy : Builder → Buffers → Step → Builder → Buffers → Type 0
+OperatedBy b r (refused n) b′ r′ = (b′ ≡ b) × (r′ ≡ r)
+OperatedBy b r (begun m) b′ r′ = ⊥
+OperatedBy b r (built t m) b′ r′ = Leaves r (withTriangle (b .built) t (r .triangles)) m b′ r′
+OperatedBy b r (declared d m) b′ r′ = Leaves r (r .triangles) m b′ r′
+OperatedBy b r (finished x) b′ r′ = ⊥

@@ -95,7 +95,7 @@ choosePlace a b c ts ls =
       | nowhere ↦ elim (spotOf 0 c (turnOut (length ts) c a ts) ls) [ spot l i ↦ operationFor k l i | nowhere ↦ Border ]
     ]
 
--- what the packer does next: nothing is left to do, it is refused, or it takes an operation
+-- what the packer does next: nothing is left to do (or, never met, nothing can be done), it is refused, or it takes an operation
 pub data Next : Type 0 where
   ended : Next
   refuses : ℕ → Next

@@ -1,5 +1,5 @@
--- The abstract machine: what the book (a term of the rules) holds but the edges declared border, on which no answer depends, and
--- the builder's running count of edges, which the book's finish does not read. And the three kinds of call on it, with their refusals.
+-- The abstract machine: the book (a term of the rules) without the edges declared border, on which no answer depends, and with the
+-- builder's running count of edges, which the book's finish does not read. And the three kinds of call on it, with their refusals.
 -- Assumes nothing.
 use Prim.Native.Nat.{ℕ, _+_, _*_, max}
 use mathlib.Core.Bool.{Bool, true, false, _&&_}

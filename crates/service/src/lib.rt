@@ -1,5 +1,5 @@
 // The service's calls over a lent list of place records. Each loads the records into a plain memory, calls the core that works
-// there, and saves them. The contracts cite specs/Calls.antt and specs/Packing.antt, and of the crate building specs/Promised.antt, on which demand 3 rests.
+// there, and saves them, but for the finish, which changes nothing. The contracts cite specs/Calls.antt and specs/Packing.antt, and of the crate building specs/Promised.antt, on which demand 3 rests.
 use places::count;
 use places::empty;
 use places::load;
@@ -17,8 +17,8 @@ ghost use Rattle.building.specs.Promised.{Beginning, Operating, Finishing};
 ghost use Rattle.service.specs.Calls.{Unpacks};
 ghost use Rattle.service.specs.Packing.{Packs};
 
-// Unpacks any bytes: refusals 12 to 20, or the model, whose triangles then stand in the first entries as built. Past 14 the first
-// 1,024 place records are left zero; after 12 to 14 nothing has changed.
+// Unpacks any bytes: refusals 12 to 20, or the model, whose triangles then stand in the first entries as built. After 15 to 20 the
+// first 3T triangle entries are zero. Past 14 the first 1,024 place records are left zero; after 12 to 14 nothing has changed.
 pub fn unpack(pack: &[u8], triangles: &mut [u16], places: &mut [Place]) -> Unpacked
     ensures { λ r. ⌜ Unpacks (now (pack .entry)) (now (triangles .entry)) (now (places .entry)) r (now (triangles .exit)) (now (places .exit)) ⌝ }
 {

@@ -9,7 +9,7 @@ pub struct Number {
 }
 
 // Whether a byte parts words.
-fn is_space(b: u8) -> bool {
+pub fn is_space(b: u8) -> bool {
     if b == b' ' {
         return true;
     }

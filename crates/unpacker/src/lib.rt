@@ -12,6 +12,7 @@ use crate::step::run;
 use border::begin;
 use mesh::CORNERS;
 use mesh::VERTICES;
+use rules::Builder;
 use rules::Counts;
 use rules::Unpacked;
 use wire::fields::PackFields;
@@ -23,7 +24,7 @@ ghost use Rattle.wire.specs.declared.fields.PackFields.the-variants as Packs;
 ghost use Rattle.unpacking.specs.Lent.{UnpackedOn, Fitting, RunGives};
 
 // How many places the memory has, how many numbers their records are, and how many all the memory has.
-const PLACES: usize = 1024;
+const PLACES: usize = Builder::MAX_PLACES;
 
 const RECORDS: usize = 4096;
 

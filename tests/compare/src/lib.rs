@@ -1,4 +1,4 @@
-//! The service as Rust sees it: each exported function behind a safe one.
+//! The cores of the service as Rust sees them: each exported function behind a safe one.
 
 use cutborder::book::{Finish, Spot};
 use cutborder::ops::{Counts, Op};
@@ -14,7 +14,7 @@ pub const STATE: usize = 213;
 pub type State = [u16; STATE];
 
 extern "C" {
-    fn service_begin(
+    fn core_begin(
         counts: *const [u16; 4],
         triangles: *mut u16,
         triangles_len: usize,
@@ -22,9 +22,9 @@ extern "C" {
         n: usize,
         state: *mut State,
     ) -> u32;
-    fn service_check(v: usize, list: *const u16, len: usize) -> u32;
-    fn service_fields(pack: *const u8, len: usize, out: *mut [u32; 6]) -> u32;
-    fn service_finish(
+    fn core_check(v: usize, list: *const u16, len: usize) -> u32;
+    fn core_fields(pack: *const u8, len: usize, out: *mut [u32; 6]) -> u32;
+    fn core_finish(
         state: *const State,
         triangles: *const u16,
         triangles_len: usize,
@@ -32,7 +32,7 @@ extern "C" {
         n: usize,
         out: *mut [i32; 4],
     ) -> u32;
-    fn service_operate(
+    fn core_operate(
         state: *mut State,
         code: u32,
         p: u32,
@@ -43,7 +43,7 @@ extern "C" {
         n: usize,
         out: *mut [u16; 3],
     ) -> u32;
-    fn service_pack(
+    fn core_pack(
         v: usize,
         list: *const u16,
         len: usize,
@@ -55,9 +55,9 @@ extern "C" {
         n: usize,
         out: *mut [u32; 1],
     ) -> u32;
-    fn service_read(ops: *const u8, len: usize, at: usize, out: *mut [u32; 4]) -> u32;
-    fn service_operation(pack: *const u8, len: usize, at: usize, out: *mut [u32; 4]) -> u32;
-    fn service_unpack(
+    fn core_read(ops: *const u8, len: usize, at: usize, out: *mut [u32; 4]) -> u32;
+    fn core_read_in_pack(pack: *const u8, len: usize, at: usize, out: *mut [u32; 4]) -> u32;
+    fn core_unpack(
         pack: *const u8,
         len: usize,
         triangles: *mut u16,
@@ -66,7 +66,7 @@ extern "C" {
         n: usize,
         out: *mut [i32; 6],
     ) -> u32;
-    fn service_write(pack: *mut u8, len: usize, at: usize, code: u32, p: u32, j: u32, out: *mut [u32; 1]) -> u32;
+    fn core_write(pack: *mut u8, len: usize, at: usize, code: u32, p: u32, j: u32, out: *mut [u32; 1]) -> u32;
 }
 
 fn verdict(n: u32) -> Result<(), Refusal> {
@@ -78,13 +78,13 @@ fn verdict(n: u32) -> Result<(), Refusal> {
 
 /// Refusals 1 to 7.
 pub fn check(v: usize, list: &[u16]) -> Result<(), Refusal> {
-    verdict(unsafe { service_check(v, list.as_ptr(), list.len()) })
+    verdict(unsafe { core_check(v, list.as_ptr(), list.len()) })
 }
 
 /// Refusals 12 and 13, or the counts and where the operations start and end.
 pub fn fields(pack: &[u8]) -> Result<(Counts, usize, usize), Refusal> {
     let mut out = [0u32; 6];
-    verdict(unsafe { service_fields(pack.as_ptr(), pack.len(), &mut out) })?;
+    verdict(unsafe { core_fields(pack.as_ptr(), pack.len(), &mut out) })?;
     let [v, t, places, loops, start, end] = out;
     Ok((Counts { v, t, places, loops }, start as usize, end as usize))
 }
@@ -92,14 +92,14 @@ pub fn fields(pack: &[u8]) -> Result<(Counts, usize, usize), Refusal> {
 /// The operation at a bit position and the position after it, or that the bytes break off.
 pub fn read(ops: &[u8], at: usize) -> Option<(Op, usize)> {
     let mut out = [0u32; 4];
-    let n = unsafe { service_read(ops.as_ptr(), ops.len(), at, &mut out) };
+    let n = unsafe { core_read(ops.as_ptr(), ops.len(), at, &mut out) };
     (n == 0).then(|| found(out))
 }
 
 /// The same at a bit position of a pack's operations; 15 if they break off.
 pub fn read_in_pack(pack: &[u8], at: usize) -> Result<(Op, usize), Refusal> {
     let mut out = [0u32; 4];
-    verdict(unsafe { service_operation(pack.as_ptr(), pack.len(), at, &mut out) })?;
+    verdict(unsafe { core_read_in_pack(pack.as_ptr(), pack.len(), at, &mut out) })?;
     Ok(found(out))
 }
 
@@ -131,14 +131,14 @@ fn indices(op: Op) -> (u32, u32) {
 pub fn write(pack: &mut [u8], at: usize, op: Op) -> (bool, usize) {
     let (p, j) = indices(op);
     let mut out = [0u32; 1];
-    let fits = unsafe { service_write(pack.as_mut_ptr(), pack.len(), at, op.code(), p, j, &mut out) };
+    let fits = unsafe { core_write(pack.as_mut_ptr(), pack.len(), at, op.code(), p, j, &mut out) };
     (fits == 1, out[0] as usize)
 }
 
 /// An unpacking with n place records.
 pub fn unpack(pack: &[u8], triangles: &mut [u16], m: &mut [u16; MEMORY], n: usize) -> Result<Answer, Refusal> {
     let mut out = [0i32; 6];
-    verdict(unsafe { service_unpack(pack.as_ptr(), pack.len(), triangles.as_mut_ptr(), triangles.len(), m, n, &mut out) })?;
+    verdict(unsafe { core_unpack(pack.as_ptr(), pack.len(), triangles.as_mut_ptr(), triangles.len(), m, n, &mut out) })?;
     let [v, t, edges, rims, unions] = [out[0], out[1], out[2], out[3], out[4]].map(|x| x as u32);
     Ok(Answer { v, t, edges, rims, unions, euler: out[5] })
 }
@@ -147,7 +147,7 @@ pub fn unpack(pack: &[u8], triangles: &mut [u16], m: &mut [u16; MEMORY], n: usiz
 pub fn pack(v: usize, list: &[u16], numbering: &mut [u16], room: &mut [u8], m: &mut [u16; MEMORY], n: usize) -> Result<usize, Refusal> {
     let mut out = [0u32; 1];
     let (ns, bs) = ((numbering.as_mut_ptr(), numbering.len()), (room.as_mut_ptr(), room.len()));
-    verdict(unsafe { service_pack(v, list.as_ptr(), list.len(), ns.0, ns.1, bs.0, bs.1, m, n, &mut out) })?;
+    verdict(unsafe { core_pack(v, list.as_ptr(), list.len(), ns.0, ns.1, bs.0, bs.1, m, n, &mut out) })?;
     Ok(out[0] as usize)
 }
 
@@ -169,7 +169,7 @@ impl Building {
     pub fn begin(&mut self, c: Counts) -> Result<(), Refusal> {
         let counts = [c.v, c.t, c.places, c.loops].map(|x| x.min(65_535) as u16);
         let t = &mut self.triangles;
-        verdict(unsafe { service_begin(&counts, t.as_mut_ptr(), t.len(), &mut self.m, self.records, &mut self.state) })
+        verdict(unsafe { core_begin(&counts, t.as_mut_ptr(), t.len(), &mut self.m, self.records, &mut self.state) })
     }
 
     /// The triangle built, or none at border.
@@ -177,7 +177,7 @@ impl Building {
         let (p, j) = indices(op);
         let mut out = [0u16; 3];
         let t = &mut self.triangles;
-        match unsafe { service_operate(&mut self.state, op.code(), p, j, t.as_mut_ptr(), t.len(), &mut self.m, self.records, &mut out) } {
+        match unsafe { core_operate(&mut self.state, op.code(), p, j, t.as_mut_ptr(), t.len(), &mut self.m, self.records, &mut out) } {
             0 => Ok(Some(out)),
             255 => Ok(None),
             n => Err(n as Refusal),
@@ -187,7 +187,7 @@ impl Building {
     pub fn finish(&mut self) -> Result<Finish, Refusal> {
         let mut out = [0i32; 4];
         let t = &self.triangles;
-        verdict(unsafe { service_finish(&self.state, t.as_ptr(), t.len(), &mut self.m, self.records, &mut out) })?;
+        verdict(unsafe { core_finish(&self.state, t.as_ptr(), t.len(), &mut self.m, self.records, &mut out) })?;
         let [edges, rims, unions] = [out[0], out[1], out[2]].map(|x| x as u32);
         Ok(Finish { edges, rims, unions, euler: out[3] })
     }

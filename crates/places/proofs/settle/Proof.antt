@@ -1,13 +1,15 @@
 -- `places::settle` meets its contract: the loop keeps the last numbers of the records passed 0 or 1.
 -- Assumes nothing.
 use Prim.Native.Nat.{_-_}
+use mathlib.Core.Path.{ap, _∙_}
+use Rattle.places.specs.Memory.{numberOf}
 use borrow.Author.Needs.{needs}
-use Rattle.places.proofs.Settling.{Settled, number-le, settled-none, settled-more}
+use Rattle.places.proofs.Settling.{Settled, settled-none, settled-more}
 use Rattle.places.proofs.settle.Statement.{statement}
 use Rattle.places.proofs.settle.Tie as tie
 
 abbrev Inv-loop : tie.InvT-loop
-Inv-loop m₀ i₀ m i = Settled m i
+Inv-loop m₀ i₀ m i = Settled m₀ m i
 
 abbrev μ-loop : tie.MeasureT-loop
 μ-loop m₀ i₀ m i = 1024 - i
@@ -48,10 +50,10 @@ loop-less c = search needs
 loop-again : tie.Need-loop-again Inv-loop μ-loop
 loop-again c =
     let l = c .before .before .before .before in
-    settled-more _ _ _ (l .loop .inv) (search needs) (number-le (c .before .is-one .result) _ (c .number .ensures))
+    settled-more _ _ _ _ (l .loop .inv) (search needs) (c .number .ensures ∙ ap numberOf (c .before .is-one .ensures))
 
 returns : tie.Need-returns Inv-loop μ-loop
-returns c = λ p h. c .before .loop .inv .each p (search needs)
+returns c = (λ p h. c .before .loop .inv .each p (search needs), λ p. c .before .loop .inv .same p)
 
 pub settle-spec : {M : Type 1} → statement M
 settle-spec =

@@ -1,9 +1,9 @@
--- `capi::building::service_finish` is safe and ends.
+-- `capi::building::core_finish` is safe and ends.
 -- Assumes nothing.
 use borrow.Author.Needs.{needs}
 use Rattle.capi.proofs.Counted.{count-most}
-use Rattle.capi.proofs.building.service_finish.Statement.{statement}
-use Rattle.capi.proofs.building.service_finish.Tie as tie
+use Rattle.capi.proofs.building.core_finish.Statement.{statement}
+use Rattle.capi.proofs.building.core_finish.Tie as tie
 use Rattle.places.proofs.count.Reads as count-reads
 
 settle-requires : tie.Need-settle-requires
@@ -36,8 +36,8 @@ returns c = search needs
 returns-2 : tie.Need-returns-2
 returns-2 c = search needs
 
-pub service-finish-spec : {M : Type 1} → statement M
-service-finish-spec =
+pub core-finish-spec : {M : Type 1} → statement M
+core-finish-spec =
     tie.close
     (tie.spec
     settle-requires

@@ -1,9 +1,9 @@
--- `capi::building::service_operate` is safe and ends.
+-- `capi::building::core_operate` is safe and ends.
 -- Assumes nothing.
 use borrow.Author.Needs.{needs}
 use Rattle.capi.proofs.Counted.{count-most}
-use Rattle.capi.proofs.building.service_operate.Statement.{statement}
-use Rattle.capi.proofs.building.service_operate.Tie as tie
+use Rattle.capi.proofs.building.core_operate.Statement.{statement}
+use Rattle.capi.proofs.building.core_operate.Tie as tie
 use Rattle.places.proofs.count.Reads as count-reads
 
 settle-requires : tie.Need-settle-requires
@@ -57,8 +57,8 @@ same-length-3 c = search needs
 returns-3 : tie.Need-returns-3
 returns-3 c = search needs
 
-pub service-operate-spec : {M : Type 1} → statement M
-service-operate-spec =
+pub core-operate-spec : {M : Type 1} → statement M
+core-operate-spec =
     tie.close
     (tie.spec
     settle-requires
