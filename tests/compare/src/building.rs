@@ -60,7 +60,7 @@ fn list(rng: &mut Rng, max_t: usize, tally: &mut Tally) -> usize {
     let answer = b.operate(Op::Start);
     assert_eq!((answer, b.finish().err()), (Err(21), Some(21)));
     count(tally, &answer);
-    for line in &lines {
+    for (i, line) in lines.iter().enumerate() {
         let before = b.clone();
         let refused = match parsed(line).0 {
             Call::Begin(c) => {
@@ -95,7 +95,10 @@ fn list(rng: &mut Rng, max_t: usize, tally: &mut Tally) -> usize {
             assert_eq!(records_of(&b), records_of(&before), "records changed by {line}");
         }
         if let Some(x) = &book {
-            same(&b, x);
+            // The book counts its edges anew: of a large model now and then only.
+            if x.triangles.len() < 40 || i % 16 == 0 || i + 1 == lines.len() {
+                same(&b, x);
+            }
         }
     }
     lines.len()
@@ -109,7 +112,7 @@ pub fn lists(rng: &mut Rng, rounds: usize) -> (usize, Tally) {
     let mut tally = Tally::new();
     let mut n = 0;
     for i in 0..rounds {
-        n += list(rng, [8, 30, 120, 600][i % 4], &mut tally);
+        n += list(rng, [6, 20, 60, 300][i % 4], &mut tally);
     }
     met(&tally, &[0, 13, 14, 15, 16, 17, 18, 19, 20, 21]);
     (n, tally)

@@ -298,8 +298,8 @@ fn main() {
     let (n, tally) = packings(&mut rng, 2_000 * scale);
     println!("packings: {n} alike, answers {tally:?}, {:.1} s", t.elapsed().as_secs_f64());
     let t = Instant::now();
-    let (n, tally) = building::lists(&mut rng, 250 * scale);
-    println!("building: {n} calls in {} lists alike, answers {tally:?}, {:.1} s", 250 * scale, t.elapsed().as_secs_f64());
+    let (n, tally) = building::lists(&mut rng, 1_000 * scale);
+    println!("building: {n} calls in {} lists alike, answers {tally:?}, {:.1} s", 1_000 * scale, t.elapsed().as_secs_f64());
     let t = Instant::now();
     let (n, passed, tally) = building::damaged(&mut rng, 5_000 * scale);
     println!("damaged states: {n} alike, {passed} pass 21, answers {tally:?}, {:.1} s", t.elapsed().as_secs_f64());
