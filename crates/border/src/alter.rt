@@ -16,7 +16,7 @@ ghost use Rattle.memory.specs.Decision.{heldAfter};
 ghost use Rattle.memory.specs.Performs.{Performs};
 
 // The loops after the planned operation o.
-pub(crate) fn alter(m: &mut [u16], n: usize, s: Front, o: Operation, p: Plan) -> Loops
+pub fn alter(m: &mut [u16], n: usize, s: Front, o: Operation, p: Plan) -> Loops
     requires { ⌜ Performs n s (now m) o p ⌝ }
     ensures loops { λ r. ⌜ r ≡ heldAfter n s (now (m .entry)) o p .loops ⌝ }
     ensures memory { λ _. ⌜ now (m .exit) ≡ heldAfter n s (now (m .entry)) o p .memory ⌝ }

@@ -30,7 +30,7 @@ fn raise(n: usize, k: Peaks, l: Loops) -> Peaks
 }
 
 // The counts after a triangle is built.
-pub(crate) fn count_built(n: usize, s: Front, p: Plan, l: Loops) -> Front
+pub fn count_built(n: usize, s: Front, p: Plan, l: Loops) -> Front
     requires { ⌜ Counts16 n s p l ⌝ }
     ensures { λ r. ⌜ r ≡ builtFront n s p l ⌝ }
 {

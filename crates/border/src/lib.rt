@@ -1,9 +1,9 @@
 // The cut-border in memory, and the eight operations on it: an operation is decided, which changes nothing, the edge rule is tested by
 // the caller, and then it is done. The contracts cite the crate memory, whose theorem `decides` joins them to the machine of the rules.
-mod alter;
-mod count;
+pub mod alter; // the surgery of a planned operation
+pub mod count; // the counts after an operation
 mod plan;
-mod verdict;
+pub mod verdict; // whether an operation is allowed and has room
 
 use crate::alter::alter;
 use crate::count::count_built;

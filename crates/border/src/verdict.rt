@@ -53,7 +53,7 @@ fn propose_edge(m: &[u16], n: usize, l: Loops, u: u16, o: Operation) -> Decided
 }
 
 // 16, or what would be done.
-pub(crate) fn propose(m: &[u16], n: usize, s: Front, o: Operation) -> Decided
+pub fn propose(m: &[u16], n: usize, s: Front, o: Operation) -> Decided
     requires { ⌜ Ready n s (now m) ⌝ }
     ensures { λ r. ⌜ r ≡ proposed n s (now (m .entry)) o ⌝ }
 {
@@ -87,7 +87,7 @@ fn has_room(n: usize, s: Front, p: Plan) -> bool
 }
 
 // 17, if what is proposed has no room.
-pub(crate) fn test_room(n: usize, s: Front, d: Decided) -> Decided
+pub fn test_room(n: usize, s: Front, d: Decided) -> Decided
     requires { ⌜ (s .loops .free ≤ n) × (n ≤ 1024) ⌝ }
     ensures { λ r. ⌜ r ≡ decidedBy n s d ⌝ }
 {

@@ -15,6 +15,8 @@ ghost use Rattle.chains.specs.Chains.{Chains, Finds, Newest, Older, linked, lin
 ghost use Rattle.chains.specs.Chains.{FreeIs, NewIs, CountsFrom};
 ghost use Rattle.chains.specs.Turn.{leftOn, leftBack};
 ghost use Rattle.chains.specs.Checks.{fitsSize, checkChains, Answers};
+ghost use Rattle.mesh.specs.Joins.{UnjoinedIs};
+ghost use Rattle.mesh.specs.Turns.{noted, Fresh, Noted, AllNoted};
 
 // The most vertices of a model, and the most numbers of its list.
 pub const VERTICES: usize = 4096;
@@ -24,6 +26,10 @@ pub const CORNERS: usize = 24576;
 // The chains of the corners of each vertex, the latest corner first: the entry of vertex v stands at v, that of corner c at
 // VERTICES + c. An entry is 1 more than a corner, or 0 for none. All zeros are the chains of no triangle.
 pub type Links = [u16; VERTICES + CORNERS];
+
+// Notes for turning about a vertex: at 2y, 1 more than the vertex v about which y was noted last; at 2y + 1 the third vertex of the
+// triangle that has v→y.
+type Notes = [u16; 2 * VERTICES];
 
 // A number that was read, as an index.
 fn wide(x: u16) -> usize
@@ -150,6 +156,24 @@ pub fn is_free(list: &[u16], chains: &Links, p: u16, q: u16) -> bool
     }
 }
 
+// Whether no triangle in the chains joins x and y, either way round: one that does has a corner at x, with y next to it.
+pub fn is_unjoined(list: &[u16], chains: &Links, x: u16, y: u16) -> bool
+    ensures { λ b. ⌜ UnjoinedIs (now (list .entry)) (now (chains .entry)) x y b ⌝ }
+{
+    let mut c = newest(list, chains, x);
+    while 0 < c {
+        c -= 1;
+        if list[corner_after(c)] == y {
+            return false;
+        }
+        if list[corner_before(c)] == y {
+            return false;
+        }
+        c = older(chains, c);
+    }
+    true
+}
+
 // Whether no triangle in the chains has a directed edge of the triangle p q r.
 fn is_new(list: &[u16], chains: &Links, p: u16, q: u16, r: u16) -> bool
     ensures { λ b. ⌜ NewIs (now (list .entry)) (now (chains .entry)) p q r b ⌝ }
@@ -198,14 +222,30 @@ fn all_used(chains: &Links, v: usize) -> bool
     true
 }
 
-// How many corners a chain has from the entry c on.
-fn chain_length(chains: &Links, c: usize) -> usize
-    requires { ⌜ c ≤ maxNumbers ⌝ }
-    ensures { λ n. ⌜ CountsFrom (now (chains .entry)) c n ⌝ }
+// Notes z as the third vertex at v→y, unless one is noted.
+fn note(notes: &mut Notes, v: u16, y: u16, z: u16)
+    requires { ⌜ (v < maxVertices) × (y < maxVertices) ⌝ }
+    ensures { λ _. ⌜ now (notes .exit) ≡ noted (now (notes .entry)) v y z ⌝ }
+{
+    if notes[2 * (y as usize)] == v + 1 {
+        return;
+    }
+    notes[2 * (y as usize)] = v + 1;
+    notes[2 * (y as usize) + 1] = z;
+}
+
+// Notes all triangles about v, whose chain begins at the entry c: how many they are.
+fn note_all(list: &[u16], chains: &Links, notes: &mut Notes, v: u16, c: usize) -> usize
+    requires { ⌜ Linked (now list) (now chains) × (v < maxVertices) ⌝ }
+    requires { ⌜ Newest (now list) (now chains) v c × Fresh (now notes) (v + 1) ⌝ }
+    ensures { λ n. ⌜ AllNoted (now (list .entry)) (now (chains .entry)) v c n (now (notes .exit)) ⌝ }
 {
     let mut n = 0;
     let mut d = c;
     while 0 < d {
+        let y = list[corner_after(d - 1)];
+        let z = list[corner_before(d - 1)];
+        note(notes, v, y, z);
         n += 1;
         d = older(chains, d - 1);
     }
@@ -230,9 +270,11 @@ fn turn_back(list: &[u16], chains: &Links, v: u16, x: u16, n: usize) -> usize
     left
 }
 
-// The same after turning on from the edge v→y: a closed fan comes round to x; where an open one ends, it turns back from x.
-fn turn_on(list: &[u16], chains: &Links, v: u16, x: u16, y: u16, n: usize) -> usize
-    requires { ⌜ Linked (now list) (now chains) × (v ≡ x → ⊥) × (v ≡ y → ⊥) ⌝ }
+// The same after turning on from the edge v→y by the notes: a closed fan comes round to x; where an open one ends, it turns back
+// from x.
+fn turn_on(list: &[u16], chains: &Links, notes: &Notes, v: u16, x: u16, y: u16, n: usize) -> usize
+    requires { ⌜ Linked (now list) (now chains) × Noted (now list) v (now notes) × (v < maxVertices) × (y < maxVertices) ⌝ }
+    requires { ⌜ (v ≡ x → ⊥) × (v ≡ y → ⊥) ⌝ }
     ensures { λ r. ⌜ r ≡ leftOn (trianglesOf (now (list .entry))) v x y n ⌝ }
 {
     let mut left = n;
@@ -241,29 +283,29 @@ fn turn_on(list: &[u16], chains: &Links, v: u16, x: u16, y: u16, n: usize) -> us
         if to == x {
             return left;
         }
-        let a = across(list, chains, v, to);
-        let Across::Found(_, _, z) = a else {
+        if notes[2 * (to as usize)] != v + 1 {
             return turn_back(list, chains, v, x, left);
-        };
-        to = z;
+        }
+        to = notes[2 * (to as usize) + 1];
         left -= 1;
     }
     left
 }
 
 // Whether the triangles about v form one fan: turning from one of them reaches all.
-fn is_fan(list: &[u16], chains: &Links, v: u16) -> bool
-    requires { ⌜ Linked (now list) (now chains) ⌝ }
-    ensures { λ b. ⌜ b ≡ oneRun (about v (trianglesOf (now (list .entry)))) ⌝ }
+fn is_fan(list: &[u16], chains: &Links, notes: &mut Notes, v: u16) -> bool
+    requires { ⌜ Linked (now list) (now chains) × (v < maxVertices) × Fresh (now notes) (v + 1) ⌝ }
+    ensures fan { λ b. ⌜ b ≡ oneRun (about v (trianglesOf (now (list .entry)))) ⌝ }
+    ensures fresh { λ _. ⌜ Fresh (now (notes .exit)) v ⌝ }
 {
     let c = newest(list, chains, v);
     if c == 0 {
         return true;
     }
-    let n = chain_length(chains, c);
+    let n = note_all(list, chains, notes, v, c);
     let x = list[corner_after(c - 1)];
     let y = list[corner_before(c - 1)];
-    turn_on(list, chains, v, x, y, n - 1) == 0
+    turn_on(list, chains, notes, v, x, y, n - 1) == 0
 }
 
 // 7: no vertex below v has more than one fan.
@@ -271,10 +313,11 @@ pub fn all_fans(list: &[u16], chains: &Links, v: usize) -> bool
     requires { ⌜ Linked (now list) (now chains) × (v ≤ maxVertices) ⌝ }
     ensures { λ b. ⌜ b ≡ oneFanEach v (trianglesOf (now (list .entry))) ⌝ }
 {
+    let mut notes = [0u16; 2 * VERTICES];
     let mut u = v;
     while 0 < u {
         u -= 1;
-        if !is_fan(list, chains, u as u16) {
+        if !is_fan(list, chains, &mut notes, u as u16) {
             return false;
         }
     }

@@ -1,22 +1,12 @@
 // The edge rule (18), by look-ups in the corner chains: a side that glues nothing joins two vertices that no triangle joins yet.
 use memory::Plan;
 use mesh::Links;
-use mesh::is_free;
+use mesh::is_unjoined;
 use rules::Operation;
 use rules::Triangle;
 ghost use mathlib.Core.Path.{_≡_};
 ghost use Rattle.rules.specs.Triangle.{distinct};
-ghost use Rattle.unpacking.specs.Rule.{isTested, UnjoinedIs, SideIs, PlanIs, RuleIs};
-
-// Whether no triangle in the chains joins x and y, either way round.
-fn is_unjoined(list: &[u16], chains: &Links, x: u16, y: u16) -> bool
-    ensures { λ b. ⌜ UnjoinedIs (now (list .entry)) (now (chains .entry)) x y b ⌝ }
-{
-    if !is_free(list, chains, x, y) {
-        return false;
-    }
-    is_free(list, chains, y, x)
-}
+ghost use Rattle.unpacking.specs.Rule.{isTested, SideIs, PlanIs, RuleIs};
 
 // Whether a side x→y of a plan passes: it glues an edge (0), or joins what is not joined.
 fn is_side(list: &[u16], chains: &Links, side: u16, x: u16, y: u16) -> bool

@@ -2,9 +2,11 @@
 use crate::PLACES;
 use crate::conclude::is_complete;
 use crate::rule::is_ruled;
-use border::build;
-use border::decide;
+use border::alter::alter;
+use border::count::count_built;
 use border::mark;
+use border::verdict::propose;
+use border::verdict::test_room;
 use memory::Decided;
 use memory::Front;
 use memory::Plan;
@@ -55,8 +57,8 @@ fn build_triangle(
     let n = s.built as usize;
     put_triangle(triangles, n, t);
     link(chains, n, t.p, t.q, t.r);
-    let after = build(m, PLACES, s, o, p);
-    Stepped::Going(after, next)
+    let l = alter(m, PLACES, s, o, p);
+    Stepped::Going(count_built(PLACES, s, p, l), next)
 }
 
 // Does the operation o, that was read as far as the bit position `next`: 16, 17, 18, or the state after it.
@@ -72,7 +74,8 @@ fn operate(
     ensures turn { λ r. ⌜ OperateOf o next s (now (triangles .entry)) (now (m .entry)) (now (chains .entry)) r (now (triangles .exit)) (now (m .exit)) (now (chains .exit)) ⌝ }
     ensures beyond { λ _. ⌜ Beyond (s .stated) (now (triangles .entry)) (now (triangles .exit)) ⌝ }
 {
-    let d = decide(m, PLACES, s, o);
+    let proposed = propose(m, PLACES, s, o);
+    let d = test_room(PLACES, s, proposed);
     match d {
         Decided::Refused(k) => Stepped::Refused(k),
         Decided::Builds(p) => build_triangle(o, next, s, p, triangles, m, chains),

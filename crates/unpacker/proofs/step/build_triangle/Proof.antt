@@ -2,6 +2,9 @@
 -- Assumes nothing.
 use mathlib.Core.Path.{refl}
 use borrow.Author.Needs.{needs}
+use Rattle.rules.specs.Limits.{maxPlaces}
+use Rattle.memory.proofs.Performed.{performs}
+use Rattle.border.proofs.Performing.{built-counts, built-state}
 use Rattle.unpacking.proofs.Operating.{held-ready, operate-ruled, operate-room, operate-beyond, operate-built}
 use Rattle.unpacker.proofs.step.build_triangle.Statement.{statement}
 use Rattle.unpacker.proofs.step.build_triangle.Tie as tie
@@ -29,8 +32,15 @@ put-triangle-requires c κs =
 link-requires : tie.Need-link-requires
 link-requires c κs = search needs
 
-build-requires : tie.Need-build-requires
-build-requires c κs = let a = c .before .before .before .before .before .before .before .before .before .before .before .before .before .before .before in (held-ready (a .args .s) (a .args .triangles .now) (a .args .m .now) (a .args .chains .now) (a .pre .0), a .pre .1)
+alter-requires : tie.Need-alter-requires
+alter-requires c κs =
+    let a = c .before .before .before .before .before .before .before .before .before .before .before .before .before .before .before in
+    performs _ _ _ _ _ (held-ready (a .args .s) (a .args .triangles .now) (a .args .m .now) (a .args .chains .now) (a .pre .0)) (a .pre .1)
+
+count-built-requires : tie.Need-count-built-requires
+count-built-requires c κs =
+    let a = c .before .before .before .before .before .before .before .before .before .before .before .before .before .before .before .before .before .before in
+    built-counts _ _ _ _ _ _ (held-ready (a .args .s) (a .args .triangles .now) (a .args .m .now) (a .args .chains .now) (a .pre .0), a .pre .1) (c .before .before .alter .ensures .0)
 
 same-length-2 : tie.Need-same-length-2
 same-length-2 c = search needs
@@ -40,11 +50,12 @@ same-length-3 c = search needs
 
 returns-2 : tie.Need-returns-2
 returns-2 c =
-    let e = c .before .before .before .before .before .before .before .before .before .before .before .before in
+    let e = c .before .before .before .before .before .before .before .before .before .before .before .before .before in
     let a = e .before .before .before .before .before .before in
-    let t = c .before .before .before .before .before .before .before .before .put-triangle .ensures in (
-      operate-built (a .args .o) (a .args .next) (a .args .s) (a .args .triangles .now) (a .args .m .now) (a .args .chains .now) (a .args .p) (a .pre .1) _ (e .before .is-ruled .ensures) (e .if1 .left) _ (c .before .before .build .ensures .0) _ t _
-          (c .before .before .build .ensures .1) _ (c .before .before .before .before .link .ensures),
+    let t = c .before .before .before .before .before .before .before .before .before .put-triangle .ensures in
+    let b = built-state maxPlaces (a .args .s) (a .args .m .now) (a .args .o) (a .args .p) _ _ _ (c .before .before .before .alter .ensures) (c .count-built .ensures) in (
+      operate-built (a .args .o) (a .args .next) (a .args .s) (a .args .triangles .now) (a .args .m .now) (a .args .chains .now) (a .args .p) (a .pre .1) _ (e .before .is-ruled .ensures) (e .if1 .left) _ (b .0) _ t _ (b .1) _
+          (c .before .before .before .before .before .link .ensures),
       operate-beyond (a .args .o) (a .args .next) (a .args .s) (a .args .triangles .now) (a .args .m .now) (a .args .chains .now) (a .args .p) (a .pre .1) _ (e .before .is-ruled .ensures) (e .if1 .left) (a .pre .0) _ t,
     )
 
@@ -58,7 +69,8 @@ build-triangle-spec =
     cast-n
     put-triangle-requires
     link-requires
-    build-requires
+    alter-requires
+    count-built-requires
     same-length-2
     same-length-3
     returns-2)
