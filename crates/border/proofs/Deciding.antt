@@ -12,7 +12,7 @@ use Rattle.memory.specs.declared.Front.{Front}
 use Rattle.memory.specs.declared.Plan.{Plan}
 use Rattle.memory.specs.declared.Decided.{Decided}
 use Rattle.memory.specs.declared.Decided.the-variants.{Refused, Builds}
-use Rattle.memory.specs.Decision.{restProposed, edgeProposed, proposed, newEdges, roomFor, roomBy, decidedBy, decided}
+use Rattle.memory.specs.Decision.{restProposed, edgeProposed, proposedAt, proposed, newEdges, roomFor, roomBy, decidedBy, decided}
 
 pub rest-by : (u : ℕ) (o o′ : Operation) (r : Decided) → o ≡ o′ → r ≡ restProposed u o′ → r ≡ restProposed u o
 rest-by u o o′ r e h = rw e h
@@ -20,14 +20,12 @@ rest-by u o o′ r e h = rw e h
 pub edge-by : (n : ℕ) (l : Loops) (m : List ℕ) (u : ℕ) (o o′ : Operation) (r : Decided) → o ≡ o′ → r ≡ edgeProposed n l m u o′ → r ≡ edgeProposed n l m u o
 edge-by n l m u o o′ r e h = rw e h
 
-pub proposed-rest : (n : ℕ) (s : Front) (m : List ℕ) (o : Operation) (r : Decided) → s .loops .live ≡ 0 → r ≡ restProposed (s .used) o → r ≡ proposed n s m o
-unfolding proposed
-proposed-rest n s m o r z h = let t : eqb (s .loops .live) 0 ≡ true = eq-eqb (s .loops .live) 0 z in rw t h
+pub proposed-rest : (n : ℕ) (l : Loops) (m : List ℕ) (u : ℕ) (o : Operation) (r : Decided) → l .live ≡ 0 → r ≡ restProposed u o → r ≡ proposedAt n l m u o
+proposed-rest n l m u o r z h = let t : eqb (l .live) 0 ≡ true = eq-eqb (l .live) 0 z in rw t h
 
-pub proposed-edge : (n : ℕ) (s : Front) (m : List ℕ) (o : Operation) (r : Decided) → (s .loops .live ≡ 0 → ⊥)
-    → r ≡ edgeProposed n (s .loops) m (s .used) o → r ≡ proposed n s m o
-unfolding proposed
-proposed-edge n s m o r z h = let t : eqb (s .loops .live) 0 ≡ false = ne-eqb (s .loops .live) 0 z in rw t h
+pub proposed-edge : (n : ℕ) (l : Loops) (m : List ℕ) (u : ℕ) (o : Operation) (r : Decided) → (l .live ≡ 0 → ⊥)
+    → r ≡ edgeProposed n l m u o → r ≡ proposedAt n l m u o
+proposed-edge n l m u o r z h = let t : eqb (l .live) 0 ≡ false = ne-eqb (l .live) 0 z in rw t h
 
 four : (a b c d a′ b′ c′ d′ : Bool) → a ≡ a′ → b ≡ b′ → c ≡ c′ → d ≡ d′ → a && b && c && d ≡ a′ && b′ && c′ && d′
 four a b c d a′ b′ c′ d′ ea eb ec ed = ap₂ _&&_ (ap₂ _&&_ (ap₂ _&&_ ea eb) ec) ed
@@ -88,6 +86,6 @@ tested-room n s p t e h = ap (λ (x : Bool). roomBy x p) (sym (sym e ∙ h))
 pub tested-full : (n : ℕ) (s : Front) (p : Plan) (t : Bool) → t ≡ roomFor n s p → t ≡ false → Refused 17 ≡ decidedBy n s (Builds p)
 tested-full n s p t e h = ap (λ (x : Bool). roomBy x p) (sym (sym e ∙ h))
 
-pub decided-by : (n : ℕ) (s : Front) (m : List ℕ) (o : Operation) (d r : Decided) → d ≡ proposed n s m o → r ≡ decidedBy n s d → r ≡ decided n s m o
-unfolding decided
+pub decided-by : (n : ℕ) (s : Front) (m : List ℕ) (o : Operation) (d r : Decided) → d ≡ proposedAt n (s .loops) m (s .used) o → r ≡ decidedBy n s d → r ≡ decided n s m o
+unfolding decided proposed
 decided-by n s m o d r e h = h ∙ ap (decidedBy n s) e

@@ -10,18 +10,18 @@ use Rattle.memory.specs.declared.Front.{Front}
 use Rattle.memory.specs.declared.Plan.{Plan}
 use Rattle.memory.specs.declared.Decided.the-variants.{Builds}
 use Rattle.memory.specs.Moves.{markedHeld}
-use Rattle.memory.specs.Decision.{decided, newEdges, heldAfter, builtFront, markedFront}
+use Rattle.memory.specs.Decision.{decided, newEdges, heldBy, heldAfter, builtFront, markedFront}
 use Rattle.memory.specs.Keeps.{Ready}
 use Rattle.memory.specs.Performs.{Performs, Counts16}
 use Rattle.memory.proofs.Ready.{ready-near}
 use Rattle.memory.proofs.Performed.{counts16, marked-free, marked-live, marked-less}
 
-pub performs-as : (n : ℕ) (s : Front) (m : List ℕ) (o o′ : Operation) (p : Plan) → o ≡ o′ → Performs n s m o p → Performs n s m o′ p
-performs-as n s m o o′ p e h = subst (λ (x : Operation). Performs n s m x p) e h
+pub performs-as : (n : ℕ) (l : Loops) (m : List ℕ) (u : ℕ) (o o′ : Operation) (c : ℕ) → o ≡ o′ → Performs n l m u o c → Performs n l m u o′ c
+performs-as n l m u o o′ c e h = subst (λ (x : Operation). Performs n l m u x c) e h
 
-pub altered : (n : ℕ) (s : Front) (m : List ℕ) (o o′ : Operation) (p : Plan) (r : Loops) (m₁ : List ℕ) → o ≡ o′
-    → (r ≡ heldAfter n s m o′ p .loops) × (m₁ ≡ heldAfter n s m o′ p .memory) → (r ≡ heldAfter n s m o p .loops) × (m₁ ≡ heldAfter n s m o p .memory)
-altered n s m o o′ p r m₁ e h = rw e h
+pub altered : (n : ℕ) (l : Loops) (m : List ℕ) (u : ℕ) (o o′ : Operation) (c : ℕ) (r : Loops) (m₁ : List ℕ) → o ≡ o′
+    → (r ≡ heldBy n l m u o′ c .loops) × (m₁ ≡ heldBy n l m u o′ c .memory) → (r ≡ heldBy n l m u o c .loops) × (m₁ ≡ heldBy n l m u o c .memory)
+altered n l m u o o′ c r m₁ e h = rw e h
 
 pub built-is : (n : ℕ) (s : Front) (p : Plan) (l : Loops) (k : Peaks) → (k .places ≡ max (s .peaks .places) (n - l .free)) × (k .loops ≡ max (s .peaks .loops) (l .live))
     → record {

@@ -1,7 +1,5 @@
 // The surgery of a planned operation.
-use memory::Front;
 use memory::Loops;
-use memory::Plan;
 use rings::surgery::cut_current;
 use rings::surgery::cut_next;
 use rings::surgery::end_loop;
@@ -12,18 +10,15 @@ use rings::surgery::split_loop;
 use rings::surgery::start_loop;
 use rules::Operation;
 ghost use mathlib.Core.Path.{_≡_};
-ghost use Rattle.memory.specs.Decision.{heldAfter};
+ghost use Rattle.memory.specs.Decision.{heldBy};
 ghost use Rattle.memory.specs.Performs.{Performs};
 
-// The loops after the planned operation o.
-pub fn alter(m: &mut [u16], n: usize, s: Front, o: Operation, p: Plan) -> Loops
-    requires { ⌜ Performs n s (now m) o p ⌝ }
-    ensures loops { λ r. ⌜ r ≡ heldAfter n s (now (m .entry)) o p .loops ⌝ }
-    ensures memory { λ _. ⌜ now (m .exit) ≡ heldAfter n s (now (m .entry)) o p .memory ⌝ }
+// The loops after the planned operation o, where u is the next unused number and c the plan's place.
+pub fn alter(m: &mut [u16], n: usize, l: Loops, u: u16, o: Operation, c: u16) -> Loops
+    requires { ⌜ Performs n l (now m) u o c ⌝ }
+    ensures loops { λ r. ⌜ r ≡ heldBy n l (now (m .entry)) u o c .loops ⌝ }
+    ensures memory { λ _. ⌜ now (m .exit) ≡ heldBy n l (now (m .entry)) u o c .memory ⌝ }
 {
-    let l = s.loops;
-    let u = s.used;
-    let c = p.place;
     match o {
         Operation::New => grow(m, n, l, u),
         Operation::Forward => cut_next(m, n, l),

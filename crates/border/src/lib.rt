@@ -63,7 +63,7 @@ pub fn decide(m: &[u16], n: usize, s: Front, o: Operation) -> Decided
     requires { ⌜ Ready n s (now m) ⌝ }
     ensures { λ r. ⌜ r ≡ decided n s (now (m .entry)) o ⌝ }
 {
-    let d = propose(m, n, s, o);
+    let d = propose(m, n, s.loops, s.used, o);
     test_room(n, s, d)
 }
 
@@ -73,7 +73,7 @@ pub fn build(m: &mut [u16], n: usize, s: Front, o: Operation, p: Plan) -> Front
     ensures state { λ r. ⌜ r ≡ builtFront n s p (heldAfter n s (now (m .entry)) o p .loops) ⌝ }
     ensures memory { λ _. ⌜ now (m .exit) ≡ heldAfter n s (now (m .entry)) o p .memory ⌝ }
 {
-    let l = alter(m, n, s, o, p);
+    let l = alter(m, n, s.loops, s.used, o, p.place);
     count_built(n, s, p, l)
 }
 

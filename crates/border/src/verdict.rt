@@ -14,9 +14,9 @@ use memory::Plan;
 use rules::Operation;
 ghost use mathlib.Core.Path.{_≡_};
 ghost use Prim.Native.Nat.{_+_, _*_, _-_, _≤_, _<_};
-ghost use Rattle.memory.specs.Decision.{restProposed, edgeProposed, proposed, roomFor, decidedBy};
+ghost use Rattle.memory.specs.Decision.{restProposed, edgeProposed, proposedAt, roomFor, decidedBy};
 ghost use Rattle.memory.specs.Near.{Near};
-ghost use Rattle.memory.specs.Keeps.{Ready};
+ghost use Rattle.memory.specs.Performs.{Proposable};
 
 // With no live loop only a start is allowed.
 fn propose_rest(u: u16, o: Operation) -> Decided
@@ -52,13 +52,11 @@ fn propose_edge(m: &[u16], n: usize, l: Loops, u: u16, o: Operation) -> Decided
     }
 }
 
-// 16, or what would be done.
-pub fn propose(m: &[u16], n: usize, s: Front, o: Operation) -> Decided
-    requires { ⌜ Ready n s (now m) ⌝ }
-    ensures { λ r. ⌜ r ≡ proposed n s (now (m .entry)) o ⌝ }
+// 16, or what would be done with the loops l, where u is the next unused number.
+pub fn propose(m: &[u16], n: usize, l: Loops, u: u16, o: Operation) -> Decided
+    requires { ⌜ Proposable n l (now m) u ⌝ }
+    ensures { λ r. ⌜ r ≡ proposedAt n l (now (m .entry)) u o ⌝ }
 {
-    let l = s.loops;
-    let u = s.used;
     if l.live == 0 {
         return propose_rest(u, o);
     }

@@ -32,7 +32,7 @@ record Small (p : Plan) : Type 0 where
   unions : p .unions ≤ 1
 
 record Able (n : ℕ) (s : Front) (m : List ℕ) (o : Operation) (p : Plan) : Type 0 where
-  performs : Performs n s m o p
+  performs : Performs n (s .loops) m (s .used) o (p .place)
   small : Small p
 
 small-at : (l : Loops) (m : List ℕ) (c qr rp v k x : ℕ) (p : Plan) → planAt l m c qr rp v k x ≡ p → qr ≤ 1 → rp ≤ 1 → v ≤ 3 → k ≤ 1 → Small p
@@ -154,7 +154,7 @@ able n s m o p r e =
     let c = chosen n s (proposed n s m o) p e in
     able-by n s m r p (has-room n s p (c .room)) o (eqb (s .loops .live) 0) refl (c .is)
 
-pub performs : (n : ℕ) (s : Front) (m : List ℕ) (o : Operation) (p : Plan) → Ready n s m → decided n s m o ≡ Builds p → Performs n s m o p
+pub performs : (n : ℕ) (s : Front) (m : List ℕ) (o : Operation) (p : Plan) → Ready n s m → decided n s m o ≡ Builds p → Performs n (s .loops) m (s .used) o (p .place)
 performs n s m o p r e = able n s m o p r e .performs
 
 -- the free places after it are places
@@ -176,7 +176,7 @@ marked-free n l m h =
     go true m₁ p = omega (arith, ended-free n l m₁, h .room)
     go false m₁ p = omega (arith, h .room)
 
-after-free : (n : ℕ) (s : Front) (m : List ℕ) (o : Operation) (p : Plan) → s .loops .free ≤ n → Performs n s m o p → heldAfter n s m o p .loops .free ≤ n
+after-free : (n : ℕ) (s : Front) (m : List ℕ) (o : Operation) (p : Plan) → s .loops .free ≤ n → Performs n (s .loops) m (s .used) o (p .place) → heldAfter n s m o p .loops .free ≤ n
 unfolding newHeld forwardHeld backwardHeld splitHeld unionHeld startHeld
 after-free n s m New p f h = omega (arith, f)
 after-free n s m Forward p f h = omega (arith, h .room, h .some)

@@ -17,11 +17,15 @@ use Rattle.memory.specs.declared.Front.{Front}
 use Rattle.memory.specs.Stands.{ringsIn}
 use Rattle.memory.specs.Near.{Near}
 use Rattle.memory.specs.Keeps.{Keeps, Ready}
+use Rattle.memory.specs.Performs.{Proposable}
 use Rattle.memory.proofs.Room.{room}
 use Rattle.memory.proofs.Near.{near}
 
 pub ready-near : (n : ℕ) (s : Front) (m : List ℕ) → Ready n s m → (s .loops .live ≡ 0 → ⊥) → Near n (s .loops) m
 ready-near n s m r h = near n (s .loops) m (r .roomy .few) (ringsIn n (s .loops) m) (r .stands) (omega (arith, h))
+
+pub ready-proposes : (n : ℕ) (s : Front) (m : List ℕ) → Ready n s m → Proposable n (s .loops) m (s .used)
+ready-proposes n s m r = (ready-near n s m r, r .used)
 
 pub ready-free : (n : ℕ) (s : Front) (m : List ℕ) → Ready n s m → (s .loops .free ≤ n) × (n ≤ 1024)
 ready-free n s m r = (omega (arith, room n (s .loops) m (ringsIn n (s .loops) m) (r .stands)), r .roomy .few)

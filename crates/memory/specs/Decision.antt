@@ -102,9 +102,12 @@ abbrev pub proposedBy : Bool → ℕ → Loops → List ℕ → ℕ → Operatio
 proposedBy true n l m u o = restProposed u o
 proposedBy false n l m u o = edgeProposed n l m u o
 
--- 16, or what would be done
+-- 16, or what would be done, where u is the next unused number
+abbrev pub proposedAt : ℕ → Loops → List ℕ → ℕ → Operation → Decided
+proposedAt n l m u o = proposedBy (eqb (l .live) 0) n l m u o
+
 unfoldable pub proposed : ℕ → Front → List ℕ → Operation → Decided
-proposed n s m o = proposedBy (eqb (s .loops .live) 0) n (s .loops) m (s .used) o
+proposed n s m o = proposedAt n (s .loops) m (s .used) o
 
 -- 17: the counts after it are within those stated. Of three sides those that glue take a place away, the new ones add one
 abbrev pub newEdges : Plan → ℕ
@@ -134,16 +137,19 @@ abbrev pub sideOf : ℕ → Side
 sideOf zero = glued
 sideOf (suc k) = fresh
 
--- the loops after a planned operation
+-- the loops after a planned operation, where u is the next unused number and c the plan's place
+abbrev pub heldBy : ℕ → Loops → List ℕ → ℕ → Operation → ℕ → Held
+heldBy n l m u New c = newHeld n l m u
+heldBy n l m u Forward c = forwardHeld n l m
+heldBy n l m u Backward c = backwardHeld n l m
+heldBy n l m u Border c = markedHeld n l m
+heldBy n l m u (Split i) c = splitHeld n l m i c
+heldBy n l m u Close c = endedHeld n l m
+heldBy n l m u (Union k j) c = unionHeld n l m k c
+heldBy n l m u Start c = startHeld n l m u
+
 abbrev pub heldAfter : ℕ → Front → List ℕ → Operation → Plan → Held
-heldAfter n s m New p = newHeld n (s .loops) m (s .used)
-heldAfter n s m Forward p = forwardHeld n (s .loops) m
-heldAfter n s m Backward p = backwardHeld n (s .loops) m
-heldAfter n s m Border p = markedHeld n (s .loops) m
-heldAfter n s m (Split i) p = splitHeld n (s .loops) m i (p .place)
-heldAfter n s m Close p = endedHeld n (s .loops) m
-heldAfter n s m (Union k j) p = unionHeld n (s .loops) m k (p .place)
-heldAfter n s m Start p = startHeld n (s .loops) m (s .used)
+heldAfter n s m o p = heldBy n (s .loops) m (s .used) o (p .place)
 
 -- the peaks so far, those of the loops l included
 abbrev pub raised : ℕ → Peaks → Loops → Peaks

@@ -1,7 +1,8 @@
--- What the function that does a planned operation asks for.
+-- What the functions that decide an operation and do it ask for.
 -- Assumes nothing.
 use Prim.Native.Nat.{ℕ, _+_, _*_, _≤_, _<_}
 use mathlib.Core.List.{List}
+use mathlib.Core.Path.{_≡_}
 use lib.ListN.{length}
 use Rattle.rules.specs.declared.Operation.{Operation}
 use Rattle.rules.specs.declared.Operation.the-variants.{New, Forward, Backward, Border, Split, Close, Union, Start}
@@ -10,17 +11,20 @@ use Rattle.memory.specs.declared.Front.{Front}
 use Rattle.memory.specs.declared.Plan.{Plan}
 use Rattle.memory.specs.Near.{Near, Doubles, Starts}
 
--- the operation can be done
-abbrev pub Performs : ℕ → Front → List ℕ → Operation → Plan → Type 0
-Performs n s m New p = Near n (s .loops) m × (1 ≤ s .loops .free)
-Performs n s m Forward p = Near n (s .loops) m
-Performs n s m Backward p = Near n (s .loops) m
-Performs n s m Border p = Near n (s .loops) m
-Performs n s m (Split i) p = (Near n (s .loops) m × Doubles n (s .loops) m (p .place))
-    × ((i + 3 ≤ s .loops .size) × (s .loops .live < 65535) × (5 * n + 2 * (s .loops .live + 1) ≤ length m))
-Performs n s m Close p = Near n (s .loops) m
-Performs n s m (Union k j) p = (Near n (s .loops) m × Doubles n (s .loops) m (p .place)) × ((1 ≤ k) × (k + 1 ≤ s .loops .live))
-Performs n s m Start p = Starts n (s .loops) m × (s .used ≤ 4096)
+-- an operation can be decided, where u is the next unused number
+abbrev pub Proposable : ℕ → Loops → List ℕ → ℕ → Type 0
+Proposable n l m u = ((l .live ≡ 0 → ⊥) → Near n l m) × (u ≤ 4096)
+
+-- the operation can be done, where c is its plan's place
+abbrev pub Performs : ℕ → Loops → List ℕ → ℕ → Operation → ℕ → Type 0
+Performs n l m u New c = Near n l m × (1 ≤ l .free)
+Performs n l m u Forward c = Near n l m
+Performs n l m u Backward c = Near n l m
+Performs n l m u Border c = Near n l m
+Performs n l m u (Split i) c = (Near n l m × Doubles n l m c) × ((i + 3 ≤ l .size) × (l .live < 65535) × (5 * n + 2 * (l .live + 1) ≤ length m))
+Performs n l m u Close c = Near n l m
+Performs n l m u (Union k j) c = (Near n l m × Doubles n l m c) × ((1 ≤ k) × (k + 1 ≤ l .live))
+Performs n l m u Start c = Starts n l m × (u ≤ 4096)
 
 -- the counts after it are numbers of 16 bits
 pub record Counts16 (n : ℕ) (s : Front) (p : Plan) (l : Loops) : Type 0 where

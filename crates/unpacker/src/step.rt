@@ -57,7 +57,7 @@ fn build_triangle(
     let n = s.built as usize;
     put_triangle(triangles, n, t);
     link(chains, n, t.p, t.q, t.r);
-    let l = alter(m, PLACES, s, o, p);
+    let l = alter(m, PLACES, s.loops, s.used, o, p.place);
     Stepped::Going(count_built(PLACES, s, p, l), next)
 }
 
@@ -74,7 +74,7 @@ fn operate(
     ensures turn { λ r. ⌜ OperateOf o next s (now (triangles .entry)) (now (m .entry)) (now (chains .entry)) r (now (triangles .exit)) (now (m .exit)) (now (chains .exit)) ⌝ }
     ensures beyond { λ _. ⌜ Beyond (s .stated) (now (triangles .entry)) (now (triangles .exit)) ⌝ }
 {
-    let proposed = propose(m, PLACES, s, o);
+    let proposed = propose(m, PLACES, s.loops, s.used, o);
     let d = test_room(PLACES, s, proposed);
     match d {
         Decided::Refused(k) => Stepped::Refused(k),

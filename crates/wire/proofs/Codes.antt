@@ -1,15 +1,16 @@
 -- An operation by its code and its indices: laws over plain bytes, one for each answer.
 -- Assumes nothing.
-use Prim.Native.Nat.{ℕ, zero, suc, _+_, _*_, _-_, _≤_, _<_}
+use Prim.Native.Nat.{ℕ, zero, suc, _+_, _*_, _-_, _/_, _%_, _≤_, _<_}
 use native.Mathlib.Decide.{decLe}
 use native.Mathlib.Omega.{arith}
-use mathlib.Core.Bool.{Bool, true, false}
+use mathlib.Core.Bool.{Bool, true, false, false≢true, true≢false}
 use mathlib.Core.List.{List, [], _∷_}
 use mathlib.Core.Path.{_≡_, refl, sym, ap, ap₂, _∙_, subst}
+use mathlib.Core.Logic.{_⊎_, inl, inr}
 use lib.Dec.{leb, eqb}
 use lib.ListN.{length, take, drop, length-drop}
 use lib.Seq.{drop-drop, drop-append-seam}
-use borrow.Author.Tests.{le-leb, leb-true, ne-eqb}
+use borrow.Author.Tests.{le-leb, leb-true, ne-eqb, eqb-true, eqb-false}
 use Rattle.rules.specs.declared.Operation.{Operation}
 use Rattle.rules.specs.declared.Operation.the-variants.{New, Forward, Backward, Border, Split, Close, Union, Start}
 use Rattle.rules.specs.Bits as Bits
@@ -26,7 +27,7 @@ use Rattle.wire.specs.declared.reader.Number.{Number}
 use Rattle.wire.specs.declared.reader.Number.the-variants.{Value, BrokenOff}
 use Rattle.wire.specs.declared.reader.OperationRead.{OperationRead}
 use Rattle.wire.specs.declared.reader.OperationRead.the-variants.{Found, BreaksOff}
-use Rattle.wire.specs.Reader.{mostBytes, numberIn, numberWithin, numberAt, operationIn, operationWithin, operationAt, splitOf, placeOf, unionOf, OperationFound, Ahead}
+use Rattle.wire.specs.Reader.{mostBytes, numberIn, numberWithin, numberAt, IndexedIs, operationIn, operationWithin, operationAt, splitOf, placeOf, unionOf, OperationFound, Ahead}
 
 -- ---- a kind by its code
 
@@ -223,3 +224,24 @@ module _ (bs : List ℕ) (at : ℕ) where
 
   pub answered : (r : OperationRead) → r ≡ operationAt bs at → (r ≡ operationAt bs at) × Ahead bs at r
   answered r e = (e, λ o next f. operation-found o next (sym e ∙ f))
+
+-- ---- whether a code has indices
+
+pub indexed-is : (n : ℕ) → (n % 2 ≡ 1 → ⊥) → IndexedIs n (eqb (n / 4) 1)
+indexed-is n odd = go (eqb (n / 4) 1) refl
+  where
+    four : (b : Bool) → eqb n 4 ≡ b → n / 4 ≡ 1 → (n ≡ 4) ⊎ (n ≡ 6)
+    four true e h = inl (eqb-true n 4 e)
+    four false e h = inr (omega (arith, odd, h, eqb-false n 4 e))
+
+    go : (b : Bool) → eqb (n / 4) 1 ≡ b → IndexedIs n b
+    go true e = four (eqb n 4) refl (eqb-true (n / 4) 1 e)
+    go false e = (λ h. eqb-false (n / 4) 1 e (omega (arith, h)), λ h. eqb-false (n / 4) 1 e (omega (arith, h)))
+
+pub indexed-six : (n : ℕ) (b : Bool) → IndexedIs n b → b ≡ true → (n ≡ 4 → ⊥) → n ≡ 6
+indexed-six n true h e z = elim h [ inl k ↦ absurd (z k) | inr k ↦ k ]
+indexed-six n false h e z = absurd (false≢true e)
+
+pub not-indexed : (n : ℕ) (b : Bool) → IndexedIs n b → b ≡ false → (n ≡ 4 → ⊥) × (n ≡ 6 → ⊥)
+not-indexed n true h e = absurd (true≢false e)
+not-indexed n false h e = h

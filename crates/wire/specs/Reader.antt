@@ -4,6 +4,7 @@ use Prim.Native.Nat.{ℕ, _+_, _*_, _-_, _≤_, _<_}
 use mathlib.Core.Bool.{Bool, true, false}
 use mathlib.Core.List.{List}
 use mathlib.Core.Path.{_≡_}
+use mathlib.Core.Logic.{_⊎_}
 use lib.Dec.{leb}
 use lib.ListN.{length, drop}
 use Rattle.rules.specs.declared.Operation.{Operation}
@@ -48,6 +49,11 @@ unfoldable pub operationAt : List ℕ → ℕ → OperationRead
 operationAt bs at = operationWithin (leb (length bs) mostBytes) bs at
 
 -- ---- as the reader goes: the code, then the indices
+
+-- whether a code has indices
+abbrev pub IndexedIs : ℕ → Bool → Type 0
+IndexedIs code true = (code ≡ 4) ⊎ (code ≡ 6)
+IndexedIs code false = (code ≡ 4 → ⊥) × (code ≡ 6 → ⊥)
 
 abbrev pub splitOf : Number → OperationRead
 splitOf BrokenOff = BreaksOff

@@ -8,7 +8,7 @@ ghost use lib.ListN.{drop, getD};
 ghost use Rattle.rules.specs.Bits.{bitsOfBytes};
 ghost use Rattle.rules.specs.Code.{kinds, kindIn};
 ghost use Rattle.rules.specs.Unpack.{restFits};
-ghost use Rattle.wire.specs.Reader.{numberAt, splitOf, unionOf, operationAt, Ahead};
+ghost use Rattle.wire.specs.Reader.{numberAt, IndexedIs, splitOf, unionOf, operationAt, Ahead};
 
 // A field has no more bytes than its length can say.
 const MOST_BYTES: usize = 65535;
@@ -145,6 +145,16 @@ fn kind_of(code: u16) -> Operation
     }
 }
 
+// Whether an operation of this code has indices: a split (4) or a union (6). Asked once, so that the other kinds are not told apart.
+fn is_indexed(code: u16) -> bool
+    ensures { λ b. ⌜ IndexedIs code b ⌝ }
+{
+    if code % 2 == 1 {
+        return false;
+    }
+    code / 4 == 1
+}
+
 // A split's index, after its code.
 fn split_at(ops: &[u8], at: usize) -> OperationRead
     ensures { λ r. ⌜ r ≡ splitOf (numberAt 10 (now (ops .entry)) at) ⌝ }
@@ -180,10 +190,10 @@ pub fn read_operation(ops: &[u8], at: usize) -> OperationRead
     let Number::Value(code, next) = number else {
         return OperationRead::BreaksOff;
     };
-    if code == 4 {
-        return split_at(ops, next);
-    }
-    if code == 6 {
+    if is_indexed(code) {
+        if code == 4 {
+            return split_at(ops, next);
+        }
         return union_at(ops, next);
     }
     OperationRead::Found(kind_of(code), next)

@@ -1,13 +1,13 @@
 -- `border::decide` meets its contract.
 -- Assumes nothing.
-use Rattle.memory.proofs.Ready.{ready-free}
+use Rattle.memory.proofs.Ready.{ready-proposes, ready-free}
 use Rattle.border.proofs.Deciding.{decided-by}
 use borrow.Author.Needs.{needs}
 use Rattle.border.proofs.decide.Statement.{statement}
 use Rattle.border.proofs.decide.Tie as tie
 
 propose-requires : tie.Need-propose-requires
-propose-requires c κs = search needs
+propose-requires c κs = ready-proposes _ _ _ (c .before .pre)
 
 test-room-requires : tie.Need-test-room-requires
 test-room-requires c κs = ready-free _ _ _ (c .before .before .pre)

@@ -1,12 +1,15 @@
 //! The programs `unpack` and `pack` compared with the second program. `programs FOLDER`
 //!
-//! Every pack and model of the second program's vectors, random ones, sound and spoilt, input that is too long, and input that is none.
+//! Every pack and model of the second program's vectors, random ones, sound and spoilt, input that is too long, and input that is none;
+//! packs in files that are named; files that are not there.
 
 use cutborder::gen::{self, Model};
 use cutborder::proto::{unhex, Engine, Service};
 use cutborder::rng::Rng;
-use std::fs::File;
+use std::ffi::{c_char, CStr};
+use std::fs::{self, File, OpenOptions};
 use std::io::Write;
+use std::os::fd::FromRawFd;
 use std::process::{Command, Stdio};
 
 const PACKS: &str = include_str!("../../../../reference/vectors/packs.txt");
@@ -91,11 +94,62 @@ fn packs(folder: &str, second: &mut Service) -> usize {
     n + 1
 }
 
-/// Input that is empty, closed, or a folder.
-fn odd(program: &str, line: &str) {
+extern "C" {
+    fn posix_openpt(flags: i32) -> i32;
+    fn unlockpt(fd: i32) -> i32;
+    fn ptsname(fd: i32) -> *const c_char;
+}
+
+/// A terminal at which somebody types the end of the input and nothing else: both its ends, or none if the system has no terminals.
+fn terminal() -> Option<(File, File)> {
+    const READ_WRITE: i32 = 2;
+    // SAFETY: the descriptor is new and owned by the file alone; the name is copied before the next call.
+    let (mut keyboard, name) = unsafe {
+        let fd = posix_openpt(READ_WRITE);
+        if fd < 0 || unlockpt(fd) != 0 || ptsname(fd).is_null() {
+            return None;
+        }
+        (File::from_raw_fd(fd), CStr::from_ptr(ptsname(fd)).to_str().ok()?.to_owned())
+    };
+    let screen = OpenOptions::new().read(true).write(true).open(name).ok()?;
+    keyboard.write_all(&[4]).ok()?;
+    Some((keyboard, screen))
+}
+
+/// Input that is empty, closed, a folder, or a terminal: how many of these.
+fn odd(program: &str, line: &str) -> usize {
     for (command, input) in [("exec \"$1\"", Stdio::null()), ("exec \"$1\" <&-", Stdio::null()), ("exec \"$1\"", File::open(".").expect("this folder").into())] {
         assert_eq!(printed_from(command, program, input), line, "{command}");
     }
+    let Some((_keyboard, screen)) = terminal() else {
+        println!("no terminal here: not tried");
+        return 3;
+    };
+    assert_eq!(printed_from("exec \"$1\"", program, screen.into()), line, "a terminal");
+    4
+}
+
+/// The program `unpack` on files: those that are there print as they would alone, each other gets a line of its own on standard error.
+fn named(unpack: &str, second: &mut Service) -> usize {
+    let folder = std::env::temp_dir().join(format!("unpack-{}", std::process::id()));
+    fs::create_dir_all(&folder).expect("a folder");
+    let packs: Vec<Vec<u8>> = PACKS.lines().filter(|l| !l.starts_with('#')).take(9).map(|l| unhex(l).expect("hexadecimal")).collect();
+    let (mut command, mut expected) = (Command::new(unpack), String::new());
+    for (i, p) in packs.iter().enumerate() {
+        let file = folder.join(i.to_string());
+        fs::write(&file, p).expect("a pack");
+        command.arg(&file).arg(folder.join(format!("no{i}")));
+        expected += &second.program(p);
+    }
+    let out = command.arg("").arg("x".repeat(5_000)).arg(&folder).stdin(Stdio::null()).output().expect("the program starts");
+    expected += &second.program(&[]);
+    fs::remove_dir_all(&folder).expect("the folder");
+    assert!(out.status.success(), "status {:?}", out.status);
+    assert_eq!(String::from_utf8_lossy(&out.stdout), expected);
+    let said = String::from_utf8_lossy(&out.stderr).into_owned();
+    assert_eq!(said.lines().count(), packs.len() + 2, "{said}");
+    assert!((0..packs.len()).all(|i| said.contains(&format!("no{i}: No such file"))), "{said}");
+    2 * packs.len() + 3
 }
 
 fn main() {
@@ -105,8 +159,8 @@ fn main() {
     };
     let mut second = Service::new(Engine::Plain);
     let unpack = format!("{folder}/unpack");
-    println!("program unpack: {} inputs alike", unpacks(&unpack, &mut second) + 3);
-    odd(&unpack, "refused 12\n");
-    println!("program pack: {} inputs alike", packs(&folder, &mut second) + 3);
-    odd(&format!("{folder}/pack"), NO_MODEL);
+    let alike = unpacks(&unpack, &mut second) + named(&unpack, &mut second) + odd(&unpack, "refused 12\n");
+    println!("program unpack: {alike} inputs alike");
+    let alike = packs(&folder, &mut second) + odd(&format!("{folder}/pack"), NO_MODEL);
+    println!("program pack: {alike} inputs alike");
 }

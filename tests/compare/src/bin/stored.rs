@@ -1,5 +1,5 @@
-//! What the stored programs of crates/ are run on, and what they must print: `stored FOLDER` writes stdin and stdout of each into
-//! FOLDER, from the second program's vectors and answers. The test command holds them against the stored ones.
+//! What the stored programs of crates/ are run on, and what they must print: `stored FOLDER` writes stdin, args, data and stdout of
+//! each into FOLDER, from the second program's vectors and answers. The test command holds them against the stored ones.
 
 use cutborder::gen;
 use cutborder::proto::{unhex, Calls, Engine, Service};
@@ -21,17 +21,30 @@ fn store(folder: &Path, program: &str, input: &[u8], output: &[u8]) {
     fs::write(at.join("stdout"), output).expect("stdout");
 }
 
-/// Packs, each after two bytes with its length.
-fn packs(second: &mut Service) -> (Vec<u8>, String) {
-    let (mut input, mut output) = (Vec::new(), String::new());
-    for line in PACKS.lines().filter(|l| !l.starts_with('#')) {
+/// The files that the program `unpack` is given beside M2 on standard input, and all that it must print: the other models of the
+/// vectors that are accepted, and the first pack of each refusal.
+fn unpacks(folder: &Path, second: &mut Service, m2: &[u8]) {
+    let (mut args, mut output) = (String::from("-\n"), second.program(m2));
+    fs::create_dir_all(folder.join("unpack/data")).expect("a folder");
+    for (i, line) in PACKS.lines().filter(|l| !l.starts_with('#')).enumerate() {
         let pack = unhex(line).expect("hexadecimal");
-        let length = u16::try_from(pack.len()).expect("a short pack");
-        input.extend(length.to_be_bytes());
-        input.extend(&pack);
-        output += &second.program(&pack);
+        let printed = second.program(&pack);
+        let name = match printed.strip_prefix("refused ") {
+            Some(n) => format!("refused-{}", n.trim_end()),
+            None => format!("accepted-{}", i + 1),
+        };
+        let file = folder.join("unpack/data").join(&name);
+        if pack != m2 && !file.exists() {
+            fs::write(file, &pack).expect("a pack");
+            args += &(name + "\n");
+            output += &printed;
+        }
     }
-    (input, output)
+    for n in [12, 13, 15, 16, 17, 18, 19, 20] {
+        assert!(args.contains(&format!("refused-{n}\n")), "no pack that {n} refuses");
+    }
+    fs::write(folder.join("unpack/args"), args).expect("args");
+    store(folder, "unpack", m2, output.as_bytes());
 }
 
 /// Building calls: the vectors, lines that are no call, and random lists, model after model.
@@ -53,11 +66,9 @@ fn main() {
         std::process::exit(2);
     };
     let mut second = Service::new(Engine::Plain);
-    let (input, output) = packs(&mut second);
-    store(Path::new(&folder), "packs", &input, output.as_bytes());
     let (input, output) = calls();
     store(Path::new(&folder), "build", input.as_bytes(), output.as_bytes());
     let (bytes, _) = second.pack(4, &M2).expect("an accepted list");
     store(Path::new(&folder), "pack", b"4\n0 1 2\n1 0 3\n2 1 3\n0 2 3\n", &bytes);
-    store(Path::new(&folder), "unpack", &bytes, second.program(&bytes).as_bytes());
+    unpacks(Path::new(&folder), &mut second, &bytes);
 }

@@ -2,14 +2,14 @@
 -- Assumes nothing.
 use mathlib.Core.Path.{refl}
 use borrow.Author.Needs.{needs}
-use Rattle.memory.proofs.Ready.{ready-free}
+use Rattle.memory.proofs.Ready.{ready-proposes, ready-free}
 use Rattle.border.proofs.Deciding.{decided-by}
 use Rattle.unpacking.proofs.Operating.{held-ready, decided-builds, operate-refused, operate-live, operate-marked}
 use Rattle.unpacker.proofs.step.operate.Statement.{statement}
 use Rattle.unpacker.proofs.step.operate.Tie as tie
 
 propose-requires : tie.Need-propose-requires
-propose-requires c κs = let a = c .before .before .before in held-ready (a .args .s) (a .args .triangles .now) (a .args .m .now) (a .args .chains .now) (a .pre)
+propose-requires c κs = let a = c .before .before .before in ready-proposes _ _ _ (held-ready (a .args .s) (a .args .triangles .now) (a .args .m .now) (a .args .chains .now) (a .pre))
 
 test-room-requires : tie.Need-test-room-requires
 test-room-requires c κs = let a = c .before .before .before .before in ready-free _ _ _ (held-ready (a .args .s) (a .args .triangles .now) (a .args .m .now) (a .args .chains .now) (a .pre))

@@ -1,0 +1,158 @@
+-- One corner of a new triangle v a b: what becomes of the place of v, and of the chain about v.
+-- Assumes nothing.
+use Prim.Native.Nat.{ℕ, _+_, _≤_}
+use native.Mathlib.Omega.{arith}
+use mathlib.Core.Bool.{true}
+use mathlib.Core.List.{List, _∷_}
+use mathlib.Core.Logic.{_⊎_, inl, inr}
+use mathlib.Core.Path.{_≡_, refl, sym, ap, _∙_, subst}
+use borrow.Author.Tests.{eq-eqb}
+use Rattle.rules.specs.declared.Triangle.{Triangle}
+use Rattle.rules.specs.Triangle.{Edge, edge}
+use Rattle.rules.specs.Count.{same, hit}
+use Rattle.rules.specs.Fan.{about}
+use Rattle.rules.specs.Ring.{Ring}
+use Rattle.rules.specs.Table.{Side, glued, fresh}
+use Rattle.rules.specs.Machine.{freshSides}
+use Rattle.fans.specs.Chain.{Chained}
+use Rattle.fans.specs.Corner.{Different}
+use Rattle.fans.proofs.Counting.{same-yes, same-no, same-is, hit-from, hit-to, hit-swap}
+use Rattle.book.specs.Sums.{Weight, loopsSum}
+use Rattle.book.proofs.Counting.{ifFresh, ifGlued, if-fresh-le, if-glued-le}
+use Rattle.onefan.specs.Fanned.{placesOf, stands, Leads, OneChain, Unnumbered}
+use Rattle.onefan.proofs.Places.{leaves-place, comes-place, one-leaves, one-comes, some-leaves, some-comes}
+use Rattle.onefan.proofs.Leading.{leads-chained, leads-one, leads-before, leads-after}
+
+-- the loops after the triangle v a b, from those before it: a side v→a, a→b or b→v is a new edge, or it glues its opposite
+abbrev pub Gains : (v a b : ℕ) (va ab bv : Side) (ls ls′ : List Ring) → Type 0
+Gains v a b va ab bv ls ls′ = (w : Weight)
+    → loopsSum w ls′ + (ifGlued va (w a v true) + (ifGlued ab (w b a true) + ifGlued bv (w v b true)))
+    ≡ loopsSum w ls + (ifFresh va (w v a true) + (ifFresh ab (w a b true) + ifFresh bv (w b v true)))
+
+-- of these the edges at v
+record AtCorner (v a b : ℕ) (va bv : Side) (ls ls′ : List Ring) : Type 0 where
+  comes : (x : ℕ) → stands x v ls′ + ifGlued va (same x a) ≡ stands x v ls + ifFresh bv (same x b)
+  leaves : (y : ℕ) → stands v y ls′ + ifGlued bv (same y b) ≡ stands v y ls + ifFresh va (same y a)
+  places : placesOf v ls′ + ifGlued bv 1 ≡ placesOf v ls + ifFresh va 1
+
+hit-leaving : (v x y : ℕ) → hit v x v y ≡ same x y
+unfolding hit same
+hit-leaving v x y = rw (eq-eqb v v refl)
+
+hit-coming : (x v y : ℕ) → hit x v y v ≡ same x y
+hit-coming x v y = hit-swap x v y v ∙ hit-leaving v x y
+
+at-corner : (v a b : ℕ) (va ab bv : Side) (ls ls′ : List Ring) → Different v a b → Gains v a b va ab bv ls ls′ → AtCorner v a b va bv ls ls′
+at-corner v a b va ab bv ls ls′ d g =
+    let v-a : same v a ≡ 0 = same-no v a (d .x-y) in
+    let v-b : same v b ≡ 0 = same-no v b (λ e. d .z-x (sym e)) in
+    record {
+      comes = λ x.
+          omega (
+            arith,
+            g (λ p q o. hit x v p q),
+            ap (ifGlued va) (hit-coming x v a),
+            ap (ifFresh bv) (hit-coming x v b),
+            if-glued-le ab (hit x v b a),
+            hit-to x v b a,
+            if-glued-le bv (hit x v v b),
+            hit-to x v v b,
+            if-fresh-le va (hit x v v a),
+            hit-to x v v a,
+            if-fresh-le ab (hit x v a b),
+            hit-to x v a b,
+          );
+      leaves = λ y.
+          omega (
+            arith,
+            g (λ p q o. hit v y p q),
+            ap (ifGlued bv) (hit-leaving v y b),
+            ap (ifFresh va) (hit-leaving v y a),
+            if-glued-le va (hit v y a v),
+            hit-from v y a v,
+            if-glued-le ab (hit v y b a),
+            hit-from v y b a,
+            if-fresh-le ab (hit v y a b),
+            hit-from v y a b,
+            if-fresh-le bv (hit v y b v),
+            hit-from v y b v,
+          );
+      places =
+          omega (
+            arith,
+            g (λ p q o. same v p),
+            ap (ifGlued bv) (same-yes v),
+            ap (ifFresh va) (same-yes v),
+            if-glued-le va (same v a),
+            if-glued-le ab (same v b),
+            if-fresh-le ab (same v a),
+            if-fresh-le bv (same v b),
+          );
+    }
+
+-- the triangle's edge a→b is one more edge about v: before the chain, after it, or between its ends
+module _ (v a b : ℕ) (ls ls′ : List Ring) (ts ts′ : List Triangle) (d : Different v a b) (more : about v ts′ ≡ edge a b ∷ about v ts) where
+  b-a : same b a ≡ 0
+  b-a = same-no b a (λ e. d .y-z (sym e))
+
+  a-b : same a b ≡ 0
+  a-b = same-no a b (d .y-z)
+
+  leads : (s t : ℕ) → Leads s t (edge a b ∷ about v ts) → Leads s t (about v ts′)
+  leads s t l = subst (Leads s t) (sym more) l
+
+  chains : (s t : ℕ) → Leads s t (edge a b ∷ about v ts) → Chained (about v ts′)
+  chains s t l = leads-chained s t (about v ts′) (leads s t l)
+
+  one-chain : (va bv : Side) → AtCorner v a b va bv ls ls′ → OneChain v ls ts → (freshSides va + freshSides bv ≤ 1) ⊎ Unnumbered v ls ts
+      → OneChain v ls′ ts′
+  -- the place of v between a and b is gone
+  one-chain glued glued g c n =
+      let l = c .between a b (omega (arith, g .comes a, same-yes a)) (omega (arith, g .leaves b, same-yes b)) in
+      record {
+        once = omega (arith, g .places, c .once);
+        chained = chains a a (leads-before a b a (about v ts) l);
+        between = λ x y h k. absurd (omega (arith, h, comes-place x v ls′, g .places, c .once));
+      }
+  -- a→v gave way to b→v
+  one-chain glued fresh g c n =
+      let i : 1 ≤ stands a v ls = omega (arith, g .comes a, a-b, same-yes a) in
+      let s = some-leaves v ls (omega (arith, i, comes-place a v ls)) in
+      let o : placesOf v ls′ ≤ 1 = omega (arith, g .places, c .once) in
+      record {
+        once = o;
+        chained = chains (s .0) b (leads-after (s .0) a b (about v ts) (c .between a (s .0) i (s .1)));
+        between = λ x y j k.
+            let e : b ≡ x = one-comes v b x ls′ o (omega (arith, g .comes b, b-a, same-yes b)) j in
+            subst (λ (z : ℕ). Leads y z (about v ts′)) e
+            (leads y b (leads-after y a b (about v ts) (c .between a y i (omega (arith, k, g .leaves y)))));
+      }
+  -- v→b gave way to v→a
+  one-chain fresh glued g c n =
+      let i : 1 ≤ stands v b ls = omega (arith, g .leaves b, b-a, same-yes b) in
+      let s = some-comes v ls (omega (arith, i, leaves-place v b ls)) in
+      let o : placesOf v ls′ ≤ 1 = omega (arith, g .places, c .once) in
+      record {
+        once = o;
+        chained = chains a (s .0) (leads-before a b (s .0) (about v ts) (c .between (s .0) b (s .1) i));
+        between = λ x y j k.
+            let e : a ≡ y = one-leaves v a y ls′ o (omega (arith, g .leaves a, a-b, same-yes a)) k in
+            subst (λ (z : ℕ). Leads z x (about v ts′)) e
+            (leads a x (leads-before a b x (about v ts) (c .between x b (omega (arith, j, g .comes x)) i)));
+      }
+  -- the first place of v
+  one-chain fresh fresh g c (inl n) = absurd (omega arith)
+  one-chain fresh fresh g c (inr n) =
+      let l : Leads a b (edge a b ∷ about v ts) = subst (λ (ds : List Edge). Leads a b (edge a b ∷ ds)) (sym (n .no-triangle)) (leads-one a b) in
+      record {
+        once = omega (arith, g .places, n .no-place);
+        chained = chains a b l;
+        between = λ x y j k.
+            let e : x ≡ b = same-is x b (omega (arith, j, g .comes x, comes-place x v ls, n .no-place)) in
+            let f : y ≡ a = same-is y a (omega (arith, k, g .leaves y, leaves-place v y ls, n .no-place)) in
+            subst (λ (z : ℕ). Leads z x (about v ts′)) (sym f) (subst (λ (z : ℕ). Leads a z (about v ts′)) (sym e) (leads a b l));
+      }
+
+pub chain-grows : (v a b : ℕ) (va ab bv : Side) (ls ls′ : List Ring) (ts ts′ : List Triangle) → Different v a b → Gains v a b va ab bv ls ls′
+    → about v ts′ ≡ edge a b ∷ about v ts → OneChain v ls ts → (freshSides va + freshSides bv ≤ 1) ⊎ Unnumbered v ls ts → OneChain v ls′ ts′
+chain-grows v a b va ab bv ls ls′ ts ts′ d g e c n = one-chain v a b ls ls′ ts ts′ d e va bv (at-corner v a b va ab bv ls ls′ d g) c n
