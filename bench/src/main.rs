@@ -21,6 +21,10 @@ fn models() -> Vec<(String, Model)> {
         let m = gen::relist(&mut rng, &out[i].1);
         out.push((format!("{} shuffled", out[i].0), m));
     }
+    // Whether the cost is linear.
+    for n in [8, 16, 32] {
+        out.push((format!("torus {}", 2 * n * n), Model::of(&gen::grid(n, n, true, true, || true))));
+    }
     out
 }
 

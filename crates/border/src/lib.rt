@@ -2,7 +2,7 @@
 // the caller, and then it is done. The contracts cite the crate memory, whose theorem `decides` joins them to the machine of the rules.
 pub mod alter; // the surgery of a planned operation
 pub mod count; // the counts after an operation
-mod plan;
+pub mod plan; // what each operation would do
 pub mod verdict; // whether an operation is allowed and has room
 
 use crate::alter::alter;

@@ -40,7 +40,7 @@ fn plan_at(m: &[u16], l: Loops, c: u16, qr: u16, rp: u16, v: u16, k: u16, p: u16
 }
 
 // New: c is the next unused number u, and both a→c and c→b are new edges.
-pub(crate) fn new_plan(m: &[u16], n: usize, l: Loops, u: u16) -> Decided
+pub fn new_plan(m: &[u16], n: usize, l: Loops, u: u16) -> Decided
     requires { ⌜ Near n l (now m) ⌝ }
     ensures { λ r. ⌜ r ≡ newPlan l (now (m .entry)) u ⌝ }
 {
@@ -48,7 +48,7 @@ pub(crate) fn new_plan(m: &[u16], n: usize, l: Loops, u: u16) -> Decided
 }
 
 // Forward, with four places or more and the edge after b open: c is the vertex after b, and a→c is a new edge.
-pub(crate) fn forward_plan(m: &[u16], n: usize, l: Loops) -> Decided
+pub fn forward_plan(m: &[u16], n: usize, l: Loops) -> Decided
     requires { ⌜ Near n l (now m) ⌝ }
     ensures { λ r. ⌜ r ≡ forwardPlan l (now (m .entry)) ⌝ }
 {

@@ -115,7 +115,7 @@ fn begin(n: Numbers, s: Session, triangles: &mut [u16], m: &mut Memory) -> Sessi
         loops: v[3],
     };
     let entries = at_most(v[4], triangles.len());
-    let records = at_most(v[5], 1024);
+    let records = at_most(v[5], Builder::MAX_PLACES);
     let r = begin_on(stated, &mut triangles[..entries], m, records);
     let a = r.answer;
     let state = r.state;

@@ -2,6 +2,7 @@
 // to standard output, or a line: `refused` and the number, or that the text is no model.
 use libc::STDIN_FILENO;
 use libc::STDOUT_FILENO;
+use rules::Builder;
 use rules::Packed;
 use show::print_refusal;
 use text::is_space;
@@ -176,7 +177,7 @@ fn pack_numbers(
         return;
     }
     let v = wide(numbers[0]);
-    let r = packer::pack_on(v, &numbers[1..n], numbering, room, m, 1024);
+    let r = packer::pack_on(v, &numbers[1..n], numbering, room, m, Builder::MAX_PLACES);
     print_answer(r, room);
 }
 

@@ -43,8 +43,8 @@ fn stated_for(v: usize, k: usize) -> Counts
     Counts {
         vertices: v as u16,
         triangles: k as u16,
-        places: 1024,
-        loops: 100,
+        places: Builder::MAX_PLACES as u16,
+        loops: Builder::MAX_LOOPS as u16,
     }
 }
 

@@ -2,6 +2,7 @@
 // each triangle as built. A refused pack prints one line with its number. With arguments it does so for each in turn: the pack of
 // the file that it names, or for "-" that of standard input.
 use libc::STDIN_FILENO;
+use rules::Builder;
 use show::print_refusal;
 use show::print_unpacked;
 
@@ -15,7 +16,7 @@ fn unpack_from(fd: i32, pack: &mut [u8], triangles: &mut [u16], m: &mut [u16; 53
         print_refusal(12);
         return;
     }
-    let r = unpacker::unpack_on(&pack[..n], triangles, m, 1024);
+    let r = unpacker::unpack_on(&pack[..n], triangles, m, Builder::MAX_PLACES);
     print_unpacked(r, triangles);
 }
 

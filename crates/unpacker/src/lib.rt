@@ -1,6 +1,7 @@
 // Unpacking: a pack's operations are run on the cut-border, and the model is tested. What the contracts cite stands in the crate
 // unpacking.
 mod buffers; // what the buffers are left with
+mod common; // deciding and doing, new and forward at hand
 pub mod conclude; // 19, 20, and the answer
 mod rule; // the edge rule
 pub mod step; // one operation, and the run of them

@@ -1,11 +1,11 @@
 // One operation of a pack, read and done, and the run of them until the model is complete.
 use crate::PLACES;
+use crate::common::alter;
+use crate::common::propose;
 use crate::conclude::is_complete;
 use crate::rule::is_ruled;
-use border::alter::alter;
 use border::count::count_built;
 use border::mark;
-use border::verdict::propose;
 use border::verdict::test_room;
 use memory::Decided;
 use memory::Front;

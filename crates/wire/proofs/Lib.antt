@@ -1,4 +1,4 @@
-pub mod Places
+pub mod Contents
 pub mod Copies
 pub mod Windows
 pub mod Codes

@@ -11,19 +11,19 @@ use Rattle.rules.specs.Fields.{Field, no-field, field, takeField, Fields, no-pa
 use Rattle.rules.specs.Limits.{inRange}
 use Rattle.rules.specs.Buffer.{over}
 use Rattle.codes.specs.Header.{headerOf}
-use Rattle.wire.specs.declared.fields.Place.{Place}
-use Rattle.wire.specs.declared.fields.Place.the-variants.{At, Nothing}
+use Rattle.wire.specs.declared.fields.Contents.{Contents}
+use Rattle.wire.specs.declared.fields.Contents.the-variants.{At, Nothing}
 use Rattle.wire.specs.declared.fields.PackFields.{PackFields}
 use Rattle.wire.specs.declared.fields.PackFields.the-variants.{Found, Refused}
 
 -- the contents stand after the tag and the two bytes of the length
-abbrev pub placeFrom : ℕ → Field → Place
-placeFrom at no-field = Nothing
-placeFrom at (field cs ds) = At (at + 3) (at + 3 + length cs)
+abbrev pub contentsFrom : ℕ → Field → Contents
+contentsFrom at no-field = Nothing
+contentsFrom at (field cs ds) = At (at + 3) (at + 3 + length cs)
 
 -- the field with this tag at a position
-unfoldable pub fieldAt : List ℕ → ℕ → ℕ → Place
-fieldAt bs at tag = placeFrom at (takeField tag (drop at bs))
+unfoldable pub fieldAt : List ℕ → ℕ → ℕ → Contents
+fieldAt bs at tag = contentsFrom at (takeField tag (drop at bs))
 
 abbrev pub ranged : Bool → Counts → List ℕ → PackFields
 ranged true s ops = Found s 14 (14 + length ops)

@@ -1,6 +1,7 @@
 // The tagged fields of a pack: found in any bytes, and written before the operations.
 // Its contracts cite specs/Fields.antt.
 use crate::wide;
+use rules::Builder;
 use rules::Counts;
 ghost use mathlib.Core.Path.{_≡_};
 ghost use Prim.Native.Nat.{_+_, _/_, _%_, _<_, _≤_};
@@ -22,7 +23,7 @@ pub enum PackFields {
 }
 
 // Where the contents of a field start and end.
-enum Place {
+enum Contents {
     At(usize, usize),
     Nothing,
 }
@@ -36,24 +37,24 @@ fn word_at(pack: &[u8], i: usize) -> u16
 }
 
 // The field with this tag at a position, if it is there and whole.
-fn field_at(pack: &[u8], at: usize, tag: u8) -> Place
+fn field_at(pack: &[u8], at: usize, tag: u8) -> Contents
     ensures { λ r. ⌜ r ≡ fieldAt (now (pack .entry)) at tag ⌝ }
 {
     if pack.len() < 3 {
-        return Place::Nothing;
+        return Contents::Nothing;
     }
     if pack.len() - 3 < at {
-        return Place::Nothing;
+        return Contents::Nothing;
     }
     if pack[at] != tag {
-        return Place::Nothing;
+        return Contents::Nothing;
     }
     let start = at + 3;
     let n = word_at(pack, at + 1) as usize;
     if pack.len() - start < n {
-        return Place::Nothing;
+        return Contents::Nothing;
     }
-    Place::At(start, start + n)
+    Contents::At(start, start + n)
 }
 
 // The four counts, which are the first field's contents.
@@ -89,10 +90,10 @@ pub fn is_in_range(counts: Counts) -> bool
     if !is_between(1, counts.triangles, 8192) {
         return false;
     }
-    if !is_between(3, counts.places, 1024) {
+    if !is_between(3, counts.places, Builder::MAX_PLACES as u16) {
         return false;
     }
-    is_between(1, counts.loops, 100)
+    is_between(1, counts.loops, Builder::MAX_LOOPS as u16)
 }
 
 // The two fields of any bytes, tested for 12 and 13. Nothing follows the operations, which are the part of the pack from the
@@ -102,14 +103,14 @@ pub fn fields_of(pack: &[u8]) -> PackFields
     ensures part { λ r. ⌜ Parted (now (pack .entry)) r ⌝ }
 {
     let first = field_at(pack, 0, COUNTS_TAG);
-    let Place::At(_, end) = first else {
+    let Contents::At(_, end) = first else {
         return PackFields::Refused(12);
     };
     if end != 11 {
         return PackFields::Refused(12);
     }
     let second = field_at(pack, end, OPERATIONS_TAG);
-    let Place::At(from, to) = second else {
+    let Contents::At(from, to) = second else {
         return PackFields::Refused(12);
     };
     if to != pack.len() {

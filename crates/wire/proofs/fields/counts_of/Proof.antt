@@ -1,6 +1,6 @@
 -- `wire::fields::counts_of` meets its contract: the four numbers are those of the first field's contents.
 -- Assumes nothing.
-use Rattle.wire.proofs.Places.{counts-read}
+use Rattle.wire.proofs.Contents.{counts-read}
 use borrow.Author.Needs.{needs}
 use Rattle.wire.proofs.fields.counts_of.Statement.{statement}
 use Rattle.wire.proofs.fields.counts_of.Tie as tie

@@ -1,7 +1,7 @@
 -- `wire::fields::field_at` meets its contract: each answer is a law of Places.
 -- Assumes nothing.
 use native.Mathlib.Omega.{arith}
-use Rattle.wire.proofs.Places.{field-short, field-other, field-cut, field-whole}
+use Rattle.wire.proofs.Contents.{field-short, field-other, field-cut, field-whole}
 use borrow.Author.Needs.{needs}
 use Rattle.wire.proofs.fields.field_at.Statement.{statement}
 use Rattle.wire.proofs.fields.field_at.Tie as tie

@@ -1,7 +1,7 @@
 -- `wire::fields::fields_of` meets its contract: each answer is a law of Places; `answered` adds where the operations are.
 -- Assumes nothing.
 use mathlib.Core.Path.{_∙_, sym}
-use Rattle.wire.proofs.Places.{answered, none-first, other-counts, long-enough, none-second, more-follows, out-of-range, all-found}
+use Rattle.wire.proofs.Contents.{answered, none-first, other-counts, long-enough, none-second, more-follows, out-of-range, all-found}
 use borrow.Author.Needs.{needs}
 use Rattle.wire.proofs.fields.fields_of.Statement.{statement}
 use Rattle.wire.proofs.fields.fields_of.Tie as tie

@@ -1,6 +1,6 @@
 -- `wire::fields::is_between` meets its contract: each answer is one test of `between`.
 -- Assumes nothing.
-use Rattle.wire.proofs.Places.{below-range, above-low}
+use Rattle.wire.proofs.Contents.{below-range, above-low}
 use Rattle.wire.proofs.fields.is_between.Statement.{statement}
 use Rattle.wire.proofs.fields.is_between.Tie as tie
 

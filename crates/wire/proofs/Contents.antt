@@ -17,10 +17,10 @@ use Rattle.rules.specs.Fields.{wordAt, Field, no-field, field, takeField, Field
 use Rattle.rules.specs.Limits.{between, inRange}
 use Rattle.codes.proofs.Lists.{below-all}
 use Rattle.codes.proofs.Fields.{pack-found, found-part, PackFound}
-use Rattle.wire.specs.declared.fields.Place.the-variants.{At, Nothing}
+use Rattle.wire.specs.declared.fields.Contents.the-variants.{At, Nothing}
 use Rattle.wire.specs.declared.fields.PackFields.{PackFields}
 use Rattle.wire.specs.declared.fields.PackFields.the-variants.{Found, Refused}
-use Rattle.wire.specs.Fields.{placeFrom, fieldAt, ranged, tested, packFields, PartFound, Parted}
+use Rattle.wire.specs.Fields.{contentsFrom, fieldAt, ranged, tested, packFields, PartFound, Parted}
 
 no-such : (cs ds : List ℕ) → no-field ≡ field cs ds → ⊥
 no-such cs ds e = let z : _≡_ {A = ℕ} 0 1 = cc in omega arith
@@ -49,7 +49,7 @@ heads bs at h =
 module _ (bs : List ℕ) (at tag : ℕ) where
   pub field-short : length bs < at + 3 → Nothing ≡ fieldAt bs at tag
   unfolding fieldAt
-  field-short h = sym (ap (placeFrom at) (short-field tag (drop at bs) (omega (arith, length-drop at bs))))
+  field-short h = sym (ap (contentsFrom at) (short-field tag (drop at bs) (omega (arith, length-drop at bs))))
 
   module _ (h : at + 3 ≤ length bs) where
     pub field-other : (getD bs at 0 ≡ tag → ⊥) → Nothing ≡ fieldAt bs at tag
@@ -106,7 +106,7 @@ parts : (bs : List ℕ) (at tag a b : ℕ) → fieldAt bs at tag ≡ At a b → 
 unfolding fieldAt
 parts bs at tag a b e = go (takeField tag (drop at bs)) refl e
   where
-    go : (f : Field) → takeField tag (drop at bs) ≡ f → placeFrom at f ≡ At a b → Parts bs at tag a b
+    go : (f : Field) → takeField tag (drop at bs) ≡ f → contentsFrom at f ≡ At a b → Parts bs at tag a b
     go no-field f e = let z : _≡_ {A = ℕ} 0 1 = cc in absurd (omega arith)
     go (field cs ds) f e =
         let p = field-parts tag (drop at bs) cs ds f in
@@ -168,7 +168,7 @@ module _ (bs : List ℕ) where
   unfolding fieldAt packFields fieldsOf
   none-first e = go (takeField 1 bs) refl e
     where
-      go : (f : Field) → takeField 1 bs ≡ f → placeFrom 0 f ≡ Nothing → Refused 12 ≡ tested (firstField (takeField 1 bs))
+      go : (f : Field) → takeField 1 bs ≡ f → contentsFrom 0 f ≡ Nothing → Refused 12 ≡ tested (firstField (takeField 1 bs))
       go no-field f e = rw f
       go (field cs ds) f e = let z : _≡_ {A = ℕ} 0 1 = cc in absurd (omega arith)
 
@@ -196,7 +196,7 @@ module _ (bs : List ℕ) where
       unfolding fieldAt packFields
       none-second f = go (takeField 2 (drop e bs)) refl f
         where
-          go : (g : Field) → takeField 2 (drop e bs) ≡ g → placeFrom e g ≡ Nothing → Refused 12 ≡ tested (fieldsOf bs)
+          go : (g : Field) → takeField 2 (drop e bs) ≡ g → contentsFrom e g ≡ Nothing → Refused 12 ≡ tested (fieldsOf bs)
           go no-field g h = rw (by-second, g)
           go (field cs ds) g h = let z : _≡_ {A = ℕ} 0 1 = cc in absurd (omega arith)
 
