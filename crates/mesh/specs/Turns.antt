@@ -12,6 +12,7 @@ use Rattle.rules.specs.declared.Across.the-variants.{Found, Nothing}
 use Rattle.rules.specs.Limits.{maxVertices}
 use Rattle.rules.specs.Triangle.{trianglesOf}
 use Rattle.rules.specs.Across.{across}
+use Rattle.rules.specs.Fan.{about, oneRun}
 use Rattle.chains.specs.Chains.{CountsFrom}
 
 -- z noted as the third vertex at v→y; of several the first stays
@@ -36,3 +37,11 @@ pub record AllNoted (xs cs : List ℕ) (v c k : ℕ) (ns : List ℕ) : Type 0 wh
   pub counts : CountsFrom cs c k
   pub notes : Noted xs v ns
   pub fresh : Fresh ns v
+
+-- the triangles about u form one fan, if u is not met
+abbrev pub UnmetAt : List ℕ → List ℕ → ℕ → Type 0
+UnmetAt xs ks u = getD ks u 0 ≡ 0 → oneRun (about u (trianglesOf xs)) ≡ true
+
+-- of each vertex below v
+abbrev pub Unmet : List ℕ → List ℕ → ℕ → Type 0
+Unmet xs ks v = (u : ℕ) → u < v → UnmetAt xs ks u

@@ -16,7 +16,7 @@ ghost use Rattle.chains.specs.Chains.{FreeIs, NewIs, CountsFrom};
 ghost use Rattle.chains.specs.Turn.{leftOn, leftBack};
 ghost use Rattle.chains.specs.Checks.{fitsSize, checkChains, Answers};
 ghost use Rattle.mesh.specs.Joins.{UnjoinedIs};
-ghost use Rattle.mesh.specs.Turns.{noted, Fresh, Noted, AllNoted};
+ghost use Rattle.mesh.specs.Turns.{noted, Fresh, Noted, AllNoted, UnmetAt, Unmet};
 
 // The most vertices of a model, and the most numbers of its list.
 pub const VERTICES: usize = 4096;
@@ -30,6 +30,9 @@ pub type Links = [u16; VERTICES + CORNERS];
 // Notes for turning about a vertex: at 2y, 1 more than the vertex v about which y was noted last; at 2y + 1 the third vertex of the
 // triangle that has v→y.
 type Notes = [u16; 2 * VERTICES];
+
+// The vertices whose fans are to be tested: the entry of vertex v stands at v, and is 0 where its triangles are known to form one fan.
+pub type Met = [u16; VERTICES];
 
 // A number that was read, as an index.
 fn wide(x: u16) -> usize
@@ -318,6 +321,36 @@ pub fn all_fans(list: &[u16], chains: &Links, v: usize) -> bool
     while 0 < u {
         u -= 1;
         if !is_fan(list, chains, &mut notes, u as u16) {
+            return false;
+        }
+    }
+    true
+}
+
+// Whether the triangles about v form one fan, where they do so if v is not met.
+fn is_fan_if_met(list: &[u16], chains: &Links, met: &Met, notes: &mut Notes, v: u16) -> bool
+    requires { ⌜ Linked (now list) (now chains) × (v < maxVertices) × Fresh (now notes) (v + 1) ⌝ }
+    requires { ⌜ UnmetAt (now list) (now met) v ⌝ }
+    ensures fan { λ b. ⌜ b ≡ oneRun (about v (trianglesOf (now (list .entry)))) ⌝ }
+    ensures fresh { λ _. ⌜ Fresh (now (notes .exit)) v ⌝ }
+{
+    if met[v as usize] == 0 {
+        return true;
+    }
+    is_fan(list, chains, notes, v)
+}
+
+// 7, of a list whose vertices that are not met have one fan each: no vertex below v has more than one.
+pub fn met_fans(list: &[u16], chains: &Links, met: &Met, v: usize) -> bool
+    requires { ⌜ Linked (now list) (now chains) × (v ≤ maxVertices) ⌝ }
+    requires { ⌜ Unmet (now list) (now met) v ⌝ }
+    ensures { λ b. ⌜ b ≡ oneFanEach v (trianglesOf (now (list .entry))) ⌝ }
+{
+    let mut notes = [0u16; 2 * VERTICES];
+    let mut u = v;
+    while 0 < u {
+        u -= 1;
+        if !is_fan_if_met(list, chains, met, &mut notes, u as u16) {
             return false;
         }
     }

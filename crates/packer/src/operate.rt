@@ -1,8 +1,9 @@
 // An operation on the loops, whose vertices are the list's own numbers.
 use crate::PLACES;
 use border::build;
-use border::decide;
 use border::mark;
+use border::verdict::propose;
+use border::verdict::test_room;
 use memory::Decided;
 use memory::Front;
 use packing::Done;
@@ -53,7 +54,8 @@ pub(crate) fn operate(m: &mut [u16], s: Front, o: Operation) -> Done
     ensures memory { λ _. ⌜ now (m .exit) ≡ memoryOf s (now (m .entry)) o ⌝ }
 {
     let l = s.loops;
-    let d = decide(m, PLACES, s, o);
+    let proposed = propose(m, PLACES, l, s.used, o);
+    let d = test_room(PLACES, s, proposed);
     match d {
         Decided::Refused(_) => Done::Refused(refusal_at(l.free)),
         Decided::Builds(p) => Done::Going(build(m, PLACES, s, o, p)),

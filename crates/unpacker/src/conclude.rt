@@ -1,7 +1,8 @@
 // The end of a run: whether the model is complete, 19 and 20, and the answer.
 use memory::Front;
 use mesh::Links;
-use mesh::all_fans;
+use mesh::Met;
+use mesh::met_fans;
 use rules::Model;
 use rules::Totals;
 use rules::Unpacked;
@@ -69,10 +70,17 @@ fn model_of(s: Front) -> Model
     }
 }
 
-// 19, 20, or the answer for a complete model.
-fn conclude(ops: &[u8], at: usize, s: Front, triangles: &[u16], chains: &Links) -> Unpacked
-    requires { ⌜ Whole s (now triangles) (now chains) ⌝ }
-    ensures { λ r. ⌜ Concludes (now (ops .entry)) at s (now (triangles .entry)) (now (chains .entry)) (unpackedAnswer r) ⌝ }
+// 19, 20, or the answer for a complete model. 20 tests the vertices met: the others have one fan.
+fn conclude(
+    ops: &[u8],
+    at: usize,
+    s: Front,
+    triangles: &[u16],
+    chains: &Links,
+    met: &Met,
+) -> Unpacked
+    requires { ⌜ Whole s (now triangles) (now chains) (now met) ⌝ }
+    ensures { λ r. ⌜ Concludes (now (ops .entry)) at s (now (triangles .entry)) (now (chains .entry)) (now (met .entry)) (unpackedAnswer r) ⌝ }
 {
     if !is_rest_zero(ops, at) {
         return Unpacked::Refused(19);
@@ -81,7 +89,7 @@ fn conclude(ops: &[u8], at: usize, s: Front, triangles: &[u16], chains: &Links) 
         return Unpacked::Refused(19);
     }
     let n = 3 * (s.built as usize);
-    if !all_fans(&triangles[..n], chains, s.used as usize) {
+    if !met_fans(&triangles[..n], chains, met, s.used as usize) {
         return Unpacked::Refused(20);
     }
     Unpacked::Model(model_of(s))
@@ -98,12 +106,18 @@ fn refusal_of(e: Stepped) -> Unpacked
 }
 
 // The answer after a run: its refusal, or what a complete model comes to.
-pub(crate) fn answer_of(ops: &[u8], e: Stepped, triangles: &[u16], chains: &Links) -> Unpacked
-    requires { ⌜ Ended e (now triangles) (now chains) ⌝ }
-    ensures { λ r. ⌜ Answers (now (ops .entry)) e (now (triangles .entry)) (now (chains .entry)) (unpackedAnswer r) ⌝ }
+pub(crate) fn answer_of(
+    ops: &[u8],
+    e: Stepped,
+    triangles: &[u16],
+    chains: &Links,
+    met: &Met,
+) -> Unpacked
+    requires { ⌜ Ended e (now triangles) (now chains) (now met) ⌝ }
+    ensures { λ r. ⌜ Answers (now (ops .entry)) e (now (triangles .entry)) (now (chains .entry)) (now (met .entry)) (unpackedAnswer r) ⌝ }
 {
     let Stepped::Going(s, at) = e else {
         return refusal_of(e);
     };
-    conclude(ops, at, s, triangles, chains)
+    conclude(ops, at, s, triangles, chains, met)
 }

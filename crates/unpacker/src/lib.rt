@@ -3,6 +3,7 @@
 mod buffers; // what the buffers are left with
 mod common; // deciding and doing, new and forward at hand
 pub mod conclude; // 19, 20, and the answer
+mod meet; // the vertices that are met
 mod rule; // the edge rule
 pub mod step; // one operation, and the run of them
 
@@ -47,11 +48,12 @@ fn unpack_operations(ops: &[u8], stated: Counts, triangles: &mut [u16], m: &mut 
     ensures { λ r. ⌜ RunGives stated (now (ops .entry)) (now (triangles .entry)) r (now (triangles .exit)) (now (m .exit)) ⌝ }
 {
     let mut chains = [0u16; VERTICES + CORNERS];
+    let mut met = [0u16; VERTICES];
     let start = begin(m, PLACES, stated);
     let budget = 8 * ops.len() + 1;
-    let end = run(ops, start, budget, triangles, m, &mut chains);
+    let end = run(ops, start, budget, triangles, m, &mut chains, &mut met);
     clear(m, RECORDS);
-    let answer = answer_of(ops, end, triangles, &chains);
+    let answer = answer_of(ops, end, triangles, &chains, &met);
     tidy(triangles, 3 * (stated.triangles as usize), answer);
     answer
 }

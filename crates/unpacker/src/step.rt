@@ -3,6 +3,7 @@ use crate::PLACES;
 use crate::common::alter;
 use crate::common::propose;
 use crate::conclude::is_complete;
+use crate::meet::meet;
 use crate::rule::is_ruled;
 use border::count::count_built;
 use border::mark;
@@ -11,6 +12,7 @@ use memory::Decided;
 use memory::Front;
 use memory::Plan;
 use mesh::Links;
+use mesh::Met;
 use mesh::link;
 use rules::Operation;
 use rules::Triangle;
@@ -36,7 +38,8 @@ fn put_triangle(triangles: &mut [u16], n: usize, t: Triangle)
     triangles[i + 2] = t.r;
 }
 
-// Builds a planned triangle, unless the edge rule fails (18): into the buffer, the chains and the memory.
+// Builds a planned triangle, unless the edge rule fails (18): into the buffer, the chains and the memory. A vertex that it meets is
+// noted.
 fn build_triangle(
     o: Operation,
     next: usize,
@@ -45,9 +48,10 @@ fn build_triangle(
     triangles: &mut [u16],
     m: &mut [u16],
     chains: &mut Links,
+    met: &mut Met,
 ) -> Stepped
-    requires { ⌜ Held s (now triangles) (now m) (now chains) × (decided maxPlaces s (now m) o ≡ Builds p) ⌝ }
-    ensures turn { λ r. ⌜ OperateOf o next s (now (triangles .entry)) (now (m .entry)) (now (chains .entry)) r (now (triangles .exit)) (now (m .exit)) (now (chains .exit)) ⌝ }
+    requires { ⌜ Held s (now triangles) (now m) (now chains) (now met) × (decided maxPlaces s (now m) o ≡ Builds p) ⌝ }
+    ensures turn { λ r. ⌜ OperateOf o next s (now (triangles .entry)) (now (m .entry)) (now (chains .entry)) (now (met .entry)) r (now (triangles .exit)) (now (m .exit)) (now (chains .exit)) (now (met .exit)) ⌝ }
     ensures beyond { λ _. ⌜ Beyond (s .stated) (now (triangles .entry)) (now (triangles .exit)) ⌝ }
 {
     if !is_ruled(triangles, chains, o, p) {
@@ -57,6 +61,7 @@ fn build_triangle(
     let n = s.built as usize;
     put_triangle(triangles, n, t);
     link(chains, n, t.p, t.q, t.r);
+    meet(met, o, t.r);
     let l = alter(m, PLACES, s.loops, s.used, o, p.place);
     Stepped::Going(count_built(PLACES, s, p, l), next)
 }
@@ -69,16 +74,17 @@ fn operate(
     triangles: &mut [u16],
     m: &mut [u16],
     chains: &mut Links,
+    met: &mut Met,
 ) -> Stepped
-    requires { ⌜ Held s (now triangles) (now m) (now chains) ⌝ }
-    ensures turn { λ r. ⌜ OperateOf o next s (now (triangles .entry)) (now (m .entry)) (now (chains .entry)) r (now (triangles .exit)) (now (m .exit)) (now (chains .exit)) ⌝ }
+    requires { ⌜ Held s (now triangles) (now m) (now chains) (now met) ⌝ }
+    ensures turn { λ r. ⌜ OperateOf o next s (now (triangles .entry)) (now (m .entry)) (now (chains .entry)) (now (met .entry)) r (now (triangles .exit)) (now (m .exit)) (now (chains .exit)) (now (met .exit)) ⌝ }
     ensures beyond { λ _. ⌜ Beyond (s .stated) (now (triangles .entry)) (now (triangles .exit)) ⌝ }
 {
     let proposed = propose(m, PLACES, s.loops, s.used, o);
     let d = test_room(PLACES, s, proposed);
     match d {
         Decided::Refused(k) => Stepped::Refused(k),
-        Decided::Builds(p) => build_triangle(o, next, s, p, triangles, m, chains),
+        Decided::Builds(p) => build_triangle(o, next, s, p, triangles, m, chains, met),
         Decided::Marks(_, _) => Stepped::Going(mark(m, PLACES, s), next),
     }
 }
@@ -91,16 +97,17 @@ pub fn step(
     triangles: &mut [u16],
     m: &mut [u16],
     chains: &mut Links,
+    met: &mut Met,
 ) -> Stepped
-    requires { ⌜ Held s (now triangles) (now m) (now chains) × (length (now ops) < 65536) ⌝ }
-    ensures turn { λ r. ⌜ StepOf (now (ops .entry)) at s (now (triangles .entry)) (now (m .entry)) (now (chains .entry)) r (now (triangles .exit)) (now (m .exit)) (now (chains .exit)) ⌝ }
+    requires { ⌜ Held s (now triangles) (now m) (now chains) (now met) × (length (now ops) < 65536) ⌝ }
+    ensures turn { λ r. ⌜ StepOf (now (ops .entry)) at s (now (triangles .entry)) (now (m .entry)) (now (chains .entry)) (now (met .entry)) r (now (triangles .exit)) (now (m .exit)) (now (chains .exit)) (now (met .exit)) ⌝ }
     ensures beyond { λ _. ⌜ Beyond (s .stated) (now (triangles .entry)) (now (triangles .exit)) ⌝ }
 {
     let read = read_operation(ops, at);
     let OperationRead::Found(o, next) = read else {
         return Stepped::Refused(15);
     };
-    operate(o, next, s, triangles, m, chains)
+    operate(o, next, s, triangles, m, chains, met)
 }
 
 // Operations from the first bit on until the model is complete, by at most `budget` of them: the state and the position then, or
@@ -112,9 +119,10 @@ pub fn run(
     triangles: &mut [u16],
     m: &mut [u16],
     chains: &mut Links,
+    met: &mut Met,
 ) -> Stepped
-    requires { ⌜ Held start (now triangles) (now m) (now chains) × (length (now ops) < 65536) ⌝ }
-    ensures run { λ r. ⌜ RunOf (now (ops .entry)) budget start (now (triangles .entry)) (now (m .entry)) (now (chains .entry)) r (now (triangles .exit)) (now (m .exit)) (now (chains .exit)) ⌝ }
+    requires { ⌜ Held start (now triangles) (now m) (now chains) (now met) × (length (now ops) < 65536) ⌝ }
+    ensures run { λ r. ⌜ RunOf (now (ops .entry)) budget start (now (triangles .entry)) (now (m .entry)) (now (chains .entry)) (now (met .entry)) r (now (triangles .exit)) (now (m .exit)) (now (chains .exit)) (now (met .exit)) ⌝ }
     ensures beyond { λ _. ⌜ Beyond (start .stated) (now (triangles .entry)) (now (triangles .exit)) ⌝ }
 {
     let mut s = start;
@@ -124,7 +132,7 @@ pub fn run(
         if is_complete(s) {
             return Stepped::Going(s, at);
         }
-        let r = step(ops, at, s, triangles, m, chains);
+        let r = step(ops, at, s, triangles, m, chains, met);
         let Stepped::Going(after, next) = r else {
             return r;
         };

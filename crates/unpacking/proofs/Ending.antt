@@ -18,7 +18,7 @@ use Rattle.rules.specs.declared.Unpacked.the-variants as U
 use Rattle.rules.specs.Limits.{maxPlaces, maxVertices, maxNumbers, inRange}
 use Rattle.rules.specs.Triangle.{trianglesOf, edgesOf}
 use Rattle.rules.specs.Check.{allDistinct, noneTwice}
-use Rattle.rules.specs.Fan.{oneFanEach}
+use Rattle.rules.specs.Fan.{about, oneRun, oneFanEach}
 use Rattle.rules.specs.Machine.{Machine, complete, asStated, totals}
 use Rattle.rules.specs.Answer.{Answer, refusal, unpacked, unpackedAnswer}
 use Rattle.rules.specs.Buffer.{over, zeroed}
@@ -34,11 +34,13 @@ use Rattle.memory.specs.Layout.{verticesOf}
 use Rattle.memory.specs.Stands.{ringsIn}
 use Rattle.memory.specs.Keeps.{Keeps}
 use Rattle.memory.proofs.Deciding.{stands-live}
+use Rattle.onefan.proofs.OneFan.{fanned-one-run}
 use Rattle.unpacking.specs.declared.Stepped.{Stepped}
 use Rattle.unpacking.specs.declared.Stepped.the-variants.{Going, Refused}
 use Rattle.unpacking.specs.Runs.{Runs, isComplete, isAsStated, modelAnswer, endBy, endAnswer, Whole, Concludes, Beyond, bitsFrom}
-use Rattle.unpacking.proofs.Order.{asBuilt, length-numbers, built-different, built-once, same-fans}
+use Rattle.unpacking.proofs.Order.{asBuilt, length-numbers, built-different, built-once, fan-built, same-fans}
 use Rattle.unpacking.proofs.Starting.{InRange, in-range}
+use Rattle.unpacking.proofs.Meeting.{zero-unmet}
 
 -- the tests of a state are the machine's
 module _ (n : ℕ) (s : Front) (m : List ℕ) (M : Machine) (k : Keeps n s m M) where
@@ -77,7 +79,7 @@ module _ (c : Counts) (M : Machine) (rest : Bool) where
   end-done h k = sym (ap₂ (λ (a b : Bool). endBy a b answer) h k)
 
 -- a complete model in the buffer
-module _ (M : Machine) (s : Front) (ts m cs : List ℕ) (g : Runs M s ts m cs) (all : complete M ≡ true) where
+module _ (M : Machine) (s : Front) (ts m cs ks : List ℕ) (g : Runs M s ts m cs ks) (all : complete M ≡ true) where
   all-built : s .built ≡ s .stated .triangles
   all-built =
       omega (
@@ -125,6 +127,12 @@ module _ (M : Machine) (s : Front) (ts m cs : List ℕ) (g : Runs M s ts m cs) (
   whole-fans v e =
       ap₂ (λ (u : ℕ) (xs : List ℕ). oneFanEach u (trianglesOf xs)) (e ∙ sym (g .keeps .used)) (g .numbers)
       ∙ same-fans (M .triangles) (g .consistent .once) (g .consistent .proper) (M .used)
+
+  -- a vertex that is not noted as met has one fan
+  pub whole-unmet : (u : ℕ) → getD ks u 0 ≡ 0 → oneRun (about u (trianglesOf (take (3 * s .built) ts))) ≡ true
+  whole-unmet u z =
+      ap (λ (xs : List ℕ). oneRun (about u (trianglesOf xs))) (g .numbers)
+      ∙ fan-built (M .triangles) (g .consistent .once) (g .consistent .proper) u (fanned-one-run (g .consistent) (g .fanned) u (zero-unmet ks u z))
 
   totals-same : totals M
       ≡ record { edges = s .edges; rims = s .rims; unions = s .unions; euler = pos (s .used) -ℤ pos (s .edges) +ℤ pos (s .built) }

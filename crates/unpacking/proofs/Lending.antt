@@ -202,11 +202,11 @@ module _ (c : Counts) (ops ts : List ℕ) (n : ℕ) (R : Ran) (r : Unpacked) whe
   zeroed-beyond : (ts′ : List ℕ) → Beyond c ts ts′ → zeroed (3 * c .triangles) ts′ ≡ zeroed (3 * c .triangles) ts
   zeroed-beyond ts′ b = ap (λ (l : List ℕ). replicate (3 * c .triangles) 0 ++ l) b
 
-  pub run-answer : (e : Stepped) (ts′ m′ cs′ : List ℕ) → Ends R ops c e ts′ m′ cs′ → Answers ops e ts′ cs′ (unpackedAnswer r)
+  pub run-answer : (e : Stepped) (ts′ m′ cs′ ks′ : List ℕ) → Ends R ops c e ts′ m′ cs′ ks′ → Answers ops e ts′ cs′ ks′ (unpackedAnswer r)
       → unpackedAnswer r ≡ unpackRun c (lent n ts) R .answer
   unfolding unpackRun
-  run-answer (Refused k) ts′ m′ cs′ E A = A ∙ ap (λ (x : Ran). unpackRun c (lent n ts) x .answer) (sym E)
-  run-answer (Going s at) ts′ m′ cs′ E A =
+  run-answer (Refused k) ts′ m′ cs′ ks′ E A = A ∙ ap (λ (x : Ran). unpackRun c (lent n ts) x .answer) (sym E)
+  run-answer (Going s at) ts′ m′ cs′ ks′ E A =
       let M = E .last in
       let rest = restFits (bitsFrom ops at) in
       A M m′ (E .runs) (E .complete) ∙ ap (λ (d : Counts). endAnswer d M rest) (E .stated)
@@ -214,16 +214,16 @@ module _ (c : Counts) (ops ts : List ℕ) (n : ℕ) (R : Ran) (r : Unpacked) whe
       (unpackDone c (totals M) (M .triangles) (lent n ts)) (unpackRefused 20 c (lent n ts)) (unpackRefused 19 c (lent n ts)) refl refl refl
       ∙ ap (λ (x : UnpackResult). x .answer) (sym (ended-pick c (lent n ts) M rest)) ∙ ap (λ (x : Ran). unpackRun c (lent n ts) x .answer) (sym (E .ran))
 
-  pub run-triangles : (e : Stepped) (ts′ m′ cs′ : List ℕ) → Ends R ops c e ts′ m′ cs′ → Beyond c ts ts′ → Answers ops e ts′ cs′ (unpackedAnswer r)
+  pub run-triangles : (e : Stepped) (ts′ m′ cs′ ks′ : List ℕ) → Ends R ops c e ts′ m′ cs′ ks′ → Beyond c ts ts′ → Answers ops e ts′ cs′ ks′ (unpackedAnswer r)
       → tidied r (3 * c .triangles) ts′ ≡ unpackRun c (lent n ts) R .buffers .triangles
   unfolding unpackRun
-  run-triangles (Refused k) ts′ m′ cs′ E b A =
+  run-triangles (Refused k) ts′ m′ cs′ ks′ E b A =
       tidied-refused r k (3 * c .triangles) ts′ A ∙ zeroed-beyond ts′ b
       ∙ ap (λ (x : Ran). unpackRun c (lent n ts) x .buffers .triangles) (sym E)
-  run-triangles (Going s at) ts′ m′ cs′ E b A =
+  run-triangles (Going s at) ts′ m′ cs′ ks′ E b A =
       let M = E .last in
       let rest = restFits (bitsFrom ops at) in
-      let whole = whole-over M s ts′ m′ cs′ (E .runs) (E .complete) ts (subst (λ (d : Counts). Beyond d ts ts′) (sym (E .stated)) b) in
+      let whole = whole-over M s ts′ m′ cs′ ks′ (E .runs) (E .complete) ts (subst (λ (d : Counts). Beyond d ts ts′) (sym (E .stated)) b) in
       triangles-pick r (rest && asStated M) (oneFanEach (M .used) (M .triangles)) (record { vertices = c .vertices; triangles = c .triangles; totals = totals M })
       (3 * c .triangles) ts ts′ (unpackDone c (totals M) (M .triangles) (lent n ts)) (unpackRefused 20 c (lent n ts)) (unpackRefused 19 c (lent n ts))
       (A M m′ (E .runs) (E .complete) ∙ ap (λ (d : Counts). endAnswer d M rest) (E .stated)) whole (zeroed-beyond ts′ b) (zeroed-beyond ts′ b)

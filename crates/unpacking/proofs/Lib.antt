@@ -2,6 +2,7 @@ pub mod Order
 pub mod Turns
 pub mod Starting
 pub mod Writing
+pub mod Meeting
 pub mod Ending
 pub mod Stepping
 pub mod Ruling

@@ -16,21 +16,21 @@ use Rattle.unpacking.specs.Runs.{Runs, Held, isComplete, bitsFrom, Beyon
 use Rattle.unpacking.proofs.Turns.{ran-complete, ran-stops, ran-goes, ran-out}
 use Rattle.unpacking.proofs.Ending.{complete-same}
 
-module _ (ops : List ℕ) (budget : ℕ) (s₀ : Front) (ts₀ m₀ cs₀ : List ℕ) where
-  pub comes-first : ComesFrom ops budget s₀ ts₀ m₀ cs₀ budget s₀ 0 ts₀ m₀ cs₀
+module _ (ops : List ℕ) (budget : ℕ) (s₀ : Front) (ts₀ m₀ cs₀ ks₀ : List ℕ) where
+  pub comes-first : ComesFrom ops budget s₀ ts₀ m₀ cs₀ ks₀ budget s₀ 0 ts₀ m₀ cs₀ ks₀
   comes-first M g = record { machine = M; ran = refl; runs = g; stated = refl }
 
-  module _ (left : ℕ) (s : Front) (at : ℕ) (ts m cs : List ℕ) (come : ComesFrom ops budget s₀ ts₀ m₀ cs₀ left s at ts m cs) where
-    pub comes-held : Held s₀ ts₀ m₀ cs₀ → Held s ts m cs
+  module _ (left : ℕ) (s : Front) (at : ℕ) (ts m cs ks : List ℕ) (come : ComesFrom ops budget s₀ ts₀ m₀ cs₀ ks₀ left s at ts m cs ks) where
+    pub comes-held : Held s₀ ts₀ m₀ cs₀ ks₀ → Held s ts m cs ks
     comes-held h = let k = come (h .machine) (h .runs) in record { machine = k .machine; runs = k .runs }
 
-    pub comes-stated : Held s₀ ts₀ m₀ cs₀ → s .stated ≡ s₀ .stated
+    pub comes-stated : Held s₀ ts₀ m₀ cs₀ ks₀ → s .stated ≡ s₀ .stated
     comes-stated h = come (h .machine) (h .runs) .stated
 
-    pub comes-end : left ≤ 0 → RunOf ops budget s₀ ts₀ m₀ cs₀ (Refused 15) ts m cs
+    pub comes-end : left ≤ 0 → RunOf ops budget s₀ ts₀ m₀ cs₀ ks₀ (Refused 15) ts m cs ks
     comes-end l M g = let k = come M g in k .ran ∙ ran-out left (k .machine) (bitsFrom ops at) l
 
-    pub comes-complete : 0 < left → (b : Bool) → b ≡ isComplete s → b ≡ true → RunOf ops budget s₀ ts₀ m₀ cs₀ (Going s at) ts m cs
+    pub comes-complete : 0 < left → (b : Bool) → b ≡ isComplete s → b ≡ true → RunOf ops budget s₀ ts₀ m₀ cs₀ ks₀ (Going s at) ts m cs ks
     comes-complete l b e h M g =
         let k = come M g in
         let done = complete-same _ s m (k .machine) (k .runs .keeps) ∙ sym e ∙ h in
@@ -42,22 +42,22 @@ module _ (ops : List ℕ) (budget : ℕ) (s₀ : Front) (ts₀ m₀ cs₀ : List
           complete = done;
         }
 
-    module _ (l : 0 < left) (b : Bool) (e : b ≡ isComplete s) (h : b ≡ false) (r : Stepped) (ts′ m′ cs′ : List ℕ)
-        (step : StepOf ops at s ts m cs r ts′ m′ cs′) where
-      going : (M : Machine) → Runs M s ts m cs → complete M ≡ false
+    module _ (l : 0 < left) (b : Bool) (e : b ≡ isComplete s) (h : b ≡ false) (r : Stepped) (ts′ m′ cs′ ks′ : List ℕ)
+        (step : StepOf ops at s ts m cs ks r ts′ m′ cs′ ks′) where
+      going : (M : Machine) → Runs M s ts m cs ks → complete M ≡ false
       going M g = complete-same _ s m M (g .keeps) ∙ sym e ∙ h
 
-      pub comes-stopped : (k : ℕ) → r ≡ Refused k → RunOf ops budget s₀ ts₀ m₀ cs₀ r ts′ m′ cs′
+      pub comes-stopped : (k : ℕ) → r ≡ Refused k → RunOf ops budget s₀ ts₀ m₀ cs₀ ks₀ r ts′ m′ cs′ ks′
       comes-stopped k q M g =
           let c = come M g in
-          let t = subst (λ (x : Stepped). Steps (turn (c .machine) (bitsFrom ops at)) ops (s .stated) x ts′ m′ cs′) q (step (c .machine) (c .runs)) in
-          subst (λ (x : Stepped). Ends (runAll budget M (bitsFrom ops 0)) ops (s₀ .stated) x ts′ m′ cs′) (sym q)
+          let t = subst (λ (x : Stepped). Steps (turn (c .machine) (bitsFrom ops at)) ops (s .stated) x ts′ m′ cs′ ks′) q (step (c .machine) (c .runs)) in
+          subst (λ (x : Stepped). Ends (runAll budget M (bitsFrom ops 0)) ops (s₀ .stated) x ts′ m′ cs′ ks′) (sym q)
           (c .ran ∙ ran-stops left (c .machine) (bitsFrom ops at) k l (going (c .machine) (c .runs)) t)
 
-      pub comes-on : (s′ : Front) (at′ : ℕ) → r ≡ Going s′ at′ → ComesFrom ops budget s₀ ts₀ m₀ cs₀ (left - 1) s′ at′ ts′ m′ cs′
+      pub comes-on : (s′ : Front) (at′ : ℕ) → r ≡ Going s′ at′ → ComesFrom ops budget s₀ ts₀ m₀ cs₀ ks₀ (left - 1) s′ at′ ts′ m′ cs′ ks′
       comes-on s′ at′ q M g =
           let c = come M g in
-          let t = subst (λ (x : Stepped). Steps (turn (c .machine) (bitsFrom ops at)) ops (s .stated) x ts′ m′ cs′) q (step (c .machine) (c .runs)) in
+          let t = subst (λ (x : Stepped). Steps (turn (c .machine) (bitsFrom ops at)) ops (s .stated) x ts′ m′ cs′ ks′) q (step (c .machine) (c .runs)) in
           record {
             machine = t .next;
             ran = c .ran ∙ ran-goes left (c .machine) (t .next) (bitsFrom ops at) (bitsFrom ops at′) l (going (c .machine) (c .runs)) (t .turns);
@@ -66,14 +66,14 @@ module _ (ops : List ℕ) (budget : ℕ) (s₀ : Front) (ts₀ m₀ cs₀ : List
           }
 
 -- the invariant of the loop
-pub record Loop (ops : List ℕ) (budget : ℕ) (s₀ : Front) (ts₀ m₀ cs₀ : List ℕ) (left : ℕ) (s : Front) (at : ℕ) (ts m cs : List ℕ) : Type 0 where
-  pub come : ComesFrom ops budget s₀ ts₀ m₀ cs₀ left s at ts m cs
+pub record Loop (ops : List ℕ) (budget : ℕ) (s₀ : Front) (ts₀ m₀ cs₀ ks₀ : List ℕ) (left : ℕ) (s : Front) (at : ℕ) (ts m cs ks : List ℕ) : Type 0 where
+  pub come : ComesFrom ops budget s₀ ts₀ m₀ cs₀ ks₀ left s at ts m cs ks
   pub beyond : Beyond (s₀ .stated) ts₀ ts
   pub triangles-long : length ts ≡ length ts₀
   pub memory-long : length m ≡ length m₀
 
-pub loop-first : (ops : List ℕ) (budget : ℕ) (s : Front) (ts m cs : List ℕ) → Loop ops budget s ts m cs budget s 0 ts m cs
-loop-first ops budget s ts m cs = record { come = comes-first ops budget s ts m cs; beyond = refl; triangles-long = refl; memory-long = refl }
+pub loop-first : (ops : List ℕ) (budget : ℕ) (s : Front) (ts m cs ks : List ℕ) → Loop ops budget s ts m cs ks budget s 0 ts m cs ks
+loop-first ops budget s ts m cs ks = record { come = comes-first ops budget s ts m cs ks; beyond = refl; triangles-long = refl; memory-long = refl }
 
 -- what lies beyond the triangles stated stays as it was
 pub beyond-none : (c : Counts) (ts : List ℕ) → Beyond c ts ts
@@ -83,6 +83,6 @@ pub beyond-more : (c d : Counts) (ts ts′ ts″ : List ℕ) → d ≡ c → Bey
 beyond-more c d ts ts′ ts″ e h k = subst (λ (x : Counts). Beyond x ts′ ts″) e k ∙ h
 
 -- a run that has ended can be concluded
-pub ends-ended : (R : Ran) (ops : List ℕ) (c : Counts) (r : Stepped) (ts m cs : List ℕ) → Ends R ops c r ts m cs → Ended r ts cs
-ends-ended R ops c (Refused k) ts m cs e = tt
-ends-ended R ops c (Going s at) ts m cs e = record { machine = e .last; memory = m; runs = e .runs; complete = e .complete }
+pub ends-ended : (R : Ran) (ops : List ℕ) (c : Counts) (r : Stepped) (ts m cs ks : List ℕ) → Ends R ops c r ts m cs ks → Ended r ts cs ks
+ends-ended R ops c (Refused k) ts m cs ks e = tt
+ends-ended R ops c (Going s at) ts m cs ks e = record { machine = e .last; memory = m; runs = e .runs; complete = e .complete }

@@ -11,13 +11,13 @@ use Rattle.rules.specs.declared.Triangle.{Triangle}
 use Rattle.rules.specs.Triangle.{tri, distinct, trianglesOf, Edge, edge, edgesOf}
 use Rattle.rules.specs.Count.{count, uses, unjoined}
 use Rattle.rules.specs.Table.{Side, glued, fresh, sideRule, edgeRule}
-use Rattle.rules.specs.Fan.{about, OneFan, oneFanEach}
+use Rattle.rules.specs.Fan.{about, OneFan, oneRun, oneFanEach}
 use Rattle.rules.specs.Check.{allDistinct, noneTwice}
 use Rattle.rules.specs.Unpack.{numbersOf}
 use Rattle.fans.specs.Corner.{In, Different}
 use Rattle.fans.proofs.Corners.{in-next, in-uses}
 use Rattle.fans.proofs.Tests.{all-distinct, none-twice}
-use Rattle.fans.proofs.Fans.{one-fan-each}
+use Rattle.fans.proofs.Fans.{one-fan, one-fan-each}
 use Rattle.chains.proofs.Prefix.{uses-append}
 
 pub length-numbers : (us : List Triangle) → length (numbersOf us) ≡ 3 * length us
@@ -129,14 +129,20 @@ module _ (us : List Triangle) (once : (x y : ℕ) → uses x y us ≤ 1) (proper
   pub built-once : noneTwice (edgesOf (asBuilt us)) ≡ true
   built-once = none-double (asBuilt us) once-built proper-built
 
+  -- a fan, in whichever order
+  fan-on : (v : ℕ) → OneFan v us → OneFan v (asBuilt us)
+  fan-on v f = record { run = f .run; each = λ x y. f .each x y ∙ sym (same-about v x y us); shared = f .shared }
+
+  fan-back : (v : ℕ) → OneFan v (asBuilt us) → OneFan v us
+  fan-back v f = record { run = f .run; each = λ x y. f .each x y ∙ same-about v x y us; shared = f .shared }
+
+  pub fan-built : (v : ℕ) → oneRun (about v us) ≡ true → oneRun (about v (asBuilt us)) ≡ true
+  fan-built v h =
+      one-fan (asBuilt us) built-different built-once v .1 (fan-on v (one-fan us (all-different us once proper) (none-double us once proper) v .0 h))
+
   pub same-fans : (n : ℕ) → oneFanEach n (asBuilt us) ≡ oneFanEach n us
   same-fans n =
       let a = one-fan-each us (all-different us once proper) (none-double us once proper) n in
       let b = one-fan-each (asBuilt us) built-different built-once n in
       same-test (oneFanEach n (asBuilt us)) (oneFanEach n us)
-      (λ h. a .1 (λ v l.
-      let f = b .0 h v l in
-      record { run = f .run; each = λ x y. f .each x y ∙ same-about v x y us; shared = f .shared }))
-      (λ h. b .1 (λ v l.
-      let f = a .0 h v l in
-      record { run = f .run; each = λ x y. f .each x y ∙ sym (same-about v x y us); shared = f .shared }))
+      (λ h. a .1 (λ v l. fan-back v (b .0 h v l))) (λ h. b .1 (λ v l. fan-on v (a .0 h v l)))

@@ -18,6 +18,8 @@ use Rattle.book.proofs.Bounds.{empty-bounded}
 use Rattle.chains.specs.Chains.{Chains}
 use Rattle.memory.specs.Fresh.{allFree, freshFront}
 use Rattle.memory.proofs.Fresh.{fresh-keeps}
+use Rattle.onefan.proofs.Steps.{fanned-empty}
+use Rattle.unpacking.specs.Met.{isMetIn}
 use Rattle.unpacking.specs.Runs.{Runs}
 
 -- the counts stated, each within its range
@@ -43,9 +45,10 @@ in-range c h =
     }
 
 pub starts-empty : (c : Counts) → inRange c ≡ true → (m : List ℕ) → length m ≡ 5320 → (ts : List ℕ) → 3 * c .triangles ≤ length ts → (cs : List ℕ)
-    → Chains ts 0 cs → Runs (empty c) (freshFront maxPlaces c) ts (allFree maxPlaces m maxPlaces) cs
+    → Chains ts 0 cs → (ks : List ℕ) → length ks ≡ maxVertices
+    → Runs (empty c) (freshFront maxPlaces c) ts (allFree maxPlaces m maxPlaces) cs ks
 unfolding numbersOf
-starts-empty c h m l ts r cs e =
+starts-empty c h m l ts r cs e ks n =
     let i = in-range c h in
     record {
       borders = [];
@@ -55,4 +58,6 @@ starts-empty c h m l ts r cs e =
       numbers = refl;
       chains = e;
       room = r;
+      noted = n;
+      fanned = fanned-empty c (isMetIn ks);
     }

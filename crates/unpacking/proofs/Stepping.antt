@@ -41,14 +41,17 @@ use Rattle.memory.specs.Decision.{proposed, proposedBy, restProposed, startPlan
 use Rattle.memory.specs.Keeps.{Keeps, Ready, BuildsIt, MarksIt, Decides}
 use Rattle.memory.proofs.Ready.{ready}
 use Rattle.memory.proofs.Deciding.{decides}
+use Rattle.onefan.proofs.Steps.{fanned-built, fanned-declared}
 use Rattle.unpacking.specs.declared.Stepped.the-variants.{Going, Refused}
 use Rattle.unpacking.specs.Turn.{Turn, stops, goes, turnBy, turnOf, turn}
+use Rattle.unpacking.specs.Met.{metAfter}
 use Rattle.unpacking.specs.Runs.{Runs, written, bitsFrom, GoesTo, Steps}
 use Rattle.unpacking.specs.Rule.{ruleAt, RuleIs}
 use Rattle.unpacking.proofs.Order.{asBuilt, same-rule}
 use Rattle.unpacking.proofs.Starting.{InRange, in-range}
 use Rattle.unpacking.proofs.Ending.{live-same}
 use Rattle.unpacking.proofs.Writing.{numbers-more, length-written}
+use Rattle.unpacking.proofs.Meeting.{met-long, unmet-before}
 
 -- what a call does to the triangles and to the counts stated
 abbrev Grows : Machine → Step → Type 0
@@ -129,7 +132,7 @@ no-rest n s Close x y e = not-refused 16 x y e
 no-rest n s (Union k j) x y e = not-refused 16 x y e
 no-rest n s Start x y e = not-planned (roomFor n s _) _ x y e
 
-module _ (M : Machine) (s : Front) (ts m cs : List ℕ) (g : Runs M s ts m cs) where
+module _ (M : Machine) (s : Front) (ts m cs ks : List ℕ) (g : Runs M s ts m cs ks) where
   abbrev book : Book
   book = record { machine = M; borders = g .borders }
 
@@ -243,9 +246,13 @@ module _ (M : Machine) (s : Front) (ts m cs : List ℕ) (g : Runs M s ts m cs) w
           counts .vertices,
         )
 
+    third-below : p .triangle .r < maxVertices
+    third-below = below-most (p .triangle .r) (corner-r (p .triangle) (M .triangles))
+
     runs-next : (s′ : Front) → s′ ≡ builtFront maxPlaces s p (heldAfter maxPlaces s m o p .loops) → (m′ : List ℕ)
         → m′ ≡ heldAfter maxPlaces s m o p .memory
         → Runs (does .next) s′ (written ts (s .built) (p .triangle)) m′ (relinked cs (s .built) (p .triangle .p) (p .triangle .q) (p .triangle .r))
+        (metAfter ks o (p .triangle .r))
     unfolding builtFront
     runs-next s′ es m′ em =
         let t = p .triangle in
@@ -260,21 +267,23 @@ module _ (M : Machine) (s : Front) (ts m cs : List ℕ) (g : Runs M s ts m cs) w
           chains =
               written-linked ts (s .built) (t .p) (t .q) (t .r) cs (g .chains) l (omega (arith, one-fits, counts .triangles))
               (below-most (t .p) (corner-p t (M .triangles))) (below-most (t .q) (corner-q t (M .triangles)))
-              (below-most (t .r) (corner-r t (M .triangles)));
+              third-below;
           room = omega (arith, length-written ts (s .built) t, g .room);
+          noted = met-long ks o (t .r) ∙ g .noted;
+          fanned = fanned-built o (g .fanned) made (λ v. unmet-before ks t (omega (arith, third-below, g .noted)) v o);
         })
 
     pub turn-built : (xs ops : List ℕ) (at′ : ℕ) → readOperation xs ≡ read o (bitsFrom ops at′) → (s′ : Front)
         → s′ ≡ builtFront maxPlaces s p (heldAfter maxPlaces s m o p .loops) → (ts′ : List ℕ) → ts′ ≡ written ts (s .built) (p .triangle)
         → (m′ : List ℕ) → m′ ≡ heldAfter maxPlaces s m o p .memory → (cs′ : List ℕ)
-        → cs′ ≡ relinked cs (s .built) (p .triangle .p) (p .triangle .q) (p .triangle .r)
-        → Steps (turn M xs) ops (s .stated) (Going s′ at′) ts′ m′ cs′
+        → cs′ ≡ relinked cs (s .built) (p .triangle .p) (p .triangle .q) (p .triangle .r) → (ks′ : List ℕ) → ks′ ≡ metAfter ks o (p .triangle .r)
+        → Steps (turn M xs) ops (s .stated) (Going s′ at′) ts′ m′ cs′ ks′
     unfolding builtFront
-    turn-built xs ops at′ reads s′ es ts′ et m′ em cs′ ec =
+    turn-built xs ops at′ reads s′ es ts′ et m′ em cs′ ec ks′ ek =
         record {
           next = does .next;
           turns = turned xs (bitsFrom ops at′) o reads (built (p .triangle) (does .next)) made;
-          runs = rw (et, ec) (runs-next s′ es m′ em);
+          runs = rw (et, ec, ek) (runs-next s′ es m′ em);
           stated = ap (λ (f : Front). f .stated) es;
         }
 
@@ -283,6 +292,9 @@ module _ (M : Machine) (s : Front) (ts m cs : List ℕ) (g : Runs M s ts m cs) w
 
     pub built-few : s .built < 8192
     built-few = omega (arith, one-fits, counts .triangles)
+
+    pub built-third : p .triangle .r < maxVertices
+    built-third = third-below
 
   module _ (o : Operation) (x y : ℕ) (e : decided maxPlaces s m o ≡ D.Marks x y) where
     marked : MarksIt maxPlaces s m M o x y
@@ -293,7 +305,7 @@ module _ (M : Machine) (s : Front) (ts m cs : List ℕ) (g : Runs M s ts m cs) w
 
     pub turn-marked : (xs ops : List ℕ) (at′ : ℕ) → readOperation xs ≡ read o (bitsFrom ops at′) → (s′ : Front)
         → s′ ≡ markedFront maxPlaces s (markedHeld maxPlaces (s .loops) m .loops) → (m′ : List ℕ)
-        → m′ ≡ markedHeld maxPlaces (s .loops) m .memory → Steps (turn M xs) ops (s .stated) (Going s′ at′) ts m′ cs
+        → m′ ≡ markedHeld maxPlaces (s .loops) m .memory → Steps (turn M xs) ops (s .stated) (Going s′ at′) ts m′ cs ks
     unfolding markedFront
     turn-marked xs ops at′ reads s′ es m′ em =
         record {
@@ -309,6 +321,8 @@ module _ (M : Machine) (s : Front) (ts m cs : List ℕ) (g : Runs M s ts m cs) w
                 numbers = g .numbers ∙ ap numbersOf (sym (unchanged .0));
                 chains = g .chains;
                 room = g .room;
+                noted = g .noted;
+                fanned = fanned-declared o (g .fanned) (marked .step);
               });
           stated = ap (λ (f : Front). f .stated) es;
         }

@@ -10,7 +10,7 @@ use lib.Dec.{leb}
 use Rattle.rules.specs.declared.Counts.{Counts}
 use Rattle.rules.specs.declared.Unpacked.{Unpacked}
 use Rattle.rules.specs.declared.Unpacked.the-variants as U
-use Rattle.rules.specs.Limits.{maxPlaces, inRange}
+use Rattle.rules.specs.Limits.{maxPlaces, maxVertices, inRange}
 use Rattle.rules.specs.Bits.{bitsOfBytes}
 use Rattle.rules.specs.Fields.{Fields, no-pack, fields, fieldsOf}
 use Rattle.rules.specs.Machine.{empty}
@@ -31,32 +31,32 @@ use Rattle.unpacking.proofs.Lending.{short-is, short-past, roomy-is, ro
 
 -- the first state, as the code makes it
 module _ (c : Counts) (ops ts m : List ℕ) (f : Fitting c ops ts m) (s : Front) (es : s ≡ freshFront maxPlaces c) (m₁ : List ℕ)
-    (em : m₁ ≡ allFree maxPlaces m maxPlaces) (cs : List ℕ) (none : Chains ts 0 cs) where
-  first : Runs (empty c) s ts m₁ cs
-  first = rw (es, em) (starts-empty c (f .ranges) m (f .whole) ts (f .room) cs none)
+    (em : m₁ ≡ allFree maxPlaces m maxPlaces) (cs : List ℕ) (none : Chains ts 0 cs) (ks : List ℕ) (noted : length ks ≡ maxVertices) where
+  first : Runs (empty c) s ts m₁ cs ks
+  first = rw (es, em) (starts-empty c (f .ranges) m (f .whole) ts (f .room) cs none ks noted)
 
-  pub first-held : Held s ts m₁ cs
+  pub first-held : Held s ts m₁ cs ks
   first-held = record { machine = empty c; runs = first }
 
-  module _ (budget : ℕ) (eb : budget ≡ 8 * length ops + 1) (e : Stepped) (ts₁ m₂ cs₁ : List ℕ) (ran : RunOf ops budget s ts m₁ cs e ts₁ m₂ cs₁) where
+  module _ (budget : ℕ) (eb : budget ≡ 8 * length ops + 1) (e : Stepped) (ts₁ m₂ cs₁ ks₁ : List ℕ) (ran : RunOf ops budget s ts m₁ cs ks e ts₁ m₂ cs₁ ks₁) where
     fuel : budget ≡ suc (length (bitsOfBytes ops))
     fuel = omega (arith, eb, length-bits-of-bytes ops)
 
-    ends : Ends (runOf c ops) ops c e ts₁ m₂ cs₁
+    ends : Ends (runOf c ops) ops c e ts₁ m₂ cs₁ ks₁
     ends =
-        subst (λ (k : ℕ). Ends (runAll k (empty c) (bitsOfBytes ops)) ops c e ts₁ m₂ cs₁) fuel
-        (subst (λ (d : Counts). Ends (runAll budget (empty c) (bitsOfBytes ops)) ops d e ts₁ m₂ cs₁) (ap (λ (x : Front). x .stated) es) (ran (empty c) first))
+        subst (λ (k : ℕ). Ends (runAll k (empty c) (bitsOfBytes ops)) ops c e ts₁ m₂ cs₁ ks₁) fuel
+        (subst (λ (d : Counts). Ends (runAll budget (empty c) (bitsOfBytes ops)) ops d e ts₁ m₂ cs₁ ks₁) (ap (λ (x : Front). x .stated) es) (ran (empty c) first))
 
-    pub first-ended : Ended e ts₁ cs₁
-    first-ended = ends-ended (runOf c ops) ops c e ts₁ m₂ cs₁ ends
+    pub first-ended : Ended e ts₁ cs₁ ks₁
+    first-ended = ends-ended (runOf c ops) ops c e ts₁ m₂ cs₁ ks₁ ends
 
-    pub run-gives : Beyond (s .stated) ts ts₁ → (r : Unpacked) → Answers ops e ts₁ cs₁ (unpackedAnswer r) → (ts′ : List ℕ)
+    pub run-gives : Beyond (s .stated) ts ts₁ → (r : Unpacked) → Answers ops e ts₁ cs₁ ks₁ (unpackedAnswer r) → (ts′ : List ℕ)
         → ts′ ≡ tidied r (3 * c .triangles) ts₁ → (m′ : List ℕ) → m′ ≡ zeroed recordNumbers m₂ → RunGives c ops ts r ts′ m′
     run-gives b r a ts′ et m′ ez = record {
-      answer = λ n. run-answer c ops ts n (runOf c ops) r e ts₁ m₂ cs₁ ends a;
+      answer = λ n. run-answer c ops ts n (runOf c ops) r e ts₁ m₂ cs₁ ks₁ ends a;
       triangles = λ n.
           et
-          ∙ run-triangles c ops ts n (runOf c ops) r e ts₁ m₂ cs₁ ends (subst (λ (d : Counts). Beyond d ts ts₁) (ap (λ (x : Front). x .stated) es) b) a;
+          ∙ run-triangles c ops ts n (runOf c ops) r e ts₁ m₂ cs₁ ks₁ ends (subst (λ (d : Counts). Beyond d ts ts₁) (ap (λ (x : Front). x .stated) es) b) a;
       memory = cleared-take recordNumbers m₂ m′ ez;
     }
 

@@ -1,4 +1,5 @@
 pub mod Turn
+pub mod Met
 pub mod Runs
 pub mod Rule
 pub mod Lent

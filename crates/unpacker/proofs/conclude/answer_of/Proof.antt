@@ -15,13 +15,13 @@ refusal-of-requires : tie.Need-refusal-of-requires
 refusal-of-requires c κs = search needs
 
 returns : tie.Need-returns
-returns c = answers-refused _ _ _ _ _ _ (c .before .enum-told .given .1) (c .refusal-of .ensures)
+returns c = answers-refused _ _ _ _ _ _ _ (c .before .enum-told .given .1) (c .refusal-of .ensures)
 
 conclude-requires : tie.Need-conclude-requires
-conclude-requires c κs = ended-whole (c .before .before .before .before .before .args .e) _ _ _ _ (c .before .e .given .1) (c .before .before .before .before .before .pre)
+conclude-requires c κs = ended-whole (c .before .before .before .before .before .args .e) _ _ _ _ _ (c .before .e .given .1) (c .before .before .before .before .before .pre)
 
 returns-2 : tie.Need-returns-2
-returns-2 c = answers-whole _ _ _ _ _ _ _ (c .before .before .e .given .1) (c .conclude .ensures)
+returns-2 c = answers-whole _ _ _ _ _ _ _ _ (c .before .before .e .given .1) (c .conclude .ensures)
 
 pub answer-of-spec : {M : Type 1} → statement M
 answer-of-spec =

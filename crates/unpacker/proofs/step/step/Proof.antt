@@ -19,7 +19,7 @@ enum-told c = search needs
 returns : tie.Need-returns
 returns c =
     let a = c .before .before .before .before .before .before in
-    (step-broken (a .args .ops .now) (a .args .at) (a .args .s) (a .args .triangles .now) (a .args .m .now) (a .args .chains .now) (read-broken (a .args .ops .now) (a .args .at) _ (a .pre .1) (c .before .before .read-operation .ensures .0) (c .enum-told .given .1)), refl)
+    (step-broken (a .args .ops .now) (a .args .at) (a .args .s) (a .args .triangles .now) (a .args .m .now) (a .args .chains .now) (a .args .met .now) (read-broken (a .args .ops .now) (a .args .at) _ (a .pre .1) (c .before .before .read-operation .ensures .0) (c .enum-told .given .1)), refl)
 
 operate-requires : tie.Need-operate-requires
 operate-requires c κs = search needs
@@ -32,11 +32,11 @@ same-length-2 c = search needs
 
 returns-2 : tie.Need-returns-2
 returns-2 c =
-    let a = c .before .before .before .before .before .before .before .before .before .before .before .before .before .before .before in
+    let a = c .before .before .before .before .before .before .before .before .before .before .before .before .before .before .before .before in
     let k = c .before .before .before .before .operate in
-    let q = c .before .before .before .before .before .before .before .before .before .read .given in (
-      step-read (a .args .ops .now) (a .args .at) (a .args .s) (a .args .triangles .now) (a .args .m .now) (a .args .chains .now) (q .0 .0) (q .0 .1 .0) (k .result) _ _ _
-          (read-found (a .args .ops .now) (a .args .at) _ (q .0 .0) (q .0 .1 .0) (c .before .before .before .before .before .before .before .before .before .before .before .read-operation .ensures .1) (q .1)) (k .ensures .0),
+    let q = c .before .before .before .before .before .before .before .before .before .before .read .given in (
+      step-read (a .args .ops .now) (a .args .at) (a .args .s) (a .args .triangles .now) (a .args .m .now) (a .args .chains .now) (a .args .met .now) (q .0 .0) (q .0 .1 .0) (k .result) _ _ _ _
+          (read-found (a .args .ops .now) (a .args .at) _ (q .0 .0) (q .0 .1 .0) (c .before .before .before .before .before .before .before .before .before .before .before .before .read-operation .ensures .1) (q .1)) (k .ensures .0),
       k .ensures .1,
     )
 
