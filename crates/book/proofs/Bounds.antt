@@ -18,25 +18,10 @@ use Rattle.rules.specs.Machine.{Machine, freshSides, afterBuild, afterMark, Ste
 use Rattle.rules.specs.Book.{Book, emptyBook, entered}
 use Rattle.book.specs.Sums.{loopsSum}
 use Rattle.book.specs.Consistent.{Consistent, Ranges}
+use Rattle.book.specs.Bounded.{opens, Bounded}
 use Rattle.book.proofs.Counting.{and-left, and-right, ifFresh}
 use Rattle.book.proofs.Kept.{test-law}
 use Rattle.book.proofs.Effects.{Law, sound-current, effect-law}
-
--- the open edges of the loops
-abbrev opens : List Ring → ℕ
-opens ls = loopsSum (λ x y o. num o) ls
-
--- bounds that each operation keeps; those of 21 follow
-pub record Bounded (b : Book) : Type 0 where
-  pub stated : inRange (b .machine .stated) ≡ true
-  pub counts : within (b .machine) ≡ true
-  pub places : b .machine .mostPlaces ≤ b .machine .stated .places
-  pub loops : b .machine .mostLoops ≤ b .machine .stated .loops
-  pub edges : b .machine .edges ≤ 3 * length (b .machine .triangles)
-  pub starts : b .machine .starts ≤ length (b .machine .triangles)
-  pub unions : b .machine .unions ≤ length (b .machine .triangles)
-  pub rims : b .machine .rims ≤ length (b .borders)
-  pub borders : opens (b .machine .loops) + length (b .borders) ≤ 3 * length (b .machine .triangles)
 
 record Within (m : Machine) : Type 0 where
   vertices : m .used ≤ m .stated .vertices

@@ -10,7 +10,8 @@ use Rattle.rules.specs.Book.{Call, begin, operate, end, Book, recounted, emptyB
 use Rattle.book.specs.Consistent.{Consistent}
 use Rattle.book.specs.Reached.{reached}
 use Rattle.book.proofs.Kept.{test-law, kept, empty-consistent}
-use Rattle.book.proofs.Bounds.{Bounded, bounded-kept, empty-bounded}
+use Rattle.book.specs.Bounded.{Bounded}
+use Rattle.book.proofs.Bounds.{bounded-kept, empty-bounded}
 
 -- a beginning that is accepted
 pub record Begun (s : Counts) (x : Step) : Type 0 where

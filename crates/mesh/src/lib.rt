@@ -395,7 +395,7 @@ fn all_below(v: usize, list: &[u16]) -> bool
 }
 
 // Whether a triangle has three different vertices.
-fn is_distinct(p: u16, q: u16, r: u16) -> bool
+pub fn is_distinct(p: u16, q: u16, r: u16) -> bool
     ensures { λ b. ⌜ b ≡ distinct (tri p q r) ⌝ }
 {
     if p == q {

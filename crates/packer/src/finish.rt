@@ -1,6 +1,6 @@
 // The end of a packing: 11, the header, and the answer.
-use crate::buffers::clear;
-use crate::buffers::clear_bytes;
+use buffers::clear;
+use buffers::clear_bytes;
 use packing::Course;
 use packing::Ran;
 use rules::Counts;

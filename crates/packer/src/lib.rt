@@ -1,17 +1,17 @@
 // Packing: the packer chooses one operation after the other, does each on the cut-border, whose vertices are the list's own numbers,
 // and writes it. What the contracts cite stands in the crate packing.
-mod buffers; // what the buffers begin and end with
 mod choose; // what is taken at the current edge
 mod finish; // 11, and the answer
 mod operate; // an operation on the loops
 mod start; // the lowest triangle left
 pub mod step; // one step, and the run of them
 
-use crate::buffers::clear;
-use crate::buffers::forget;
+use crate::choose::UNNUMBERED;
 use crate::finish::finish;
 use crate::step::run;
 use border::begin;
+use buffers::clear;
+use buffers::fill;
 use mesh::CORNERS;
 use mesh::Links;
 use mesh::VERTICES;
@@ -63,7 +63,7 @@ fn pack_accepted(
     let k = list.len() / 3;
     let mut built = [0u8; 8192];
     let front = begin(m, PLACES, stated_for(v, k));
-    forget(numbering, v);
+    fill(numbering, v, UNNUMBERED);
     let start = Course {
         front,
         given: 0,

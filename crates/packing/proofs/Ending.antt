@@ -48,7 +48,7 @@ use Rattle.packing.proofs.Numbers.{entries-length, entries-none, entrie
 use Rattle.packing.proofs.Flags.{unbuilt-all}
 use Rattle.packing.proofs.Writing.{pack-length, pack-written}
 use Rattle.packing.proofs.Stepping.{holds-beyond}
-use Rattle.packing.proofs.Ways.{filled-take}
+use Rattle.buffers.proofs.Filling.{filled-take}
 
 -- ---- the beginning
 

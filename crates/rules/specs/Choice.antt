@@ -86,7 +86,7 @@ following k i = elim (eqb (i + 1) k) [ true ↦ 0 | false ↦ i + 1 ]
 
 -- The place of c from whose open edges the triangle b a c is reached by turning about c, through the triangles ts: turning back
 -- from the triangle ends at that edge. An edge that comes into c ends at its place, one that leaves c starts there. In an
--- accepted list one of the two is found, so that the last branch is never met (`accepted-packs`, crate gap).
+-- accepted list one of the two is found, so that the last branch is never met (`one-place-is-right`, crate roundtrip).
 unfoldable pub choosePlace : ℕ → ℕ → ℕ → List Triangle → List Ring → Operation
 choosePlace a b c ts ls =
     let k = sizeOf ls 0 in
@@ -122,7 +122,7 @@ limited o s =
       | false ↦ refuses 9
     ]
 
--- the table allows every operation that is chosen, so that the first line is never met (`accepted-packs`, crate gap)
+-- the table allows every operation that is chosen, so that the first line is never met (`one-place-is-right`, crate roundtrip)
 unfoldable pub taking : Operation → Packing → List Triangle → List ℕ → Effect → Next
 taking o s ts vs not-allowed = ended
 taking o s ts vs (builds ls t pq qr rp n k u) = limited o (packingAfter s ts vs ls)

@@ -1,17 +1,17 @@
 // Unpacking: a pack's operations are run on the cut-border, and the model is tested. What the contracts cite stands in the crate
 // unpacking.
-mod buffers; // what the buffers are left with
+mod tidy; // what the triangle buffer is left with
 mod common; // deciding and doing, new and forward at hand
 pub mod conclude; // 19, 20, and the answer
 mod meet; // the vertices that are met
 mod rule; // the edge rule
 pub mod step; // one operation, and the run of them
 
-use crate::buffers::clear;
-use crate::buffers::tidy;
 use crate::conclude::answer_of;
 use crate::step::run;
+use crate::tidy::tidy;
 use border::begin;
+use buffers::clear;
 use mesh::CORNERS;
 use mesh::VERTICES;
 use rules::Builder;

@@ -1,11 +1,10 @@
 // The edge rule (18), by look-ups in the corner chains: a side that glues nothing joins two vertices that no triangle joins yet.
 use memory::Plan;
 use mesh::Links;
+use mesh::is_distinct;
 use mesh::is_unjoined;
 use rules::Operation;
-use rules::Triangle;
 ghost use mathlib.Core.Path.{_≡_};
-ghost use Rattle.rules.specs.Triangle.{distinct};
 ghost use Rattle.unpacking.specs.Rule.{isTested, SideIs, PlanIs, RuleIs};
 
 // Whether a side x→y of a plan passes: it glues an edge (0), or joins what is not joined.
@@ -18,25 +17,12 @@ fn is_side(list: &[u16], chains: &Links, side: u16, x: u16, y: u16) -> bool
     is_unjoined(list, chains, x, y)
 }
 
-// Whether a triangle's vertices differ.
-fn is_distinct(t: Triangle) -> bool
-    ensures { λ b. ⌜ b ≡ distinct t ⌝ }
-{
-    if t.p == t.q {
-        return false;
-    }
-    if t.q == t.r {
-        return false;
-    }
-    t.r != t.p
-}
-
 // Whether the edge rule holds of a plan.
 fn is_plan(list: &[u16], chains: &Links, p: Plan) -> bool
     ensures { λ b. ⌜ PlanIs (now (list .entry)) (now (chains .entry)) p b ⌝ }
 {
     let t = p.triangle;
-    if !is_distinct(t) {
+    if !is_distinct(t.p, t.q, t.r) {
         return false;
     }
     if !is_side(list, chains, p.pq, t.p, t.q) {

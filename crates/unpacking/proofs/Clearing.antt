@@ -1,14 +1,11 @@
--- The loop that makes numbers zero, and the tests of a state: laws for the code.
+-- What the triangle buffer is left with, and the tests of a state: laws for the code.
 -- Assumes nothing.
-use Prim.Native.Nat.{ℕ, zero, suc, _+_, _*_, _≤_, _<_}
+use Prim.Native.Nat.{ℕ}
 use native.Mathlib.Omega.{arith}
-use mathlib.Core.Bool.{Bool, true, false, _&&_, not}
-use mathlib.Core.List.{List, [], _∷_, _++_}
-use mathlib.Core.Path.{_≡_, refl, sym, ap, ap₂, _∙_, subst}
-use lib.ListN.{length, take, drop, set, replicate, length-set, length-replicate}
-use lib.Seq.{take-at}
+use mathlib.Core.Bool.{Bool, true, false, _&&_}
+use mathlib.Core.List.{List}
+use mathlib.Core.Path.{_≡_, sym, ap, ap₂, _∙_}
 use lib.Dec.{eqb}
-use borrow.Author.Fill.{fill-none, fill-more}
 use borrow.Author.Tests.{eq-eqb, ne-eqb}
 use Rattle.rules.specs.declared.Unpacked.{Unpacked}
 use Rattle.rules.specs.declared.Unpacked.the-variants as U
@@ -18,31 +15,6 @@ use Rattle.memory.specs.declared.Front.{Front}
 use Rattle.unpacking.specs.declared.Stepped.{Stepped}
 use Rattle.unpacking.specs.declared.Stepped.the-variants.{Going, Refused}
 use Rattle.unpacking.specs.Runs.{isComplete, isAsStated, tidied}
-
--- i numbers are zero
-pub record Clearing (xs₀ xs : List ℕ) (n i : ℕ) : Type 0 where
-  pub upto : i ≤ n
-  pub enough : n ≤ length xs₀
-  pub long : length xs ≡ length xs₀
-  pub holds : xs ≡ zeroed i xs₀
-
-pub clearing-start : (xs : List ℕ) (n : ℕ) → n ≤ length xs → Clearing xs xs n 0
-clearing-start xs n h = record { upto = omega arith; enough = h; long = refl; holds = fill-none xs 0 }
-
-pub clearing-more : (xs₀ xs : List ℕ) (n i : ℕ) → Clearing xs₀ xs n i → i < n → Clearing xs₀ (set xs i 0) n (i + 1)
-clearing-more xs₀ xs n i c l = record {
-  upto = omega arith;
-  enough = c .enough;
-  long = length-set xs i 0 ∙ c .long;
-  holds = ap (λ (ys : List ℕ). set ys i 0) (c .holds) ∙ fill-more i 0 xs₀ (omega (arith, c .enough));
-}
-
-pub clearing-done : (xs₀ xs : List ℕ) (n i : ℕ) → Clearing xs₀ xs n i → n ≤ i → xs ≡ zeroed n xs₀
-clearing-done xs₀ xs n i c l = let e : i ≡ n = omega (arith, c .upto) in c .holds ∙ ap (λ (k : ℕ). zeroed k xs₀) e
-
--- the numbers that are zero then
-pub cleared-take : (n : ℕ) (xs ys : List ℕ) → ys ≡ zeroed n xs → take n ys ≡ replicate n 0
-cleared-take n xs ys e = ap (take n) e ∙ take-at (replicate n 0) (drop n xs) n (length-replicate n 0)
 
 -- after an answer, and after a refusal
 pub tidied-model : (r : Unpacked) (n : ℕ) (ts : List ℕ) (x : _) → r ≡ U.Model x → ts ≡ tidied r n ts

@@ -24,7 +24,8 @@ use Rattle.rules.specs.Unpack.{numbersOf}
 use Rattle.book.specs.Consistent.{Consistent, Ranges}
 use Rattle.book.proofs.Counting.{and-left, and-right}
 use Rattle.book.proofs.Kept.{test-law, kept}
-use Rattle.book.proofs.Bounds.{Bounded, bounded-ranges, bounded-kept}
+use Rattle.book.specs.Bounded.{Bounded}
+use Rattle.book.proofs.Bounds.{bounded-ranges, bounded-kept}
 use Rattle.book.proofs.EdgeRule.{Simple, refusalOf, never-18}
 use Rattle.fans.proofs.Counting.{same-yes}
 use Rattle.chains.specs.Corner.{firstTriangles}

@@ -26,7 +26,7 @@ use Rattle.unpacking.specs.Runs.{Runs, Held, Beyond, Ends, RunOf, Ended,
 use Rattle.unpacking.specs.Lent.{lent, unpackOn, isPast, recordNumbers, ClearedIf, UnpackedOn, Fitting, RunGives}
 use Rattle.unpacking.proofs.Starting.{starts-empty}
 use Rattle.unpacking.proofs.Looping.{ends-ended}
-use Rattle.unpacking.proofs.Clearing.{cleared-take}
+use Rattle.buffers.proofs.Filling.{filled-take}
 use Rattle.unpacking.proofs.Lending.{short-is, short-past, roomy-is, roomy-past, run-answer, run-triangles}
 
 -- the first state, as the code makes it
@@ -57,7 +57,7 @@ module _ (c : Counts) (ops ts m : List ℕ) (f : Fitting c ops ts m) (s : Front)
       triangles = λ n.
           et
           ∙ run-triangles c ops ts n (runOf c ops) r e ts₁ m₂ cs₁ ks₁ ends (subst (λ (d : Counts). Beyond d ts ts₁) (ap (λ (x : Front). x .stated) es) b) a;
-      memory = cleared-take recordNumbers m₂ m′ ez;
+      memory = filled-take recordNumbers m₂ m′ ez;
     }
 
 -- an unpacking that is turned down changes nothing

@@ -23,7 +23,7 @@ use Rattle.rules.specs.declared.Unpacked.{Unpacked}
 use Rattle.rules.specs.declared.Unpacked.the-variants as U
 use Rattle.rules.specs.Unpack.{Ran, stopped, completed, runAll, numbersOf, restFits}
 use Rattle.book.specs.Consistent.{Consistent}
-use Rattle.book.proofs.Bounds.{Bounded}
+use Rattle.book.specs.Bounded.{Bounded}
 use Rattle.chains.specs.Chains.{Chains}
 use Rattle.onefan.specs.Fanned.{Fanned}
 use Rattle.memory.specs.declared.Front.{Front}

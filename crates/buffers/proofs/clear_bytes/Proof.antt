@@ -1,11 +1,11 @@
--- `packer::buffers::clear_bytes` meets its contract: the loop keeps the bytes passed zero.
+-- `buffers::clear_bytes` meets its contract: the loop keeps the bytes passed zero.
 -- Assumes nothing.
 use Prim.Native.Nat.{_-_}
 use native.Mathlib.Omega.{arith}
 use borrow.Author.Needs.{needs}
-use Rattle.packing.proofs.Ways.{Filling, filling-start, filling-more, filling-done}
-use Rattle.packer.proofs.buffers.clear_bytes.Statement.{statement}
-use Rattle.packer.proofs.buffers.clear_bytes.Tie as tie
+use Rattle.buffers.proofs.Filling.{Filling, filling-start, filling-more, filling-done}
+use Rattle.buffers.proofs.clear_bytes.Statement.{statement}
+use Rattle.buffers.proofs.clear_bytes.Tie as tie
 
 abbrev Inv-loop : tie.InvT-loop
 Inv-loop xs₀ n i₀ xs i = Filling 0 xs₀ xs n i

@@ -1,19 +1,19 @@
--- `unpacker::buffers::clear` meets its contract: the loop keeps the numbers passed zero.
+-- `buffers::fill` meets its contract: the loop keeps the numbers passed filled.
 -- Assumes nothing.
 use Prim.Native.Nat.{_-_}
 use borrow.Author.Needs.{needs}
-use Rattle.unpacking.proofs.Clearing.{Clearing, clearing-start, clearing-more, clearing-done}
-use Rattle.unpacker.proofs.buffers.clear.Statement.{statement}
-use Rattle.unpacker.proofs.buffers.clear.Tie as tie
+use Rattle.buffers.proofs.Filling.{Filling, filling-start, filling-more, filling-done}
+use Rattle.buffers.proofs.fill.Statement.{statement}
+use Rattle.buffers.proofs.fill.Tie as tie
 
 abbrev Inv-loop : tie.InvT-loop
-Inv-loop xs₀ n i₀ xs i = Clearing xs₀ xs n i
+Inv-loop xs₀ n x i₀ xs i = Filling x xs₀ xs n i
 
 abbrev μ-loop : tie.MeasureT-loop
-μ-loop xs₀ n i₀ xs i = n - i
+μ-loop xs₀ n x i₀ xs i = n - i
 
 loop-holds : tie.Need-loop-holds Inv-loop μ-loop
-loop-holds c = clearing-start _ _ (c .pre)
+loop-holds c = filling-start _ _ _ (c .pre)
 
 mul-xs : tie.Need-mul-xs Inv-loop μ-loop
 mul-xs c = search needs
@@ -28,16 +28,16 @@ loop-less : tie.Need-loop-less Inv-loop μ-loop
 loop-less c = search needs
 
 loop-again : tie.Need-loop-again Inv-loop μ-loop
-loop-again c = clearing-more _ _ _ _ (c .before .loop .inv) (c .loop-test .taken)
+loop-again c = filling-more _ _ _ _ _ (c .before .loop .inv) (c .loop-test .taken)
 
 same-length : tie.Need-same-length Inv-loop μ-loop
 same-length c = search needs
 
 returns : tie.Need-returns Inv-loop μ-loop
-returns c = clearing-done _ _ _ _ (c .before .loop .inv) (c .loop-test .left)
+returns c = filling-done _ _ _ _ _ (c .before .loop .inv) (c .loop-test .left)
 
-pub clear-spec : {M : Type 1} → statement M
-clear-spec =
+pub fill-spec : {M : Type 1} → statement M
+fill-spec =
     tie.close
     (tie.spec
     Inv-loop

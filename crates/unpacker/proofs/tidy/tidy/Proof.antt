@@ -1,9 +1,9 @@
--- `unpacker::buffers::tidy` meets its contract: a refusal clears, an answer does not.
+-- `unpacker::tidy::tidy` meets its contract: a refusal clears, an answer does not.
 -- Assumes nothing.
 use borrow.Author.Needs.{needs}
 use Rattle.unpacking.proofs.Clearing.{tidied-refusal}
-use Rattle.unpacker.proofs.buffers.tidy.Statement.{statement}
-use Rattle.unpacker.proofs.buffers.tidy.Tie as tie
+use Rattle.unpacker.proofs.tidy.tidy.Statement.{statement}
+use Rattle.unpacker.proofs.tidy.tidy.Tie as tie
 
 enum-told : tie.Need-enum-told
 enum-told c = search needs
