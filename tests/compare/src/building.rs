@@ -1,6 +1,6 @@
 //! The building calls compared with the builder's book of the second program.
 
-use crate::{count, met, Tally};
+use crate::{count, met, words, Tally};
 use compare::{Building, RECORDS};
 use cutborder::book::Book;
 use cutborder::gen;
@@ -21,19 +21,7 @@ fn parsed(line: &str) -> (Call, Option<(usize, usize)>) {
     match w[0] {
         "begin" => (Call::Begin(Counts { v: n(1), t: n(2), places: n(3), loops: n(4) }), Some((n(5) as usize, n(6) as usize))),
         "finish" => (Call::Finish, None),
-        _ => {
-            let op = match w[1] {
-                "new" => Op::New,
-                "forward" => Op::Forward,
-                "backward" => Op::Backward,
-                "border" => Op::Border,
-                "close" => Op::Close,
-                "start" => Op::Start,
-                "split" => Op::Split(n(2)),
-                _ => Op::Union(n(2), n(3)),
-            };
-            (Call::Operate(op), None)
-        }
+        _ => (Call::Operate(words::operation(&w)), None),
     }
 }
 

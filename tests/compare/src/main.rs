@@ -3,6 +3,8 @@
 //! Prints a line for each part; stops at the first difference with the input that shows it.
 
 mod building;
+#[path = "../../words.rs"]
+mod words;
 
 use compare::{check, fields, pack, read, read_in_pack, unpack, write, MEMORY, RECORDS};
 use cutborder::gen::{self, Model};

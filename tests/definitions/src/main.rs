@@ -12,6 +12,8 @@ mod edit;
 mod prelude;
 mod second;
 mod table;
+#[path = "../../words.rs"]
+mod words;
 
 fn main() {
     let args: Vec<String> = std::env::args().skip(1).collect();

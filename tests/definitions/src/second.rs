@@ -1,7 +1,8 @@
 //! Calls of the second program, with all that goes in and comes out.
 
+use crate::words;
 use cutborder::book::Book;
-use cutborder::ops::{encode_ops, pack_bytes, Counts, Op};
+use cutborder::ops::{encode_ops, pack_bytes, Counts};
 use cutborder::proto::Calls;
 use cutborder::{plain, Answer, Place, Refusal};
 
@@ -126,17 +127,7 @@ fn after(mut book: Book, call: &str) -> Book {
         return Book::empty(Counts { v: n(1), t: n(2), places: n(3), loops: n(4) });
     }
     if w[0] == "op" {
-        let op = match w[1] {
-            "new" => Op::New,
-            "forward" => Op::Forward,
-            "backward" => Op::Backward,
-            "border" => Op::Border,
-            "close" => Op::Close,
-            "start" => Op::Start,
-            "split" => Op::Split(n(2)),
-            _ => Op::Union(n(2), n(3)),
-        };
-        book.op(op).expect("an accepted operation");
+        book.op(words::operation(&w)).expect("an accepted operation");
     }
     book
 }
