@@ -2,10 +2,12 @@
 //!
 //! Nanoseconds a triangle, the median over many calls; buffers are reused and not cleared between calls.
 
+use compare::expected::{self, LEVEL};
 use cutborder::fast::{Packer, Unpacker};
 use cutborder::gen::{self, Model};
+use cutborder::plain::{choose_at, Trace};
 use cutborder::rng::Rng;
-use cutborder::Place;
+use cutborder::{Level, Place};
 use std::hint::black_box;
 use std::time::Instant;
 
@@ -25,7 +27,39 @@ fn models() -> Vec<(String, Model)> {
     for n in [8, 16, 32] {
         out.push((format!("torus {}", 2 * n * n), Model::of(&gen::grid(n, n, true, true, || true))));
     }
+    for (name, m) in filigree() {
+        let shuffled = gen::relist(&mut rng, &m);
+        out.push((name.into(), m));
+        out.push((format!("{name} shuffled"), shuffled));
+    }
     out
+}
+
+/// Flat models with long rims or many of them.
+fn filigree() -> Vec<(&'static str, Model)> {
+    let flat = |w: usize, h: usize| gen::grid(w, h, false, false, || true);
+    // Squares left out, as told by their column and row.
+    let pierced = |w: usize, h: usize, out: &dyn Fn(usize, usize) -> bool| {
+        let squares = flat(w, h);
+        let left: Vec<gen::Tri> = squares.chunks(2).enumerate().filter(|(n, _)| !out(n % w, n / w)).flat_map(|(_, s)| s.to_vec()).collect();
+        gen::fan_split(&left)
+    };
+    let mut rng = Rng::new(7);
+    let mut sieve = flat(50, 50);
+    sieve.retain(|_| rng.below(100) >= 30);
+    vec![
+        ("strip", Model::of(&flat(1_500, 1))),
+        ("band", Model::of(&flat(1_000, 3))),
+        ("lace", pierced(1_000, 3, &|x, y| x % 2 == 1 && y == 1)),
+        ("holes", pierced(63, 63, &|x, y| x % 3 == 1 && y % 3 == 1)),
+        ("sieve", gen::fan_split(&sieve)),
+    ]
+}
+
+/// The most places that packing takes, were there no limits.
+fn most_places(level: Level, m: &Model) -> u32 {
+    let chosen = choose_at(level, m.v as u32, &m.list, &mut Trace::default(), u32::MAX, u32::MAX);
+    chosen.map_or(0, |c| c.book.peak_places)
 }
 
 /// Nanoseconds of one call of each of two functions: medians, the calls of the two in turn.
@@ -52,7 +86,11 @@ fn main() {
     let repeats = std::env::args().nth(1).and_then(|a| a.parse().ok()).unwrap_or(500);
     println!("nanoseconds a triangle, median of {repeats} calls, ours and the second program's fast engine, and their ratio");
     println!("check: refusals 1 to 7 here, linking with 1 to 6 there");
-    println!("{:<16} {:>6} {:>6}  {:>8} {:>8} {:>6}  {:>8} {:>8} {:>6}  {:>8} {:>8} {:>6}", "model", "V", "T", "check", "link", "ratio", "unpack", "unpack", "ratio", "pack", "pack", "ratio");
+    println!("places: the peak of shortened loops, and that of full loops before; over 1,024 of them was refusal 9");
+    println!(
+        "{:<16} {:>6} {:>6}  {:>8} {:>8} {:>6}  {:>8} {:>8} {:>6}  {:>8} {:>8} {:>6}  {:>6} {:>6}",
+        "model", "V", "T", "check", "link", "ratio", "unpack", "unpack", "ratio", "pack", "pack", "ratio", "places", "before"
+    );
     let mut packer = Packer::new();
     for (name, m) in models() {
         let t = (m.list.len() / 3) as f64;
@@ -67,13 +105,14 @@ fn main() {
         let (ours, theirs) = unpackings(&m, repeats);
         print!("  {:>8.1} {:>8.1} {:>6.2}", ours / t, theirs / t, ours / theirs);
         let (ours, theirs) = packings(&m, repeats);
-        println!("  {:>8.1} {:>8.1} {:>6.2}", ours / t, theirs / t, ours / theirs);
+        print!("  {:>8.1} {:>8.1} {:>6.2}", ours / t, theirs / t, ours / theirs);
+        println!("  {:>6} {:>6}", most_places(LEVEL, &m), most_places(Level::BASE, &m));
     }
 }
 
 /// Unpacking the model's pack.
 fn unpackings(m: &Model, repeats: usize) -> (f64, f64) {
-    let pack = gen::packed(m).expect("a pack");
+    let pack = expected::packed(m).expect("a pack");
     let (mut triangles, mut expected) = (vec![0u16; m.list.len()], vec![0u16; m.list.len()]);
     let mut memory = [0u16; compare::MEMORY];
     let mut places = vec![Place::default(); 1_024];
@@ -84,7 +123,7 @@ fn unpackings(m: &Model, repeats: usize) -> (f64, f64) {
             black_box(compare::unpack(black_box(&pack), &mut triangles, &mut memory, 1_024)).expect("an accepted pack");
         },
         || {
-            black_box(unpacker.unpack(black_box(&pack), &mut expected, &mut places)).expect("an accepted pack");
+            black_box(unpacker.unpack_at(LEVEL, black_box(&pack), &mut expected, &mut places)).expect("an accepted pack");
         },
     )
 }
@@ -103,7 +142,7 @@ fn packings(m: &Model, repeats: usize) -> (f64, f64) {
             black_box(compare::pack(v, black_box(&m.list), &mut numbering, &mut room, &mut memory, 1_024)).expect("an accepted list");
         },
         || {
-            black_box(packer.pack(m.v, black_box(&m.list), &mut expected, &mut places, &mut expected_room)).expect("an accepted list");
+            black_box(packer.pack_at(LEVEL, m.v, black_box(&m.list), &mut expected, &mut places, &mut expected_room)).expect("an accepted list");
         },
     )
 }

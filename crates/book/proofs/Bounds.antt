@@ -93,7 +93,7 @@ bounded-by b c (marks ls d rim) l =
     test-law (λ (x : Step). Bounded (entered b x)) (within m) _ _ c
     (λ e.
     let w = within-each m e in
-    let o = l .sums (λ x y o. num o) in
+    let o = l .sums (λ x y o. num o) (λ x y. refl) in
     record {
       stated = c .stated;
       counts = e;
@@ -103,7 +103,7 @@ bounded-by b c (marks ls d rim) l =
       starts = c .starts;
       unions = c .unions;
       rims = omega (arith, c .rims, l .small);
-      borders = omega (arith, c .borders, o .total);
+      borders = omega (arith, c .borders, o);
     })
 
 pub bounded-kept : (b : Book) → Consistent b → Bounded b → (o : Operation) → Bounded (entered b (operation (b .machine) o))

@@ -13,7 +13,7 @@ use Rattle.rules.specs.declared.Operation.{Operation}
 use Rattle.rules.specs.declared.Operation.the-variants.{New, Forward, Backward, Border, Split, Close, Union, Start}
 use Rattle.rules.specs.Triangle.{tri, Edge, corners, edgesOf}
 use Rattle.rules.specs.Count.{occurs, uses, unjoined}
-use Rattle.rules.specs.Ring.{Node, opened, marked, Ring, vertex, allOpen, vertexAt, onward}
+use Rattle.rules.specs.Ring.{Node, opened, marked, Ring, vertex, allOpen, vertexAt, onward, shown}
 use Rattle.rules.specs.Table.{glued, Effect, not-allowed, builds, marks, allowed, marking, atEdge, atRest, effect, edgeRule}
 use Rattle.rules.specs.Machine.{Step, refused, begun, built, declared, finished, test, done, operation}
 use Rattle.rules.specs.Book.{Book}
@@ -144,7 +144,7 @@ module _ (b : Book) (k : Consistent b) where
   unfolding atEdge
   rule-at-edge New h a f ps ws l = rule-new a f ps ws l
   rule-at-edge Close h a f ps ws l = rule-close a f ps ws l
-  rule-at-edge Border h a f ps ws l = rule-marking (onward [] (f ∷ (ps ++ (marked a ∷ [])))) ws (record { from = a; to = vertex f })
+  rule-at-edge Border h a f ps ws l = rule-marking (shown (onward [] (f ∷ (ps ++ (marked a ∷ []))))) ws (record { from = a; to = vertex f })
   rule-at-edge Start h a f ps ws l = tt
   rule-at-edge Forward h a f ps ws l = absurd h
   rule-at-edge Backward h a f ps ws l = absurd h

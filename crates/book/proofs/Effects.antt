@@ -2,7 +2,7 @@
 -- Assumes nothing.
 use Prim.Native.Nat.{ℕ, zero, suc, _+_, _-_, _*_, _≤_, _<_}
 use native.Mathlib.Omega.{arith}
-use mathlib.Core.Bool.{Bool, true, false, _&&_, false≢true}
+use mathlib.Core.Bool.{Bool, true, false, _&&_, not, false≢true}
 use mathlib.Core.List.{List, [], _∷_, _++_}
 use mathlib.Core.Path.{_≡_, refl, sym, ap, _∙_, subst}
 use lib.ListN.{length, take, drop, take-append-drop, length-append, length-take, length-drop}
@@ -12,13 +12,16 @@ use Rattle.rules.specs.declared.Triangle.{Triangle}
 use Rattle.rules.specs.declared.Operation.{Operation}
 use Rattle.rules.specs.declared.Operation.the-variants.{New, Forward, Backward, Border, Split, Close, Union, Start}
 use Rattle.rules.specs.Triangle.{tri, Edge, edge}
-use Rattle.rules.specs.Ring.{Node, opened, marked, Ring, vertex, isOpen, firstOpen, allOpen, startOr, vertexAt, lastOpen, lastVertex, front, onward, loopAt, without}
+use Rattle.rules.specs.Ring.{Node, opened, marked, Ring, vertex, isOpen, firstOpen, allOpen, startOr, vertexAt, lastOpen, lastVertex, front, onward, reached, shown, loopAt, without}
 use Rattle.rules.specs.Table.{Side, glued, fresh, Effect, not-allowed, builds, marks, allowed, inOrder, marking, atEdge, atRest, effect}
 use Rattle.rules.specs.Machine.{freshSides}
+use Rattle.shown.specs.Spaced.{Spaced}
+use Rattle.shown.proofs.Spaced.{spaced-append, spaced-take, spaced-drop, spaced-front, spaced-turn, spaced-reached}
 use Rattle.book.specs.Sums.{Weight, pathSum, ringSum, loopsSum}
 use Rattle.book.specs.Consistent.{Sound, AllSound, AllCurrent}
 use Rattle.book.proofs.Counting.{and-left, and-right, ifFresh, ifGlued}
-use Rattle.book.proofs.Sums.{start-append, sum-append, sum-turn, front-last, length-front, start-drop, sum-without, length-without, Turned, turned}
+use Rattle.book.proofs.Sums.{start-append, sum-append, sum-turn, front-last, length-front, start-drop, sum-without, length-without, turned}
+use Rattle.book.proofs.ShownSums.{open-ring-sum, fewer-places}
 
 -- v is the vertex of a place of the loops: no sum over the places is less than what v counts
 abbrev pub At : List Ring → ℕ → Type 0
@@ -41,14 +44,10 @@ pub record Builds (u : ℕ) (before ls : List Ring) (t : Triangle) (pq qr rp : S
   pub lives : n + 1 + length ls + 2 * k ≡ length before + (freshSides pq + freshSides qr + freshSides rp) + 2 * s
   pub small : s + k ≤ 1
 
--- an edge is marked: it stops to weigh as an open one. If the loop ends, its marked edges are lost too
-pub record Marking (w : Weight) (before ls : List Ring) (d : Edge) : Type 0 where
-  pub lost : ℕ
-  pub total : loopsSum w ls + (w (d .from) (d .to) true + lost) ≡ loopsSum w before + w (d .from) (d .to) false
-  pub no-open : ((x y : ℕ) → w x y false ≡ 0) → lost ≡ 0
-
+-- an edge is marked: it stops to weigh as an open one. Places leave, and links are no edges: of the marked edges nothing is said
 pub record Marks (before ls : List Ring) (d : Edge) (rim : ℕ) : Type 0 where
-  pub sums : (w : Weight) → Marking w before ls d
+  pub sums : (w : Weight) → ((x y : ℕ) → w x y false ≡ 0) → loopsSum w ls + w (d .from) (d .to) true ≡ loopsSum w before
+  pub fewer : (g : ℕ → ℕ) → loopsSum (λ x y o. g x) ls ≤ loopsSum (λ x y o. g x) before
   pub current : AllCurrent ls
   pub sound : AllSound before → AllSound ls
   pub lives : length ls + rim ≡ length before
@@ -59,6 +58,14 @@ abbrev pub Law : ℕ → List Ring → Effect → Type 0
 Law u before not-allowed = Unit {0}
 Law u before (builds ls t pq qr rp n s k) = Builds u before ls t pq qr rp n s k
 Law u before (marks ls d rim) = Marks before ls d rim
+
+-- the range of a split's index
+pub split-low : (i k : ℕ) (x y : Bool) → leb 1 i && leb (i + 2) k && x && y ≡ true → 1 ≤ i
+split-low i k x y t = leb-true 1 i (and-left (leb 1 i) (leb (i + 2) k) (and-left (leb 1 i && leb (i + 2) k) x (and-left (leb 1 i && leb (i + 2) k && x) y t)))
+
+pub split-high : (i k : ℕ) (x y : Bool) → leb 1 i && leb (i + 2) k && x && y ≡ true → i + 2 ≤ k
+split-high i k x y t =
+    leb-true (i + 2) k (and-right (leb 1 i) (leb (i + 2) k) (and-left (leb 1 i && leb (i + 2) k) x (and-left (leb 1 i && leb (i + 2) k && x) y t)))
 
 allowed-law : (u : ℕ) (before : List Ring) (t : Bool) (c : Effect) → (t ≡ true → Law u before c) → Law u before (allowed t c)
 unfolding allowed
@@ -87,10 +94,11 @@ unfolding inOrder
 sound-order true l m ws x y z = (x, (y, z))
 sound-order false l m ws x y z = (y, (x, z))
 
-current-order : (t : Bool) (l m : Ring) (ws : List Ring) → firstOpen l ≡ true → firstOpen m ≡ true → AllCurrent ws → AllCurrent (inOrder t l m ws)
+current-order : (t : Bool) (l m : Ring) (ws : List Ring) → firstOpen l ≡ true → firstOpen m ≡ true → Spaced l false → Spaced m false → AllCurrent ws
+    → AllCurrent (inOrder t l m ws)
 unfolding inOrder
-current-order true l m ws x y z = (x, (y, z))
-current-order false l m ws x y z = (y, (x, z))
+current-order true l m ws x y i j z = (x, (y, z, j), i)
+current-order false l m ws x y i j z = (y, (x, z, i), j)
 
 sound-without : (ws : List Ring) (n : ℕ) → AllSound ws → AllSound (without ws n)
 unfolding without
@@ -102,11 +110,18 @@ current-without : (ws : List Ring) (n : ℕ) → AllCurrent ws → AllCurrent (w
 unfolding without
 current-without [] n h = tt
 current-without (l ∷ ws) zero h = h .1
-current-without (l ∷ ws) (suc n) h = (h .0, current-without ws n (h .1))
+current-without (l ∷ ws) (suc n) h = (h .0, current-without ws n (h .1), h .2)
 
 pub sound-current : (ls : List Ring) → AllSound ls → AllCurrent ls
 sound-current [] h = tt
-sound-current (l ∷ ls) h = (h .0 .current, sound-current ls (h .1))
+sound-current (l ∷ ls) h = (h .0 .current, sound-current ls (h .1), h .0 .spaced)
+
+-- a waiting loop
+pub current-at : (ws : List Ring) (n : ℕ) → n < length ws → AllCurrent ws → (firstOpen (loopAt ws n) ≡ true) × Spaced (loopAt ws n) false
+unfolding loopAt
+current-at [] n h c = absurd (omega arith)
+current-at (w ∷ ws) zero h c = (c .0, c .2)
+current-at (w ∷ ws) (suc n) h c = current-at ws n (omega arith) (c .1)
 
 -- a ring that is cut open at its place j
 pub spliced-start : (b : ℕ) (l : Ring) (j : ℕ) → j < length l → startOr b (drop j l ++ take j l) ≡ vertexAt l j
@@ -125,19 +140,40 @@ SoundOr (p ∷ ps) = Sound (p ∷ ps)
 
 abbrev CurrentOr : Ring → Type 0
 CurrentOr [] = Unit {0}
-CurrentOr (p ∷ ps) = isOpen p ≡ true
+CurrentOr (p ∷ ps) = (isOpen p ≡ true) × Spaced (p ∷ ps) false
 
-onward-sound : (back ps : List Node) → 3 ≤ length back + length ps → SoundOr (onward back ps)
+reached-some : (ps : List Node) → 1 ≤ length ps → 1 ≤ length (reached ps false)
+unfolding reached
+reached-some [] h = absurd (omega arith)
+reached-some (opened v ∷ ps) h = omega arith
+reached-some (marked v ∷ ps) h = omega arith
+
+onward-sound : (back ps : List Node) → 2 ≤ length back + length ps → SoundOr (shown (onward back ps))
 unfolding onward
 onward-sound back [] h = tt
-onward-sound back (opened v ∷ ps) h = record { long = simp length-append (omega arith); current = refl }
+onward-sound back (opened v ∷ ps) h =
+    let k : 1 ≤ length (reached (ps ++ back) false) = reached-some (ps ++ back) (simp length-append (omega arith)) in
+    record { long = omega (arith, k); current = refl; spaced = spaced-reached (ps ++ back) false }
 onward-sound back (marked v ∷ ps) h = onward-sound (back ++ (marked v ∷ [])) ps (simp length-append (omega arith))
 
-onward-current : (back ps : List Node) → CurrentOr (onward back ps)
+onward-current : (back ps : List Node) → CurrentOr (shown (onward back ps))
 unfolding onward
 onward-current back [] = tt
-onward-current back (opened v ∷ ps) = refl
+onward-current back (opened v ∷ ps) = (refl, spaced-reached (ps ++ back) false)
 onward-current back (marked v ∷ ps) = onward-current (back ++ (marked v ∷ [])) ps
+
+-- the open edges of the ring shown are the same ones, and its places no others
+onward-open : (w : Weight) → ((x y : ℕ) → w x y false ≡ 0) → (back ps : List Node) → ringSum w (shown (onward back ps)) ≡ ringSum w (onward back ps)
+unfolding onward
+onward-open w z back [] = refl
+onward-open w z back (opened v ∷ ps) = open-ring-sum w z v (ps ++ back)
+onward-open w z back (marked v ∷ ps) = onward-open w z (back ++ (marked v ∷ [])) ps
+
+pub onward-fewer : (g : ℕ → ℕ) (back ps : List Node) → ringSum (λ x y o. g x) (shown (onward back ps)) ≤ ringSum (λ x y o. g x) (onward back ps)
+unfolding onward ringSum pathSum
+onward-fewer g back [] = omega arith
+onward-fewer g back (opened v ∷ ps) = omega (arith, fewer-places g (ps ++ back) false v)
+onward-fewer g back (marked v ∷ ps) = onward-fewer g (back ++ (marked v ∷ [])) ps
 
 module _ (u a : ℕ) (ws : List Ring) (cw : AllCurrent ws) where
   at-a : (ps : List Node) → At ((opened a ∷ ps) ∷ ws) a
@@ -153,54 +189,57 @@ module _ (u a : ℕ) (ws : List Ring) (cw : AllCurrent ws) where
   unfolding loopsSum ringSum pathSum
   at-c ps i h g = omega (arith, at-path g ps i a h)
 
-  law-new : (ps : List Node) → Law u ((opened a ∷ ps) ∷ ws) (atEdge New u a ps ws)
+  law-new : (ps : List Node) → Spaced ps false → Law u ((opened a ∷ ps) ∷ ws) (atEdge New u a ps ws)
   unfolding atEdge loopsSum ringSum pathSum
-  law-new ps = record {
-    sums = λ w. omega (arith, sum-append w ps (opened a ∷ []) u, ap (λ (x : ℕ). w u x true) (start-append u ps (opened a ∷ [])));
-    current = (refl, cw);
-    sound = λ s. (record { long = simp length-append (omega (arith, s .0 .long)); current = refl }, s .1);
-    numbers = third (at-b ps) (at-a ps);
-    lives = omega arith;
-    small = omega arith;
-  }
+  law-new ps sp =
+      let sp′ : Spaced (ps ++ (opened a ∷ [])) false = spaced-append ps (opened a ∷ []) false sp tt in
+      record {
+        sums = λ w. omega (arith, sum-append w ps (opened a ∷ []) u, ap (λ (x : ℕ). w u x true) (start-append u ps (opened a ∷ [])));
+        current = (refl, cw, sp′);
+        sound = λ s. (record { long = simp length-append (omega (arith, s .0 .long)); current = refl; spaced = sp′ }, s .1);
+        numbers = third (at-b ps) (at-a ps);
+        lives = omega arith;
+        small = omega arith;
+      }
 
-  law-forward : (ps : List Node) → Law u ((opened a ∷ ps) ∷ ws) (atEdge Forward u a ps ws)
+  law-forward : (ps : List Node) → Spaced ps false → Law u ((opened a ∷ ps) ∷ ws) (atEdge Forward u a ps ws)
   unfolding allowed atEdge loopsSum ringSum pathSum vertexAt
-  law-forward [] = tt
-  law-forward (f ∷ []) = tt
-  law-forward (f ∷ (g ∷ [])) = tt
-  law-forward (marked b ∷ (g ∷ (h ∷ ps))) = rw (no-right (leb 4 (suc (length (marked b ∷ (g ∷ (h ∷ ps))))))) tt
+  law-forward [] sp = tt
+  law-forward (f ∷ []) sp = tt
+  law-forward (marked b ∷ (g ∷ ps)) sp = rw (no-middle (leb 3 (suc (length (marked b ∷ (g ∷ ps)))))) tt
     where
-      no-right : (t : Bool) → t && false ≡ false
-      no-right true = refl
-      no-right false = refl
-  law-forward (opened b ∷ (g ∷ (h ∷ ps))) =
-      allowed-law u ((opened a ∷ (opened b ∷ (g ∷ (h ∷ ps)))) ∷ ws) (leb 4 (suc (length (opened b ∷ (g ∷ (h ∷ ps))))) && true)
-      (builds ((opened a ∷ (g ∷ (h ∷ ps))) ∷ ws) (tri b a (vertex g)) glued fresh glued 0 0 0)
+      no-middle : (t : Bool) → t && false ≡ false
+      no-middle true = refl
+      no-middle false = refl
+  law-forward (opened b ∷ (g ∷ ps)) sp =
+      let k = suc (length (opened b ∷ (g ∷ ps))) in
+      allowed-law u ((opened a ∷ (opened b ∷ (g ∷ ps))) ∷ ws) (leb 3 k && true && not (eqb k 3 && allOpen (opened b ∷ (g ∷ ps))))
+      (builds ((opened a ∷ (g ∷ ps)) ∷ ws) (tri b a (vertex g)) glued fresh glued 0 0 0)
       (λ t. record {
         sums = λ w. omega arith;
-        current = (refl, cw);
-        sound = λ s. (record { long = omega arith; current = refl }, s .1);
-        numbers = none (at-b (opened b ∷ (g ∷ (h ∷ ps)))) (at-a (opened b ∷ (g ∷ (h ∷ ps)))) (at-c (opened b ∷ (g ∷ (h ∷ ps))) 1 (omega arith));
+        current = (refl, cw, sp);
+        sound = λ s. (record { long = omega arith; current = refl; spaced = sp }, s .1);
+        numbers = none (at-b (opened b ∷ (g ∷ ps))) (at-a (opened b ∷ (g ∷ ps))) (at-c (opened b ∷ (g ∷ ps)) 1 (omega arith));
         lives = omega arith;
         small = omega arith;
       })
 
-  law-backward : (ps : List Node) → Law u ((opened a ∷ ps) ∷ ws) (atEdge Backward u a ps ws)
+  law-backward : (ps : List Node) → Spaced ps false → Law u ((opened a ∷ ps) ∷ ws) (atEdge Backward u a ps ws)
   unfolding allowed atEdge loopsSum ringSum pathSum front lastOpen lastVertex
-  law-backward [] = tt
-  law-backward (f ∷ []) = tt
-  law-backward (f ∷ (g ∷ ps)) =
+  law-backward [] sp = tt
+  law-backward (f ∷ []) sp = tt
+  law-backward (f ∷ (g ∷ ps)) sp =
       let c = lastVertex (g ∷ ps) in
-      allowed-law u ((opened a ∷ (f ∷ (g ∷ ps))) ∷ ws) (leb 4 (suc (length (f ∷ (g ∷ ps)))) && lastOpen (g ∷ ps))
+      let long = leb 3 (suc (length (f ∷ (g ∷ ps)))) in
+      let sp′ : Spaced (f ∷ front (g ∷ ps)) false = spaced-front (f ∷ (g ∷ ps)) false sp in
+      allowed-law u ((opened a ∷ (f ∷ (g ∷ ps))) ∷ ws) (long && lastOpen (g ∷ ps) && not (eqb (suc (length (f ∷ (g ∷ ps)))) 3 && allOpen (f ∷ (g ∷ ps))))
       (builds ((opened c ∷ (f ∷ front (g ∷ ps))) ∷ ws) (tri (vertex f) a c) glued glued fresh 0 0 0)
       (λ t.
-      let k : 4 ≤ suc (length (f ∷ (g ∷ ps))) = leb-true 4 (suc (length (f ∷ (g ∷ ps)))) (and-left (leb 4 (suc (length (f ∷ (g ∷ ps))))) (lastOpen (g ∷ ps)) t) in
-      let e = front-last (g ∷ ps) (and-right (leb 4 (suc (length (f ∷ (g ∷ ps))))) (lastOpen (g ∷ ps)) t) in
+      let e = front-last (g ∷ ps) (and-right long (lastOpen (g ∷ ps)) (and-left (long && lastOpen (g ∷ ps)) _ t)) in
       record {
         sums = λ w. omega (arith, sum-append w (f ∷ front (g ∷ ps)) (opened c ∷ []) a, ap (λ (l : List Node). pathSum w (f ∷ l) a) e);
-        current = (refl, cw);
-        sound = λ s. (record { long = omega (arith, length-front g ps); current = refl }, s .1);
+        current = (refl, cw, sp′);
+        sound = λ s. (record { long = omega arith; current = refl; spaced = sp′ }, s .1);
         numbers =
             none (at-b (f ∷ (g ∷ ps))) (at-a (f ∷ (g ∷ ps)))
             (λ n. omega (arith, sum-append (λ x y o. n x) (f ∷ front (g ∷ ps)) (opened c ∷ []) a, ap (λ (l : List Node). pathSum (λ x y o. n x) (f ∷ l) a) e));
@@ -227,13 +266,15 @@ module _ (u a : ℕ) (ws : List Ring) (cw : AllCurrent ws) where
     small = omega arith;
   }
 
-  halves : (t : Bool) (f : Node) (ps : List Node) (i : ℕ) → suc (suc i) + 3 ≤ suc (length (f ∷ ps))
+  halves : (t : Bool) (f : Node) (ps : List Node) (i : ℕ) → Spaced (f ∷ ps) false → suc i + 2 ≤ suc (length (f ∷ ps))
       → Builds u ((opened a ∷ (f ∷ ps)) ∷ ws)
-      (inOrder t (opened (vertexAt (f ∷ ps) (suc (suc i))) ∷ take (suc (suc i)) (f ∷ ps)) (opened a ∷ drop (suc (suc i)) (f ∷ ps)) ws)
-      (tri (vertex f) a (vertexAt (f ∷ ps) (suc (suc i)))) glued fresh fresh 0 0 0
+      (inOrder t (opened (vertexAt (f ∷ ps) (suc i)) ∷ take (suc i) (f ∷ ps)) (opened a ∷ drop (suc i) (f ∷ ps)) ws)
+      (tri (vertex f) a (vertexAt (f ∷ ps) (suc i))) glued fresh fresh 0 0 0
   unfolding loopsSum ringSum pathSum
-  halves t f ps i h =
-      let j = suc (suc i) in
+  halves t f ps i sp h =
+      let j = suc i in
+      let s₁ : Spaced (take j (f ∷ ps)) false = spaced-take j (f ∷ ps) false sp in
+      let s₂ : Spaced (drop j (f ∷ ps)) false = spaced-drop j (f ∷ ps) false sp in
       let c = vertexAt (f ∷ ps) j in
       let lo = opened c ∷ take j (f ∷ ps) in
       let hi = opened a ∷ drop j (f ∷ ps) in
@@ -247,29 +288,37 @@ module _ (u a : ℕ) (ws : List Ring) (cw : AllCurrent ws) where
               ap (pathSum w (take j (f ∷ ps))) (start-drop a (f ∷ ps) j (omega arith)),
               ap (λ (x : ℕ). w a x true) (start-drop a (f ∷ ps) j (omega arith)),
             );
-        current = current-order t lo hi ws refl refl cw;
+        current = current-order t lo hi ws refl refl s₁ s₂ cw;
         sound = λ s.
-            sound-order t lo hi ws (record { long = omega (arith, length-take j (f ∷ ps)); current = refl })
-            (record { long = omega (arith, length-drop j (f ∷ ps)); current = refl }) (s .1);
+            sound-order t lo hi ws (record { long = omega (arith, length-take j (f ∷ ps)); current = refl; spaced = s₁ })
+            (record { long = omega (arith, length-drop j (f ∷ ps)); current = refl; spaced = s₂ }) (s .1);
         numbers = none (at-b (f ∷ ps)) (at-a (f ∷ ps)) (at-c (f ∷ ps) j (omega arith));
         lives = omega (arith, length-order t lo hi ws);
         small = omega arith;
       }
 
-  law-split : (ps : List Node) (i : ℕ) → Law u ((opened a ∷ ps) ∷ ws) (atEdge (Split i) u a ps ws)
+  law-split : (ps : List Node) (i : ℕ) → Spaced ps false → Law u ((opened a ∷ ps) ∷ ws) (atEdge (Split i) u a ps ws)
   unfolding allowed atEdge
-  law-split ps zero = tt
-  law-split ps (suc zero) = tt
-  law-split [] (suc (suc i)) =
-      let j = suc (suc i) in
-      allowed-law u ((opened a ∷ []) ∷ ws) _ _ (λ t. absurd (omega (arith, leb-true (j + 3) 1 (and-right (leb 2 j) _ t))))
-  law-split (f ∷ ps) (suc (suc i)) =
-      let j = suc (suc i) in
-      allowed-law u ((opened a ∷ (f ∷ ps)) ∷ ws) _ _ (λ t. halves _ f ps i (leb-true (j + 3) (suc (length (f ∷ ps))) (and-right (leb 2 j) _ t)))
+  law-split ps zero sp = tt
+  law-split [] (suc i) sp =
+      allowed-law u ((opened a ∷ []) ∷ ws) (leb 1 (suc i) && leb (suc i + 2) 1 && not (eqb (suc i) 1 && false) && not (eqb (suc i + 2) 1 && lastOpen []))
+      (builds (inOrder (leb (length {A = Node} (opened (vertexAt [] (suc i)) ∷ take (suc i) [])) (length {A = Node} (opened a ∷ drop (suc i) []))) (opened (vertexAt [] (suc i)) ∷ take (suc i) []) (opened a ∷ drop (suc i) []) ws)
+      (tri a a (vertexAt [] (suc i))) glued fresh fresh 0 0 0)
+      (λ t. absurd (omega (arith, split-high (suc i) 1 (not (eqb (suc i) 1 && false)) (not (eqb (suc i + 2) 1 && lastOpen [])) t)))
+  law-split (f ∷ ps) (suc i) sp =
+      let j = suc i in
+      let k = suc (length (f ∷ ps)) in
+      let x = not (eqb j 1 && isOpen f) in
+      let y = not (eqb (j + 2) k && lastOpen (f ∷ ps)) in
+      let c = vertexAt (f ∷ ps) j in
+      let first = leb (length (opened c ∷ take j (f ∷ ps))) (length (opened a ∷ drop j (f ∷ ps))) in
+      allowed-law u ((opened a ∷ (f ∷ ps)) ∷ ws) (leb 1 j && leb (j + 2) k && x && y)
+      (builds (inOrder first (opened c ∷ take j (f ∷ ps)) (opened a ∷ drop j (f ∷ ps)) ws) (tri (vertex f) a c) glued fresh fresh 0 0 0)
+      (λ t. halves first f ps i sp (split-high j k x y t))
 
-  law-union : (ps : List Node) (n j : ℕ) → Law u ((opened a ∷ ps) ∷ ws) (atEdge (Union n j) u a ps ws)
+  law-union : (ps : List Node) (n j : ℕ) → Spaced ps false → Law u ((opened a ∷ ps) ∷ ws) (atEdge (Union n j) u a ps ws)
   unfolding atEdge loopsSum ringSum pathSum
-  law-union ps n j =
+  law-union ps n j sp =
       let l = loopAt ws (n - 1) in
       let c = vertexAt l j in
       allowed-law u ((opened a ∷ ps) ∷ ws) (leb 1 n && leb n (length ws) && ltb j (length l))
@@ -279,6 +328,9 @@ module _ (u a : ℕ) (ws : List Ring) (cw : AllCurrent ws) where
       let h : j < length l = ltb-true j (length l) (and-right (leb 1 n && leb n (length ws)) (ltb j (length l)) t) in
       let low : 1 ≤ n = leb-true 1 n (and-left (leb 1 n) (leb n (length ws)) t′) in
       let high : n ≤ length ws = leb-true n (length ws) (and-right (leb 1 n) (leb n (length ws)) t′) in
+      let cl = current-at ws (n - 1) (omega arith) cw in
+      let sp′ : Spaced (ps ++ (opened a ∷ (drop j l ++ take j l))) false =
+      spaced-append ps (opened a ∷ (drop j l ++ take j l)) false sp (spaced-turn l j (cl .0) (cl .1)) in
       record {
         sums = λ w.
             omega (
@@ -289,8 +341,8 @@ module _ (u a : ℕ) (ws : List Ring) (cw : AllCurrent ws) where
               ap (λ (x : ℕ). w a x true) (spliced-start c l j h),
               sum-without w ws (n - 1) (omega arith),
             );
-        current = (refl, current-without ws (n - 1) cw);
-        sound = λ s. (record { long = simp length-append (omega (arith, s .0 .long)); current = refl }, sound-without ws (n - 1) (s .1));
+        current = (refl, current-without ws (n - 1) cw, sp′);
+        sound = λ s. (record { long = simp length-append (omega (arith, s .0 .long)); current = refl; spaced = sp′ }, sound-without ws (n - 1) (s .1));
         numbers =
             none (at-b ps) (at-a ps)
             (λ g. omega (arith, at-path g l j (startOr 0 l) h, sum-without (λ x y o. g x) ws (n - 1) (omega arith)));
@@ -300,52 +352,57 @@ module _ (u a : ℕ) (ws : List Ring) (cw : AllCurrent ws) where
 
   law-border : (ps : List Node) → Law u ((opened a ∷ ps) ∷ ws) (atEdge Border u a ps ws)
   unfolding atEdge loopsSum ringSum pathSum
-  law-border ps = go (onward [] (ps ++ (marked a ∷ []))) refl
+  law-border ps = go (shown (onward [] (ps ++ (marked a ∷ [])))) refl
     where
-      total : (w : Weight) → Turned w [] (ps ++ (marked a ∷ []))
-      total w = turned w [] (ps ++ (marked a ∷ []))
+      whole : (w : Weight) → ringSum w (ps ++ (marked a ∷ [])) ≡ pathSum w ps a + w a (startOr a ps) false
+      whole w =
+          omega (
+            arith,
+            sum-append w ps (marked a ∷ []) (startOr 0 (ps ++ (marked a ∷ []))),
+            ap (λ (x : ℕ). w a x false) (start-append 0 ps (marked a ∷ [])),
+          )
 
-      sums : (w : Weight) (ls : List Ring) → loopsSum w ls ≡ ringSum w (onward [] (ps ++ (marked a ∷ []))) + loopsSum w ws
-          → Marking w ((opened a ∷ ps) ∷ ws) ls (edge a (startOr a ps))
-      sums w ls e = record {
-        lost = total w .lost;
-        total =
-            omega (
-              arith,
-              e,
-              total w .total,
-              sum-append w ps (marked a ∷ []) (startOr 0 (ps ++ (marked a ∷ []))),
-              ap (λ (x : ℕ). w a x false) (start-append 0 ps (marked a ∷ [])),
-            );
-        no-open = λ z. total w .no-open z tt;
-      }
+      sums : (w : Weight) → ((x y : ℕ) → w x y false ≡ 0) → ringSum w (shown (onward [] (ps ++ (marked a ∷ [])))) + w a (startOr a ps) true
+          ≡ ringSum w (opened a ∷ ps)
+      sums w z =
+          let t = turned w [] (ps ++ (marked a ∷ [])) in
+          omega (arith, onward-open w z [] (ps ++ (marked a ∷ [])), t .total, t .no-open z tt, whole w, z a (startOr a ps))
 
-      go : (r : Ring) → onward [] (ps ++ (marked a ∷ [])) ≡ r → Law u ((opened a ∷ ps) ∷ ws) (marking r ws (edge a (startOr a ps)))
+      fewer : (g : ℕ → ℕ) → ringSum (λ x y o. g x) (shown (onward [] (ps ++ (marked a ∷ [])))) ≤ ringSum (λ x y o. g x) (opened a ∷ ps)
+      fewer g =
+          omega (arith, onward-fewer g [] (ps ++ (marked a ∷ [])), turned (λ x y o. g x) [] (ps ++ (marked a ∷ [])) .total, whole (λ x y o. g x))
+
+      go : (r : Ring) → shown (onward [] (ps ++ (marked a ∷ []))) ≡ r → Law u ((opened a ∷ ps) ∷ ws) (marking r ws (edge a (startOr a ps)))
       go [] e = record {
-        sums = λ w. sums w ws (omega (arith, ap (ringSum w) e));
+        sums = λ w z. omega (arith, sums w z, ap (ringSum w) e);
+        fewer = λ g. omega (arith, fewer g, ap (ringSum (λ x y o. g x)) e);
         current = cw;
         sound = λ s. s .1;
         lives = omega arith;
         small = omega arith;
       }
-      go (p ∷ qs) e = record {
-        sums = λ w. sums w ((p ∷ qs) ∷ ws) (omega (arith, ap (ringSum w) e));
-        current = (subst CurrentOr e (onward-current [] (ps ++ (marked a ∷ []))), cw);
-        sound = λ s. (subst SoundOr e (onward-sound [] (ps ++ (marked a ∷ [])) (simp length-append (omega (arith, s .0 .long)))), s .1);
-        lives = omega arith;
-        small = omega arith;
-      }
+      go (p ∷ qs) e =
+          let c = subst CurrentOr e (onward-current [] (ps ++ (marked a ∷ []))) in
+          record {
+            sums = λ w z. omega (arith, sums w z, ap (ringSum w) e);
+            fewer = λ g. omega (arith, fewer g, ap (ringSum (λ x y o. g x)) e);
+            current = (c .0, cw, c .1);
+            sound = λ s. (subst SoundOr e (onward-sound [] (ps ++ (marked a ∷ [])) (simp length-append (omega (arith, s .0 .long)))), s .1);
+            lives = omega arith;
+            small = omega arith;
+          }
 
 -- the law of each operation
-pub at-edge-law : (o : Operation) (u a : ℕ) (ps : List Node) (ws : List Ring) → AllCurrent ws → Law u ((opened a ∷ ps) ∷ ws) (atEdge o u a ps ws)
+pub at-edge-law : (o : Operation) (u a : ℕ) (ps : List Node) (ws : List Ring) → AllCurrent ((opened a ∷ ps) ∷ ws)
+    → Law u ((opened a ∷ ps) ∷ ws) (atEdge o u a ps ws)
 unfolding atEdge
-at-edge-law New u a ps ws c = law-new u a ws c ps
-at-edge-law Forward u a ps ws c = law-forward u a ws c ps
-at-edge-law Backward u a ps ws c = law-backward u a ws c ps
-at-edge-law Border u a ps ws c = law-border u a ws c ps
-at-edge-law (Split i) u a ps ws c = law-split u a ws c ps i
-at-edge-law Close u a ps ws c = law-close u a ws c ps
-at-edge-law (Union n j) u a ps ws c = law-union u a ws c ps n j
+at-edge-law New u a ps ws c = law-new u a ws (c .1) ps (c .2)
+at-edge-law Forward u a ps ws c = law-forward u a ws (c .1) ps (c .2)
+at-edge-law Backward u a ps ws c = law-backward u a ws (c .1) ps (c .2)
+at-edge-law Border u a ps ws c = law-border u a ws (c .1) ps
+at-edge-law (Split i) u a ps ws c = law-split u a ws (c .1) ps i (c .2)
+at-edge-law Close u a ps ws c = law-close u a ws (c .1) ps
+at-edge-law (Union n j) u a ps ws c = law-union u a ws (c .1) ps n j (c .2)
 at-edge-law Start u a ps ws c = tt
 
 at-rest-law : (o : Operation) (u : ℕ) → Law u [] (atRest o u)
@@ -359,8 +416,8 @@ at-rest-law Close u = tt
 at-rest-law (Union n j) u = tt
 at-rest-law Start u = record {
   sums = λ w. omega arith;
-  current = (refl, tt);
-  sound = λ s. (record { long = omega arith; current = refl }, tt);
+  current = (refl, tt, tt);
+  sound = λ s. (record { long = omega arith; current = refl; spaced = tt }, tt);
   numbers = three;
   lives = omega arith;
   small = omega arith;
@@ -371,5 +428,5 @@ pub effect-law : (o : Operation) (u : ℕ) (ls : List Ring) → AllCurrent ls �
 unfolding effect
 effect-law o u [] c = at-rest-law o u
 effect-law o u ([] ∷ ws) c = tt
-effect-law o u ((opened a ∷ ps) ∷ ws) c = at-edge-law o u a ps ws (c .1)
+effect-law o u ((opened a ∷ ps) ∷ ws) c = at-edge-law o u a ps ws c
 effect-law o u ((marked a ∷ ps) ∷ ws) c = absurd (false≢true (c .0))

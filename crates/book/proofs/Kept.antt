@@ -12,76 +12,42 @@ use Rattle.rules.specs.declared.Counts.{Counts}
 use Rattle.rules.specs.declared.Operation.{Operation}
 use Rattle.rules.specs.Triangle.{Edge, corners, edgesOf}
 use Rattle.rules.specs.Count.{same, occurs, count, uses, different, pairs}
-use Rattle.rules.specs.Ring.{Node, Ring, vertex, isOpen, startOr}
+use Rattle.rules.specs.Ring.{Node, Ring, vertex, startOr}
 use Rattle.rules.specs.Table.{Side, Effect, not-allowed, builds, marks, effect, sideRule, edgeRule}
 use Rattle.rules.specs.Machine.{empty, afterBuild, afterMark, Step, refused, test, done, operation}
 use Rattle.rules.specs.Book.{Book, entered}
-use Rattle.book.specs.Sums.{Weight, pathSum, ringSum, loopsSum, openHit, markHit, openEdges, markedEdges}
+use Rattle.book.specs.Sums.{pathSum, ringSum, loopsSum, openHit, openEdges}
 use Rattle.book.specs.Consistent.{Consistent}
-use Rattle.book.proofs.Counting.{and-left, and-right, same-is, same-yes, hit-yes, hit-proper, if-fresh-le, Fits, rule-unjoined, triangle-fits, triangle-pairs, Numbered, add-old, add-next, uses-from}
+use Rattle.book.specs.Numbers.{NodesBelow, LoopsBelow}
+use Rattle.book.proofs.Counting.{and-left, and-right, same-is, same-yes, hit-proper, Fits, rule-unjoined, triangle-fits, triangle-pairs, Numbered, add-old, add-next}
 use Rattle.book.proofs.Effects.{At, Corners, none, third, three, Builds, Marks, Law, sound-current, effect-law}
+use Rattle.book.proofs.Numbers.{Below, below-effect}
 
--- an edge of the loops that has weight
-pub record Found (w : Weight) (count : (ℕ → ℕ → ℕ)) : Type 0 where
-  pub x : ℕ
-  pub y : ℕ
-  pub o : Bool
-  pub weighs : 1 ≤ w x y o
-  pub there : 1 ≤ count x y
+-- an open edge of a loop is a used one
+pub loop-used : (b : Book) → Consistent b → (x y : ℕ) → 1 ≤ openEdges x y (b .machine .loops) → uses x y (b .machine .triangles) ≡ 1
+loop-used b k x y h = omega (arith, k .all x y, k .once x y)
 
-wider : (w : Weight) (c c′ : ℕ → ℕ → ℕ) → Found w c → ((x y : ℕ) → c x y ≤ c′ x y) → Found w c′
-wider w c c′ f h = record { x = f .x; y = f .y; o = f .o; weighs = f .weighs; there = omega (arith, f .there, h (f .x) (f .y)) }
-
-found-path : (w : Weight) (ps : List Node) (b : ℕ) → 1 ≤ pathSum w ps b
-    → Found w (λ x y. pathSum (openHit x y) ps b + pathSum (markHit x y) ps b)
+-- a vertex of a loop is below the numbers that are not used
+path-below : (u v : ℕ) (ps : List Node) (b : ℕ) → NodesBelow u ps → 1 ≤ pathSum (λ x y o. same v x) ps b → v < u
 unfolding pathSum
-found-path w [] b h = absurd (omega arith)
-found-path w (p ∷ ps) b h = go (w (vertex p) (startOr b ps) (isOpen p)) refl (found-path w ps b)
+path-below u v [] b h k = absurd (omega arith)
+path-below u v (p ∷ ps) b h k = go (same v (vertex p)) refl (path-below u v ps b (h .1))
   where
-    here : (x y : ℕ) (o : Bool) → 1 ≤ openHit x y x y o + markHit x y x y o
-    here x y true = omega (arith, hit-yes x y)
-    here x y false = omega (arith, hit-yes x y)
+    go : (n : ℕ) → same v (vertex p) ≡ n → (1 ≤ pathSum (λ x y o. same v x) ps b → v < u) → v < u
+    go (suc n) e more = omega (arith, same-is v (vertex p) (omega arith), h .0)
+    go zero e more = more (omega arith)
 
-    go : (n : ℕ) → w (vertex p) (startOr b ps) (isOpen p) ≡ n
-        → (1 ≤ pathSum w ps b → Found w (λ x y. pathSum (openHit x y) ps b + pathSum (markHit x y) ps b))
-        → Found w (λ x y. pathSum (openHit x y) (p ∷ ps) b + pathSum (markHit x y) (p ∷ ps) b)
-    go (suc n) e more = record {
-      x = vertex p;
-      y = startOr b ps;
-      o = isOpen p;
-      weighs = omega arith;
-      there = omega (arith, here (vertex p) (startOr b ps) (isOpen p));
-    }
-    go zero e more =
-        wider w (λ x y. pathSum (openHit x y) ps b + pathSum (markHit x y) ps b) (λ x y. pathSum (openHit x y) (p ∷ ps) b + pathSum (markHit x y) (p ∷ ps) b)
-        (more (omega arith)) (λ x y. omega arith)
-
-pub found : (w : Weight) (ls : List Ring) → 1 ≤ loopsSum w ls → Found w (λ x y. openEdges x y ls + markedEdges x y ls)
+loops-below : (u v : ℕ) (ls : List Ring) → LoopsBelow u ls → 1 ≤ loopsSum (λ x y o. same v x) ls → v < u
 unfolding loopsSum ringSum
-found w [] h = absurd (omega arith)
-found w (l ∷ ls) h = go (ringSum w l) refl (found w ls)
+loops-below u v [] h k = absurd (omega arith)
+loops-below u v (l ∷ ls) h k = go (ringSum (λ x y o. same v x) l) refl (loops-below u v ls (h .1))
   where
-    go : (n : ℕ) → ringSum w l ≡ n → (1 ≤ loopsSum w ls → Found w (λ x y. openEdges x y ls + markedEdges x y ls))
-        → Found w (λ x y. openEdges x y (l ∷ ls) + markedEdges x y (l ∷ ls))
-    go (suc n) e more =
-        wider w (λ x y. pathSum (openHit x y) l (startOr 0 l) + pathSum (markHit x y) l (startOr 0 l)) (λ x y. openEdges x y (l ∷ ls) + markedEdges x y (l ∷ ls))
-        (found-path w l (startOr 0 l) (omega arith)) (λ x y. omega arith)
-    go zero e more =
-        wider w (λ x y. openEdges x y ls + markedEdges x y ls) (λ x y. openEdges x y (l ∷ ls) + markedEdges x y (l ∷ ls))
-        (more (omega arith)) (λ x y. omega arith)
+    go : (n : ℕ) → ringSum (λ x y o. same v x) l ≡ n → (1 ≤ loopsSum (λ x y o. same v x) ls → v < u) → v < u
+    go (suc n) e more = path-below u v l (startOr 0 l) (h .0) (omega arith)
+    go zero e more = more (omega arith)
 
--- each edge of a loop is a used one
-pub loop-used : (b : Book) → Consistent b → (x y : ℕ) → 1 ≤ openEdges x y (b .machine .loops) + markedEdges x y (b .machine .loops)
-    → uses x y (b .machine .triangles) ≡ 1
-loop-used b k x y h = omega (arith, k .all x y, k .marks x y, k .once x y)
-
--- a vertex of a loop is in a triangle
 pub place-below : (b : Book) → Consistent b → (v : ℕ) → At (b .machine .loops) v → v < b .machine .used
-place-below b k v a =
-    let f = found (λ x y o. same v x) (b .machine .loops) (omega (arith, a (same v), same-yes v)) in
-    let u = loop-used b k (f .x) (f .y) (f .there) in
-    let e : v ≡ f .x = same-is v (f .x) (f .weighs) in
-    rw e (k .below (f .x) (omega (arith, u, uses-from (f .x) (f .y) (b .machine .triangles))))
+place-below b k v a = loops-below (b .machine .used) v (b .machine .loops) (k .low) (omega (arith, a (same v), same-yes v))
 
 -- the corners of a new triangle
 more-corners : (ls : List Ring) (u n p q r : ℕ) (vs : List ℕ) → Corners ls u n p q r → ((v : ℕ) → At ls v → v < u) → Numbered u vs
@@ -98,10 +64,10 @@ more-corners ls u n p q r vs three h k =
 
 -- a triangle is built
 kept-built : (b : Book) → Consistent b → (ls : List Ring) (t : Triangle) (pq qr rp : Side) (n s k : ℕ)
-    → Builds (b .machine .used) (b .machine .loops) ls t pq qr rp n s k → edgeRule t pq qr rp (b .machine .triangles) ≡ true
+    → Builds (b .machine .used) (b .machine .loops) ls t pq qr rp n s k → LoopsBelow (b .machine .used + n) ls → edgeRule t pq qr rp (b .machine .triangles) ≡ true
     → Consistent (record { machine = afterBuild (b .machine) ls t pq qr rp n s k; borders = b .borders })
 unfolding corners edgesOf count
-kept-built b c ls t pq qr rp n s k l rule =
+kept-built b c ls t pq qr rp n s k l low rule =
     let m = b .machine in
     let ts = m .triangles in
     let x1 = not (eqb (t .p) (t .q)) in
@@ -136,24 +102,24 @@ kept-built b c ls t pq qr rp n s k l rule =
       once = g .once;
       proper = λ x. omega (arith, c .proper x, hit-proper x (t .p) (t .q) p-q, hit-proper x (t .q) (t .r) q-r, hit-proper x (t .r) (t .p) r-p);
       all = g .all;
-      marks = λ x y. omega (arith, l .sums (markHit x y), c .marks x y, if-fresh-le pq 0, if-fresh-le qr 0, if-fresh-le rp 0);
+      low = low;
       loops = l .sound (c .loops);
       edges = omega (arith, e, c .edges);
       euler = omega (arith, l .lives, c .euler);
     }
 
 -- an edge is declared border
-kept-marked : (b : Book) → Consistent b → (ls : List Ring) (d : Edge) (rim : ℕ) → Marks (b .machine .loops) ls d rim
+kept-marked : (b : Book) → Consistent b → (ls : List Ring) (d : Edge) (rim : ℕ) → Marks (b .machine .loops) ls d rim → LoopsBelow (b .machine .used) ls
     → Consistent (record { machine = afterMark (b .machine) ls rim; borders = d ∷ b .borders })
 unfolding count
-kept-marked b c ls d rim l = record {
+kept-marked b c ls d rim l low = record {
   below = c .below;
   each = c .each;
   vertices = c .vertices;
   once = c .once;
   proper = c .proper;
-  all = λ x y. let s = l .sums (openHit x y) in omega (arith, s .total, s .no-open (λ p q. refl), c .all x y);
-  marks = λ x y. omega (arith, l .sums (markHit x y) .total, c .marks x y);
+  all = λ x y. omega (arith, l .sums (openHit x y) (λ p q. refl), c .all x y);
+  low = low;
   loops = l .sound (c .loops);
   edges = c .edges;
   euler = omega (arith, l .lives, c .euler);
@@ -165,17 +131,19 @@ unfolding test
 test-law P true n s a b = b refl
 test-law P false n s a b = a
 
-kept-by : (b : Book) → Consistent b → (e : Effect) → Law (b .machine .used) (b .machine .loops) e → Consistent (entered b (done (b .machine) e))
+kept-by : (b : Book) → Consistent b → (e : Effect) → Law (b .machine .used) (b .machine .loops) e → Below (b .machine .used) e
+    → Consistent (entered b (done (b .machine) e))
 unfolding done
-kept-by b c not-allowed l = c
-kept-by b c (builds ls t pq qr rp n s k) l =
+kept-by b c not-allowed l v = c
+kept-by b c (builds ls t pq qr rp n s k) l v =
     test-law (λ (x : Step). Consistent (entered b x)) _ _ _ c
-    (λ i. test-law (λ (x : Step). Consistent (entered b x)) (edgeRule t pq qr rp (b .machine .triangles)) _ _ c (λ r. kept-built b c ls t pq qr rp n s k l r))
-kept-by b c (marks ls d rim) l = test-law (λ (x : Step). Consistent (entered b x)) _ _ _ c (λ i. kept-marked b c ls d rim l)
+    (λ i. test-law (λ (x : Step). Consistent (entered b x)) (edgeRule t pq qr rp (b .machine .triangles)) _ _ c (λ r. kept-built b c ls t pq qr rp n s k l (v .0) r))
+kept-by b c (marks ls d rim) l v = test-law (λ (x : Step). Consistent (entered b x)) _ _ _ c (λ i. kept-marked b c ls d rim l v)
 
 -- an operation, accepted or refused
 pub kept : (b : Book) → Consistent b → (o : Operation) → Consistent (entered b (operation (b .machine) o))
 kept b c o = kept-by b c (effect o (b .machine .used) (b .machine .loops)) (effect-law o (b .machine .used) (b .machine .loops) (sound-current (b .machine .loops) (c .loops)))
+    (below-effect o (b .machine .used) (b .machine .loops) (c .low))
 
 -- the empty book
 pub empty-consistent : (s : Counts) → Consistent (record { machine = empty s; borders = [] })
@@ -187,7 +155,7 @@ empty-consistent s = record {
   once = λ x y. omega arith;
   proper = λ x. refl;
   all = λ x y. refl;
-  marks = λ x y. omega arith;
+  low = tt;
   loops = tt;
   edges = refl;
   euler = refl;

@@ -1,5 +1,6 @@
 pub mod Counting
 pub mod Sums
+pub mod ShownSums
 pub mod Effects
 pub mod Numbers
 pub mod Kept

@@ -12,11 +12,12 @@ use Rattle.rules.specs.declared.Triangle.{Triangle}
 use Rattle.rules.specs.declared.Operation.{Operation}
 use Rattle.rules.specs.declared.Operation.the-variants.{New, Forward, Backward, Border, Split, Close, Union, Start}
 use Rattle.rules.specs.Triangle.{Edge, edge}
-use Rattle.rules.specs.Ring.{Node, opened, marked, Ring, vertex, startOr, vertexAt, lastVertex, front, onward, loopAt, without}
+use Rattle.rules.specs.Ring.{Node, opened, marked, Ring, vertex, startOr, vertexAt, lastVertex, front, onward, reached, shown, loopAt, without}
 use Rattle.rules.specs.Table.{Side, Effect, not-allowed, builds, marks, allowed, inOrder, marking, atEdge, atRest, effect}
 use Rattle.book.specs.Consistent.{AllCurrent}
 use Rattle.book.specs.Numbers.{NodesBelow, LoopsBelow}
 use Rattle.book.proofs.Counting.{and-left, and-right}
+use Rattle.book.proofs.Effects.{split-high}
 
 -- runs of nodes
 below-append : (u : ℕ) (ps qs : List Node) → NodesBelow u ps → NodesBelow u qs → NodesBelow u (ps ++ qs)
@@ -64,6 +65,17 @@ below-onward u back [] k h = tt
 below-onward u back (opened v ∷ ps) k h = (h .0, below-append u ps back (h .1) k)
 below-onward u back (marked v ∷ ps) k h = below-onward u (back ++ (marked v ∷ [])) ps (below-append u back (marked v ∷ []) k (h .0, tt)) (h .1)
 
+below-reached : (u : ℕ) (ps : List Node) (m : Bool) → NodesBelow u ps → NodesBelow u (reached ps m)
+unfolding reached
+below-reached u [] m h = tt
+below-reached u (opened v ∷ ps) m h = (h .0, below-reached u ps false (h .1))
+below-reached u (marked v ∷ ps) true h = below-reached u ps true (h .1)
+below-reached u (marked v ∷ ps) false h = (h .0, below-reached u ps true (h .1))
+
+below-shown : (u : ℕ) (ps : List Node) → NodesBelow u ps → NodesBelow u (shown ps)
+below-shown u [] h = tt
+below-shown u (p ∷ ps) h = (h .0, below-reached u ps false (h .1))
+
 -- loops
 below-wider : (u v : ℕ) → u ≤ v → (ls : List Ring) → LoopsBelow u ls → LoopsBelow v ls
 below-wider u v l [] h = tt
@@ -88,7 +100,7 @@ below-order u true l m ws x y z = (x, (y, z))
 below-order u false l m ws x y z = (y, (x, z))
 
 -- an effect's loops and corners are below the next unused number after it
-abbrev Below : ℕ → Effect → Type 0
+abbrev pub Below : ℕ → Effect → Type 0
 Below u not-allowed = Unit {0}
 Below u (builds ls t pq qr rp n s k) = LoopsBelow (u + n) ls × ((t .p < u + n) × (t .q < u + n) × (t .r < u + n))
 Below u (marks ls d rim) = LoopsBelow u ls
@@ -124,7 +136,7 @@ module _ (u a : ℕ) (ps : List Node) (ws : List Ring) (ha : a < u) (hp : NodesB
   below-forward =
       allowed-below u _ _
       (λ t.
-      let k = leb-true 4 (suc (length ps)) (and-left (leb 4 (suc (length ps))) _ t) in
+      let k = leb-true 3 (suc (length ps)) (and-left (leb 3 (suc (length ps))) _ (and-left (leb 3 (suc (length ps)) && _) _ t)) in
       plain ((opened a ∷ drop 1 ps) ∷ ws) (vertexAt ps 1) ((ha, below-drop u 1 ps hp), hw) (below-at u ps 1 (omega (arith, k)) hp))
 
   below-backward : (c : ℕ) → lastVertex ps ≡ c → c < u → Below u (atEdge Backward u a ps ws)
@@ -136,15 +148,15 @@ module _ (u a : ℕ) (ps : List Node) (ws : List Ring) (ha : a < u) (hp : NodesB
   below-border : Below u (atEdge Border u a ps ws)
   unfolding atEdge
   below-border =
-      marking-below u (onward [] (ps ++ (marked a ∷ []))) ws (edge a (startOr a ps))
-      (below-onward u [] (ps ++ (marked a ∷ [])) tt (below-append u ps (marked a ∷ []) hp (ha, tt))) hw
+      marking-below u (shown (onward [] (ps ++ (marked a ∷ [])))) ws (edge a (startOr a ps))
+      (below-shown u (onward [] (ps ++ (marked a ∷ []))) (below-onward u [] (ps ++ (marked a ∷ [])) tt (below-append u ps (marked a ∷ []) hp (ha, tt)))) hw
 
   below-split : (i : ℕ) → Below u (atEdge (Split i) u a ps ws)
   unfolding atEdge
   below-split i =
       allowed-below u _ _
       (λ t.
-      let k = leb-true (i + 3) (suc (length ps)) (and-right (leb 2 i) _ t) in
+      let k = split-high i (suc (length ps)) _ _ t in
       let h = below-at u ps i (omega (arith, k)) hp in
       plain (inOrder (leb (length (opened (vertexAt ps i) ∷ take i ps)) (length (opened a ∷ drop i ps))) (opened (vertexAt ps i) ∷ take i ps) (opened a ∷ drop i ps) ws)
       (vertexAt ps i)
@@ -198,7 +210,7 @@ below-at-rest Close u = tt
 below-at-rest (Union n j) u = tt
 below-at-rest Start u = (((omega arith, (omega arith, (omega arith, tt))), tt), (omega arith, omega arith, omega arith))
 
-below-effect : (o : Operation) (u : ℕ) (ls : List Ring) → LoopsBelow u ls → Below u (effect o u ls)
+pub below-effect : (o : Operation) (u : ℕ) (ls : List Ring) → LoopsBelow u ls → Below u (effect o u ls)
 unfolding effect
 below-effect o u [] h = below-at-rest o u
 below-effect o u ([] ∷ ws) h = tt

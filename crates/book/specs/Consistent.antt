@@ -2,7 +2,7 @@
 -- border fit together, the Euler sum, and the bounds on the counts that 21 asks for.
 -- Assumes nothing.
 use Prim.Native.Nat.{ℕ, _+_, _*_, _≤_, _<_}
-use mathlib.Core.Bool.{true, _&&_}
+use mathlib.Core.Bool.{true, false, _&&_}
 use mathlib.Core.List.{List, [], _∷_}
 use mathlib.Core.Path.{_≡_}
 use lib.ListN.{length}
@@ -14,7 +14,9 @@ use Rattle.rules.specs.Count.{num, occurs, count, uses, different, pairs}
 use Rattle.rules.specs.Ring.{Ring, firstOpen}
 use Rattle.rules.specs.Machine.{Machine, within}
 use Rattle.rules.specs.Book.{Book}
-use Rattle.book.specs.Sums.{openEdges, markedEdges}
+use Rattle.shown.specs.Spaced.{Spaced}
+use Rattle.book.specs.Sums.{openEdges}
+use Rattle.book.specs.Numbers.{LoopsBelow}
 
 -- 1 if x→y is an open edge of the model, else 0: it is used, its opposite is not, and it is not declared border. Its arguments are
 -- how often x→y is used, how often y→x, and how often x→y is declared border
@@ -24,19 +26,21 @@ openIf used opposite border = num (eqb used 1 && eqb opposite 0 && eqb border 0)
 abbrev pub modelOpen : ℕ → ℕ → List Triangle → List Edge → ℕ
 modelOpen x y ts ds = openIf (uses x y ts) (uses y x ts) (count x y ds)
 
--- a loop has three places or more, and its current edge is open
+-- a loop has two places or more, its current edge is open, and none of its places has both edges marked
 pub record Sound (l : Ring) : Type 0 where
-  pub long : 3 ≤ length l
+  pub long : 2 ≤ length l
   pub current : firstOpen l ≡ true
+  pub spaced : Spaced l false
 
 abbrev pub AllSound : List Ring → Type 0
 AllSound [] = Unit {0}
 AllSound (l ∷ ls) = Sound l × AllSound ls
 
--- the current edge of each loop is open; a loop may have one place or two, which no list of calls leads to, but 21 lets pass
+-- the current edge of each loop is open, and no place has both edges marked; a loop may have one place, which no list of calls leads
+-- to, but 21 lets pass
 abbrev pub AllCurrent : List Ring → Type 0
 AllCurrent [] = Unit {0}
-AllCurrent (l ∷ ls) = (firstOpen l ≡ true) × AllCurrent ls
+AllCurrent (l ∷ ls) = (firstOpen l ≡ true) × AllCurrent ls × Spaced l false
 
 pub record Consistent (b : Book) : Type 0 where
   -- the numbers in triangles are those below `used`
@@ -51,8 +55,8 @@ pub record Consistent (b : Book) : Type 0 where
   pub all : (x y : ℕ)
       → openEdges x y (b .machine .loops) + count x y (b .borders) + uses x y (b .machine .triangles) * uses y x (b .machine .triangles)
       ≡ uses x y (b .machine .triangles)
-  -- marked edges are declared border
-  pub marks : (x y : ℕ) → markedEdges x y (b .machine .loops) ≤ count x y (b .borders)
+  -- the loops' vertices too are below `used`; a marked edge may be a link, which is no edge of the model
+  pub low : LoopsBelow (b .machine .used) (b .machine .loops)
   pub loops : AllSound (b .machine .loops)
   pub edges : b .machine .edges ≡ pairs (edgesOf (b .machine .triangles))
   -- vertices - edges + triangles + live loops + rims = 2 starts - 2 unions

@@ -31,9 +31,6 @@ abbrev pub markHit : ℕ → ℕ → Weight
 markHit x y p q true = 0
 markHit x y p q false = hit x y p q
 
--- at how many places x→y is an open edge, at how many a marked one
+-- at how many places x→y is an open edge
 abbrev pub openEdges : ℕ → ℕ → List Ring → ℕ
 openEdges x y ls = loopsSum (openHit x y) ls
-
-abbrev pub markedEdges : ℕ → ℕ → List Ring → ℕ
-markedEdges x y ls = loopsSum (markHit x y) ls

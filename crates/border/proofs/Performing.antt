@@ -13,7 +13,7 @@ use Rattle.memory.specs.Moves.{markedHeld}
 use Rattle.memory.specs.Decision.{decided, newEdges, heldBy, heldAfter, builtFront, markedFront}
 use Rattle.memory.specs.Keeps.{Ready}
 use Rattle.memory.specs.Performs.{Performs, Counts16}
-use Rattle.memory.proofs.Ready.{ready-near}
+use Rattle.memory.proofs.Ready.{ready-borders}
 use Rattle.memory.proofs.Performed.{counts16, marked-free, marked-live, marked-less}
 
 pub performs-as : (n : ℕ) (l : Loops) (m : List ℕ) (u : ℕ) (o o′ : Operation) (c : ℕ) → o ≡ o′ → Performs n l m u o c → Performs n l m u o′ c
@@ -67,7 +67,7 @@ pub marked-counts : (n : ℕ) (s : Front) (m : List ℕ) (l : Loops) → Ready n
 marked-counts n s m l r e =
     rw e (
       r .0 .roomy .few,
-      marked-free n (s .loops) m (ready-near n s m (r .0) (r .1)),
+      marked-free n (s .loops) m (ready-borders n s m (r .0) (r .1)),
       marked-live n (s .loops) m,
       marked-less n (s .loops) m,
       r .0 .rims,

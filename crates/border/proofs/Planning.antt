@@ -2,18 +2,18 @@
 -- Assumes nothing.
 use Prim.Native.Nat.{ℕ, suc, _+_, _-_, _*_, _≤_, _<_}
 use native.Mathlib.Omega.{arith}
-use mathlib.Core.Bool.{Bool, true, false}
+use mathlib.Core.Bool.{Bool, true, false, not}
 use mathlib.Core.List.{List}
 use mathlib.Core.Path.{_≡_, sym, ap, ap₂, _∙_, subst}
 use lib.ListN.{length}
-use lib.Dec.{ltb}
+use lib.Dec.{eqb, ltb}
 use borrow.Author.Tests.{le-leb, lt-leb, lt-ltb, le-ltb, eq-eqb, ne-eqb}
 use Rattle.memory.specs.declared.Loops.{Loops}
 use Rattle.memory.specs.declared.Plan.{Plan}
 use Rattle.memory.specs.declared.Decided.{Decided}
 use Rattle.memory.specs.declared.Decided.the-variants.{Refused, Builds, Marks}
 use Rattle.memory.specs.Layout.{at, vertexOf, beforeOf, afterOf, walked}
-use Rattle.memory.specs.Decision.{isOpenAt, allowedIf, planAt, newPlan, forwardPlan, backwardPlan, borderPlan, splitPlan, closePlan, unionPlan}
+use Rattle.memory.specs.Decision.{isOpenAt, allowedIf, planAt, isThree, besideNext, besideLast, newPlan, forwardPlan, backwardPlan, borderPlan, splitPlan, closePlan, unionPlan}
 use Rattle.memory.specs.Near.{Near}
 use Rattle.memory.proofs.Near.{near-e, near-f}
 
@@ -38,58 +38,122 @@ module _ (l : Loops) (m : List ℕ) where
   unfolding newPlan
   new-builds u r e = ap Builds e
 
-  pub forward-small : l .size < 4 → Refused 16 ≡ forwardPlan l m
-  unfolding forwardPlan
-  forward-small h = no-if _ _ (lt-leb 4 (l .size) h)
+  -- three places, all edges open
+  pub three-other : (l .size ≡ 3 → ⊥) → false ≡ isThree l m
+  unfolding isThree
+  three-other h = let t : eqb (l .size) 3 ≡ false = ne-eqb (l .size) 3 h in rw t
 
-  pub forward-marked : (f : ℕ) (b : Bool) → 4 ≤ l .size → f ≡ afterOf m (l .current) → b ≡ isOpenAt m f → b ≡ false → Refused 16 ≡ forwardPlan l m
-  unfolding forwardPlan
-  forward-marked f b h ef eb z = yes-if _ _ _ (le-leb 4 (l .size) h) (no-if _ _ (sym (eb ∙ ap (isOpenAt m) ef) ∙ z))
+  pub three-first : (f : ℕ) (b : Bool) → l .size ≡ 3 → f ≡ afterOf m (l .current) → b ≡ isOpenAt m f → b ≡ false → false ≡ isThree l m
+  unfolding isThree
+  three-first f b h ef eb z =
+      let t : eqb (l .size) 3 ≡ true = eq-eqb (l .size) 3 h in
+      let o : isOpenAt m (afterOf m (l .current)) ≡ false = ap (isOpenAt m) (sym ef) ∙ sym eb ∙ z in
+      rw (t, o)
 
-  pub forward-builds : (f c v : ℕ) (b : Bool) (r : Plan) → 4 ≤ l .size → f ≡ afterOf m (l .current) → b ≡ isOpenAt m f → b ≡ true → c ≡ afterOf m f
-      → v ≡ vertexOf m c → r ≡ planAt l m v 1 0 0 0 0 → Builds r ≡ forwardPlan l m
+  pub three-is : (f c : ℕ) (b d : Bool) → l .size ≡ 3 → f ≡ afterOf m (l .current) → b ≡ isOpenAt m f → b ≡ true → c ≡ afterOf m f → d ≡ isOpenAt m c
+      → d ≡ isThree l m
+  unfolding isThree
+  three-is f c b d h ef eb z ec ed =
+      let t : eqb (l .size) 3 ≡ true = eq-eqb (l .size) 3 h in
+      let o : isOpenAt m (afterOf m (l .current)) ≡ true = ap (isOpenAt m) (sym ef) ∙ sym eb ∙ z in
+      let q : d ≡ isOpenAt m (afterOf m (afterOf m (l .current))) = ed ∙ ap (isOpenAt m) (ec ∙ ap (afterOf m) ef) in
+      rw (t, o) q
+
+  pub forward-small : l .size < 3 → Refused 16 ≡ forwardPlan l m
   unfolding forwardPlan
-  forward-builds f c v b r h ef eb z ec ev er =
-      yes-if _ _ _ (le-leb 4 (l .size) h)
+  forward-small h = no-if _ _ (lt-leb 3 (l .size) h)
+
+  pub forward-marked : (f : ℕ) (b : Bool) → 3 ≤ l .size → f ≡ afterOf m (l .current) → b ≡ isOpenAt m f → b ≡ false → Refused 16 ≡ forwardPlan l m
+  unfolding forwardPlan
+  forward-marked f b h ef eb z = yes-if _ _ _ (le-leb 3 (l .size) h) (no-if _ _ (sym (eb ∙ ap (isOpenAt m) ef) ∙ z))
+
+  pub forward-three : (f : ℕ) (b t : Bool) → 3 ≤ l .size → f ≡ afterOf m (l .current) → b ≡ isOpenAt m f → b ≡ true → t ≡ isThree l m → t ≡ true
+      → Refused 16 ≡ forwardPlan l m
+  unfolding forwardPlan
+  forward-three f b t h ef eb z et y =
+      yes-if _ _ _ (le-leb 3 (l .size) h) (yes-if _ _ _ (sym (eb ∙ ap (isOpenAt m) ef) ∙ z) (no-if _ _ (ap not (sym et ∙ y))))
+
+  pub forward-builds : (f c v : ℕ) (b t : Bool) (r : Plan) → 3 ≤ l .size → f ≡ afterOf m (l .current) → b ≡ isOpenAt m f → b ≡ true → t ≡ isThree l m
+      → t ≡ false → c ≡ afterOf m f → v ≡ vertexOf m c → r ≡ planAt l m v 1 0 0 0 0 → Builds r ≡ forwardPlan l m
+  unfolding forwardPlan
+  forward-builds f c v b t r h ef eb z et y ec ev er =
+      yes-if _ _ _ (le-leb 3 (l .size) h)
       (yes-if _ _ _ (sym (eb ∙ ap (isOpenAt m) ef) ∙ z)
-      (ap Builds (er ∙ ap (λ (x : ℕ). planAt l m x 1 0 0 0 0) (ev ∙ ap (vertexOf m) (ec ∙ ap (afterOf m) ef)))))
+      (yes-if _ _ _ (ap not (sym et ∙ y))
+      (ap Builds (er ∙ ap (λ (x : ℕ). planAt l m x 1 0 0 0 0) (ev ∙ ap (vertexOf m) (ec ∙ ap (afterOf m) ef))))))
 
-  pub backward-small : l .size < 4 → Refused 16 ≡ backwardPlan l m
+  pub backward-small : l .size < 3 → Refused 16 ≡ backwardPlan l m
   unfolding backwardPlan
-  backward-small h = no-if _ _ (lt-leb 4 (l .size) h)
+  backward-small h = no-if _ _ (lt-leb 3 (l .size) h)
 
-  pub backward-marked : (c : ℕ) (b : Bool) → 4 ≤ l .size → c ≡ beforeOf m (l .current) → b ≡ isOpenAt m c → b ≡ false → Refused 16 ≡ backwardPlan l m
+  pub backward-marked : (c : ℕ) (b : Bool) → 3 ≤ l .size → c ≡ beforeOf m (l .current) → b ≡ isOpenAt m c → b ≡ false → Refused 16 ≡ backwardPlan l m
   unfolding backwardPlan
-  backward-marked c b h ec eb z = yes-if _ _ _ (le-leb 4 (l .size) h) (no-if _ _ (sym (eb ∙ ap (isOpenAt m) ec) ∙ z))
+  backward-marked c b h ec eb z = yes-if _ _ _ (le-leb 3 (l .size) h) (no-if _ _ (sym (eb ∙ ap (isOpenAt m) ec) ∙ z))
 
-  pub backward-builds : (c v : ℕ) (b : Bool) (r : Plan) → 4 ≤ l .size → c ≡ beforeOf m (l .current) → b ≡ isOpenAt m c → b ≡ true
-      → v ≡ vertexOf m c → r ≡ planAt l m v 0 1 0 0 0 → Builds r ≡ backwardPlan l m
+  pub backward-three : (c : ℕ) (b t : Bool) → 3 ≤ l .size → c ≡ beforeOf m (l .current) → b ≡ isOpenAt m c → b ≡ true → t ≡ isThree l m → t ≡ true
+      → Refused 16 ≡ backwardPlan l m
   unfolding backwardPlan
-  backward-builds c v b r h ec eb z ev er =
-      yes-if _ _ _ (le-leb 4 (l .size) h)
+  backward-three c b t h ec eb z et y =
+      yes-if _ _ _ (le-leb 3 (l .size) h) (yes-if _ _ _ (sym (eb ∙ ap (isOpenAt m) ec) ∙ z) (no-if _ _ (ap not (sym et ∙ y))))
+
+  pub backward-builds : (c v : ℕ) (b t : Bool) (r : Plan) → 3 ≤ l .size → c ≡ beforeOf m (l .current) → b ≡ isOpenAt m c → b ≡ true → t ≡ isThree l m
+      → t ≡ false → v ≡ vertexOf m c → r ≡ planAt l m v 0 1 0 0 0 → Builds r ≡ backwardPlan l m
+  unfolding backwardPlan
+  backward-builds c v b t r h ec eb z et y ev er =
+      yes-if _ _ _ (le-leb 3 (l .size) h)
       (yes-if _ _ _ (sym (eb ∙ ap (isOpenAt m) ec) ∙ z)
-      (ap Builds (er ∙ ap (λ (x : ℕ). planAt l m x 0 1 0 0 0) (ev ∙ ap (vertexOf m) ec))))
+      (yes-if _ _ _ (ap not (sym et ∙ y)) (ap Builds (er ∙ ap (λ (x : ℕ). planAt l m x 0 1 0 0 0) (ev ∙ ap (vertexOf m) ec)))))
 
   pub border-marks : (f a b : ℕ) → f ≡ afterOf m (l .current) → a ≡ vertexOf m (l .current) → b ≡ vertexOf m f → Marks a b ≡ borderPlan l m
   unfolding borderPlan
   border-marks f a b ef ea eb = ap₂ Marks ea (eb ∙ ap (vertexOf m) ef)
 
-  pub split-low : (i : ℕ) → i < 2 → Refused 16 ≡ splitPlan l m i
-  unfolding splitPlan
-  split-low i h = no-if _ _ (lt-leb 2 i h)
+  -- beyond an edge next to the current one
+  pub beside-next-other : (i : ℕ) → (i ≡ 1 → ⊥) → false ≡ besideNext l m i
+  unfolding besideNext
+  beside-next-other i h = let t : eqb i 1 ≡ false = ne-eqb i 1 h in rw t
 
-  pub split-high : (i : ℕ) → 2 ≤ i → l .size < i + 3 → Refused 16 ≡ splitPlan l m i
-  unfolding splitPlan
-  split-high i g h = yes-if _ _ _ (le-leb 2 i g) (no-if _ _ (lt-leb (i + 3) (l .size) h))
+  pub beside-next-is : (i f : ℕ) (b : Bool) → i ≡ 1 → f ≡ afterOf m (l .current) → b ≡ isOpenAt m f → b ≡ besideNext l m i
+  unfolding besideNext
+  beside-next-is i f b h ef eb = let t : eqb i 1 ≡ true = eq-eqb i 1 h in rw t (eb ∙ ap (isOpenAt m) ef)
 
-  pub split-builds : (i f c v : ℕ) (r : Plan) → 2 ≤ i → i + 3 ≤ l .size → f ≡ afterOf m (l .current) → c ≡ walked m i f → v ≡ vertexOf m c
-      → r ≡ planAt l m v 1 1 0 0 c → Builds r ≡ splitPlan l m i
+  pub beside-last-other : (i : ℕ) → (i + 2 ≡ l .size → ⊥) → false ≡ besideLast l m i
+  unfolding besideLast
+  beside-last-other i h = let t : eqb (i + 2) (l .size) ≡ false = ne-eqb (i + 2) (l .size) h in rw t
+
+  pub beside-last-is : (i c : ℕ) (b : Bool) → i + 2 ≡ l .size → c ≡ beforeOf m (l .current) → b ≡ isOpenAt m c → b ≡ besideLast l m i
+  unfolding besideLast
+  beside-last-is i c b h ec eb = let t : eqb (i + 2) (l .size) ≡ true = eq-eqb (i + 2) (l .size) h in rw t (eb ∙ ap (isOpenAt m) ec)
+
+  pub split-low : (i : ℕ) → i < 1 → Refused 16 ≡ splitPlan l m i
   unfolding splitPlan
-  split-builds i f c v r g h ef ec ev er =
+  split-low i h = no-if _ _ (lt-leb 1 i h)
+
+  pub split-high : (i : ℕ) → 1 ≤ i → l .size < i + 2 → Refused 16 ≡ splitPlan l m i
+  unfolding splitPlan
+  split-high i g h = yes-if _ _ _ (le-leb 1 i g) (no-if _ _ (lt-leb (i + 2) (l .size) h))
+
+  pub split-next : (i : ℕ) (b : Bool) → 1 ≤ i → i + 2 ≤ l .size → b ≡ besideNext l m i → b ≡ true → Refused 16 ≡ splitPlan l m i
+  unfolding splitPlan
+  split-next i b g h eb z = yes-if _ _ _ (le-leb 1 i g) (yes-if _ _ _ (le-leb (i + 2) (l .size) h) (no-if _ _ (ap not (sym eb ∙ z))))
+
+  pub split-last : (i : ℕ) (b d : Bool) → 1 ≤ i → i + 2 ≤ l .size → b ≡ besideNext l m i → b ≡ false → d ≡ besideLast l m i → d ≡ true
+      → Refused 16 ≡ splitPlan l m i
+  unfolding splitPlan
+  split-last i b d g h eb z ed y =
+      yes-if _ _ _ (le-leb 1 i g)
+      (yes-if _ _ _ (le-leb (i + 2) (l .size) h) (yes-if _ _ _ (ap not (sym eb ∙ z)) (no-if _ _ (ap not (sym ed ∙ y)))))
+
+  pub split-builds : (i f c v : ℕ) (b d : Bool) (r : Plan) → 1 ≤ i → i + 2 ≤ l .size → b ≡ besideNext l m i → b ≡ false → d ≡ besideLast l m i → d ≡ false
+      → f ≡ afterOf m (l .current) → c ≡ walked m i f → v ≡ vertexOf m c → r ≡ planAt l m v 1 1 0 0 c → Builds r ≡ splitPlan l m i
+  unfolding splitPlan
+  split-builds i f c v b d r g h eb z ed y ef ec ev er =
       let w : c ≡ walked m i (afterOf m (l .current)) = ec ∙ ap (walked m i) ef in
-      yes-if _ _ _ (le-leb 2 i g)
-      (yes-if _ _ _ (le-leb (i + 3) (l .size) h)
-      (ap Builds (er ∙ ap₂ (λ (x y : ℕ). planAt l m x 1 1 0 0 y) (ev ∙ ap (vertexOf m) w) w)))
+      yes-if _ _ _ (le-leb 1 i g)
+      (yes-if _ _ _ (le-leb (i + 2) (l .size) h)
+      (yes-if _ _ _ (ap not (sym eb ∙ z))
+      (yes-if _ _ _ (ap not (sym ed ∙ y))
+      (ap Builds (er ∙ ap₂ (λ (x y : ℕ). planAt l m x 1 1 0 0 y) (ev ∙ ap (vertexOf m) w) w)))))
 
   pub close-other : (l .size ≡ 3 → ⊥) → Refused 16 ≡ closePlan l m
   unfolding closePlan
@@ -143,14 +207,14 @@ module _ (l : Loops) (m : List ℕ) where
 
 -- the walks of a split and of a union stay inside
 module _ (n : ℕ) (l : Loops) (m : List ℕ) (h : Near n l m) where
-  pub split-walk : (i f : ℕ) → i + 3 ≤ l .size → f ≡ afterOf m (l .current) → (j : ℕ) → j ≤ i → walked m j f < n
+  pub split-walk : (i f : ℕ) → i + 2 ≤ l .size → f ≡ afterOf m (l .current) → (j : ℕ) → j ≤ i → walked m j f < n
   unfolding walked
   split-walk i f g ef j k = rw ef (h .ahead (suc j) (omega (arith, g, k)))
 
-  pub split-near : (i f : ℕ) → i + 3 ≤ l .size → f ≡ afterOf m (l .current) → (j : ℕ) → j < i → 4 * walked m j f + 3 < length m
+  pub split-near : (i f : ℕ) → i + 2 ≤ l .size → f ≡ afterOf m (l .current) → (j : ℕ) → j < i → 4 * walked m j f + 3 < length m
   split-near i f g ef j k = omega (arith, split-walk i f g ef j (omega (arith, k)), h .long)
 
-  pub split-place : (i f c : ℕ) → i + 3 ≤ l .size → f ≡ afterOf m (l .current) → c ≡ walked m i f → 4 * c + 3 < length m
+  pub split-place : (i f c : ℕ) → i + 2 ≤ l .size → f ≡ afterOf m (l .current) → c ≡ walked m i f → 4 * c + 3 < length m
   split-place i f c g ef ec = rw ec (omega (arith, split-walk i f g ef i (omega arith), h .long))
 
   module _ (p j k s : ℕ) (low : 1 ≤ p) (high : p ≤ l .live - 1) (ek : k ≡ at m (5 * n + 2 * (l .live - 1 - p) + 1)) (jk : j < k)

@@ -5,7 +5,7 @@ use rings::surgery::cut_next;
 use rings::surgery::end_loop;
 use rings::surgery::grow;
 use rings::surgery::join_loop;
-use rings::surgery::mark_edge;
+use rings::surgery::mark_border;
 use rings::surgery::split_loop;
 use rings::surgery::start_loop;
 use rules::Operation;
@@ -25,7 +25,7 @@ pub fn alter(m: &mut [u16], n: usize, l: Loops, u: u16, o: Operation, c: u16) ->
         Operation::Backward => cut_current(m, n, l),
         // Never met: an edge that is marked has no plan.
         Operation::Border => {
-            let k = mark_edge(m, n, l);
+            let k = mark_border(m, n, l);
             Loops {
                 live: k.live,
                 current: k.current,

@@ -15,7 +15,7 @@ use memory::Front;
 use memory::Loops;
 use memory::Plan;
 use rings::stack::free_all;
-use rings::surgery::mark_edge;
+use rings::surgery::mark_border;
 use rules::Counts;
 use rules::Operation;
 use rules::Peaks;
@@ -84,6 +84,6 @@ pub fn mark(m: &mut [u16], n: usize, s: Front) -> Front
     ensures memory { λ _. ⌜ now (m .exit) ≡ markedHeld n (s .loops) (now (m .entry)) .memory ⌝ }
 {
     let old = s.loops;
-    let l = mark_edge(m, n, old);
+    let l = mark_border(m, n, old);
     count_marked(n, s, l)
 }

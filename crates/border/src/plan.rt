@@ -14,7 +14,7 @@ ghost use mathlib.Core.Path.{_≡_};
 ghost use Prim.Native.Nat.{_+_, _*_, _-_, _≤_, _<_};
 ghost use lib.ListN.{length};
 ghost use Rattle.memory.specs.Layout.{at};
-ghost use Rattle.memory.specs.Decision.{planAt, newPlan, forwardPlan, backwardPlan, borderPlan, splitPlan, closePlan, unionPlan, startPlan};
+ghost use Rattle.memory.specs.Decision.{planAt, isThree, besideNext, besideLast, newPlan, forwardPlan, backwardPlan, borderPlan, splitPlan, closePlan, unionPlan, startPlan};
 ghost use Rattle.memory.specs.Near.{Near};
 
 // The triangle b a c at the current edge, from a to b, and its numbers.
@@ -47,18 +47,40 @@ pub fn new_plan(m: &[u16], n: usize, l: Loops, u: u16) -> Decided
     Decided::Builds(plan_at(m, l, u, 1, 1, 1, 0, 0))
 }
 
-// Forward, with four places or more and the edge after b open: c is the vertex after b, and a→c is a new edge.
+// Whether the current loop has three places, all edges open: then only close glues.
+fn is_three(m: &[u16], n: usize, l: Loops) -> bool
+    requires { ⌜ Near n l (now m) ⌝ }
+    ensures { λ r. ⌜ r ≡ isThree l (now (m .entry)) ⌝ }
+{
+    let e = l.current;
+    let size = l.size;
+    if size != 3 {
+        return false;
+    }
+    let f = after_of(m, e);
+    if is_open(m, f) {
+        let c = after_of(m, f);
+        return is_open(m, c);
+    }
+    false
+}
+
+// Forward, with three places or more, not all edges of three open, and the edge after b open: c is the vertex after b, and a→c is
+// a new edge.
 pub fn forward_plan(m: &[u16], n: usize, l: Loops) -> Decided
     requires { ⌜ Near n l (now m) ⌝ }
     ensures { λ r. ⌜ r ≡ forwardPlan l (now (m .entry)) ⌝ }
 {
     let e = l.current;
     let size = l.size;
-    if size < 4 {
+    if size < 3 {
         return Decided::Refused(16);
     }
     let f = after_of(m, e);
     if is_open(m, f) {
+        if is_three(m, n, l) {
+            return Decided::Refused(16);
+        }
         let c = after_of(m, f);
         let v = vertex_of(m, c);
         return Decided::Builds(plan_at(m, l, v, 1, 0, 0, 0, 0));
@@ -66,18 +88,22 @@ pub fn forward_plan(m: &[u16], n: usize, l: Loops) -> Decided
     Decided::Refused(16)
 }
 
-// Backward, with four places or more and the edge into a open: c is the vertex before a, and c→b is a new edge.
+// Backward, with three places or more, not all edges of three open, and the edge into a open: c is the vertex before a, and c→b
+// is a new edge.
 pub(crate) fn backward_plan(m: &[u16], n: usize, l: Loops) -> Decided
     requires { ⌜ Near n l (now m) ⌝ }
     ensures { λ r. ⌜ r ≡ backwardPlan l (now (m .entry)) ⌝ }
 {
     let e = l.current;
     let size = l.size;
-    if size < 4 {
+    if size < 3 {
         return Decided::Refused(16);
     }
     let c = before_of(m, e);
     if is_open(m, c) {
+        if is_three(m, n, l) {
+            return Decided::Refused(16);
+        }
         let v = vertex_of(m, c);
         return Decided::Builds(plan_at(m, l, v, 0, 1, 0, 0, 0));
     }
@@ -96,17 +122,51 @@ pub(crate) fn border_plan(m: &[u16], n: usize, l: Loops) -> Decided
     Decided::Marks(a, b)
 }
 
-// Split i, with 2 ≤ i ≤ k − 3 of k places: c is i places after b, and both its edges are new.
+// Whether place i after b is beyond the edge after b, which is open.
+fn is_beside_next(m: &[u16], n: usize, l: Loops, i: u16) -> bool
+    requires { ⌜ Near n l (now m) ⌝ }
+    ensures { λ r. ⌜ r ≡ besideNext l (now (m .entry)) i ⌝ }
+{
+    let e = l.current;
+    if i != 1 {
+        return false;
+    }
+    let f = after_of(m, e);
+    is_open(m, f)
+}
+
+// Whether it is beyond the edge into a, which is open.
+fn is_beside_last(m: &[u16], n: usize, l: Loops, i: u16) -> bool
+    requires { ⌜ Near n l (now m) ⌝ }
+    ensures { λ r. ⌜ r ≡ besideLast l (now (m .entry)) i ⌝ }
+{
+    let e = l.current;
+    let size = l.size;
+    if (i as usize) + 2 != (size as usize) {
+        return false;
+    }
+    let c = before_of(m, e);
+    is_open(m, c)
+}
+
+// Split i, with 1 ≤ i ≤ k − 2 of k places, c not beyond an open edge next to the current one: c is i places after b, and both its
+// edges are new.
 pub(crate) fn split_plan(m: &[u16], n: usize, l: Loops, i: u16) -> Decided
     requires { ⌜ Near n l (now m) ⌝ }
     ensures { λ r. ⌜ r ≡ splitPlan l (now (m .entry)) i ⌝ }
 {
     let e = l.current;
     let size = l.size;
-    if i < 2 {
+    if i < 1 {
         return Decided::Refused(16);
     }
-    if (size as usize) < (i as usize) + 3 {
+    if (size as usize) < (i as usize) + 2 {
+        return Decided::Refused(16);
+    }
+    if is_beside_next(m, n, l, i) {
+        return Decided::Refused(16);
+    }
+    if is_beside_last(m, n, l, i) {
         return Decided::Refused(16);
     }
     let f = after_of(m, e);

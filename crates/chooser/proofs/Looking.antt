@@ -118,7 +118,7 @@ module _ (l : Loops) (m : List ℕ) (x y : ℕ) where
 -- the current place
 pub current-long : (l : Loops) (m : List ℕ) → Seekable l m → 4 * l .current + 3 < length m
 unfolding walked
-current-long l m h = h .ahead 0 (omega (arith, h .three)) .0
+current-long l m h = h .ahead 0 (omega (arith, h .two)) .0
 
 -- the three places
 module _ (l : Loops) (m : List ℕ) (h : Seekable l m) where

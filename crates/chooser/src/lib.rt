@@ -1,8 +1,10 @@
 // The packer's choice of the place of c, at an edge from a to b with the triangle b a c, where c has a place already.
 // The meaning of the contracts stands in rules/specs/Choice.antt and choosing/specs/.
+mod name;
 mod seek;
 mod turn;
 
+use crate::name::place_operation;
 use crate::seek::seat_of;
 use crate::turn::turn_in;
 use crate::turn::turn_out;
@@ -11,10 +13,10 @@ use choosing::Seat;
 use memory::Loops;
 use mesh::Links;
 use rules::Operation;
-ghost use Prim.Native.Nat.{_-_, _<_};
+ghost use Prim.Native.Nat.{_<_};
 ghost use mathlib.Core.Path.{_≡_};
 ghost use Rattle.rules.specs.Limits.{maxPlaces};
-ghost use Rattle.rules.specs.Choice.{choosePlace, operationFor};
+ghost use Rattle.rules.specs.Choice.{choosePlace};
 ghost use Rattle.memory.specs.Stands.{loopsIn};
 ghost use Rattle.choosing.specs.Choosable.{unbuiltOf, Choosable};
 ghost use Rattle.choosing.specs.Places.{enterSeat, leaveSeat};
@@ -72,35 +74,6 @@ fn following(k: u16, i: u16) -> u16
     i + 1
 }
 
-// A place counted from e on, as it is counted from f on.
-fn from_f(i: u16) -> u16
-    ensures { λ r. ⌜ r ≡ i - 1 ⌝ }
-{
-    if i < 1 {
-        return 0;
-    }
-    i - 1
-}
-
-// The operation for place i of loop w, 0 the current one, which has k places.
-fn operation_for(k: u16, w: u16, i: u16) -> Operation
-    ensures { λ r. ⌜ r ≡ operationFor k w i ⌝ }
-{
-    if 0 < w {
-        return Operation::Union(w, i);
-    }
-    if k == 3 {
-        return Operation::Close;
-    }
-    if i == 2 {
-        return Operation::Forward;
-    }
-    if (i as usize) + 1 == k as usize {
-        return Operation::Backward;
-    }
-    Operation::Split(from_f(i))
-}
-
 // The operation for the place of c from whose open edges the triangle b a c is reached by turning about c, through triangles
 // that are not built. An edge that comes into c ends at that place, one that leaves c starts there.
 pub fn choose_place(
@@ -116,14 +89,13 @@ pub fn choose_place(
     requires { ⌜ Choosable (now list) (now chains) (now built) (now m) l a b c ⌝ }
     ensures { λ r. ⌜ r ≡ choosePlace a b c (unbuiltOf (now (built .entry)) (now (list .entry))) (loopsIn maxPlaces l (now (m .entry))) ⌝ }
 {
-    let k = l.size;
     let s = enter_seat(list, chains, built, m, l, a, b, c);
     if let Seat::At(w, n, i) = s {
-        return operation_for(k, w, following(n, i));
+        return place_operation(m, l, w, following(n, i));
     }
     let t = leave_seat(list, chains, built, m, l, a, b, c);
     if let Seat::At(w, _, i) = t {
-        return operation_for(k, w, i);
+        return place_operation(m, l, w, i);
     }
     // Never met in an accepted list.
     Operation::Border

@@ -1,52 +1,72 @@
 -- The two places found in the memory give the operation that the definition chooses.
 -- Assumes nothing.
-use Prim.Native.Nat.{ℕ, _≤_, _<_}
+use Prim.Native.Nat.{ℕ, zero, suc, _+_, _-_, _<_}
 use native.Mathlib.Omega.{arith}
-use mathlib.Core.Bool.{false}
+use mathlib.Core.Bool.{Bool, true, false, _&&_}
 use mathlib.Core.List.{List, [], _∷_}
 use mathlib.Core.Path.{_≡_, refl, sym, ap, ap₂, _∙_, subst}
-use lib.ListN.{length}
+use lib.ListN.{length, drop}
+use lib.Dec.{eqb}
+use borrow.Author.Tests.{ne-eqb}
 use Rattle.rules.specs.declared.Triangle.{Triangle}
 use Rattle.rules.specs.declared.Operation.{Operation}
-use Rattle.rules.specs.declared.Operation.the-variants.{Border}
+use Rattle.rules.specs.declared.Operation.the-variants.{Forward, Backward, Border, Split, Close}
 use Rattle.rules.specs.Limits.{maxPlaces}
-use Rattle.rules.specs.Ring.{Ring, loopAt}
-use Rattle.rules.specs.Choice.{Spot, nowhere, spot, spotOf, operationFor, following, sizeOf, turnIn, turnOut, choosePlace}
-use Rattle.links.specs.Memory.{namedLoops}
-use Rattle.links.proofs.Named.{named-length}
+use Rattle.rules.specs.Ring.{Node, opened, marked, Ring, firstOpen, allOpen, lastOpen, loopAt}
+use Rattle.rules.specs.Choice.{Spot, nowhere, spot, spotOf, operationFor, following, sizeOf, turnIn, turnOut, choosePlace, afterCurrent}
 use Rattle.gap.proofs.Spotting.{spot-none}
 use Rattle.chains.specs.Chains.{Linked}
 use Rattle.memory.specs.declared.Loops.{Loops}
-use Rattle.memory.specs.Layout.{verticesOf}
-use Rattle.memory.specs.Stands.{StandsAt, ringsIn, loopsIn}
+use Rattle.memory.specs.Layout.{beforeOf, afterOf}
+use Rattle.memory.specs.Decision.{isOpenAt}
+use Rattle.memory.specs.Stands.{ringsIn, loopsIn}
 use Rattle.choosing.specs.declared.Seat.{Seat}
 use Rattle.choosing.specs.declared.Seat.the-variants.{Nowhere, At}
 use Rattle.choosing.specs.declared.Turned.{Turned}
 use Rattle.choosing.specs.Choosable.{unbuiltOf, Choosable}
-use Rattle.choosing.specs.Seeking.{seatIn, seatOf, placeFor, Seekable}
+use Rattle.choosing.specs.Seeking.{seatIn, seatOf, operationBy, placeFor, Seekable}
 use Rattle.choosing.specs.Turning.{EndsIn, EndsOut}
 use Rattle.choosing.specs.Places.{enterSeat, leaveSeat}
 use Rattle.choosing.proofs.Turning.{in-turned, out-turned, differ}
-use Rattle.choosing.proofs.Seeking.{seat-is, seekable, Within, within}
+use Rattle.choosing.proofs.Seeking.{seat-is, seekable, seen-is, Within, within}
 
--- the current loop's places
-size-is : (l : Loops) (m : List ℕ) (rs : List Ring) → StandsAt maxPlaces l m rs → 1 ≤ l .live
-    → l .size ≡ sizeOf (namedLoops (verticesOf maxPlaces m) rs) 0
-unfolding loopAt namedLoops
-size-is l m [] st h = absurd (omega (arith, h, st .heads))
-size-is l m (r ∷ rs) st h = st .heads .size ∙ sym (named-length (verticesOf maxPlaces m) r)
+-- three places, all of their edges open: the edge after f and the edge into e are
+all-open : (ps : List Node) → eqb (suc (length ps)) 3 && (firstOpen ps && lastOpen ps) ≡ eqb (suc (length ps)) 3 && allOpen ps
+unfolding allOpen lastOpen
+all-open [] = refl
+all-open (p ∷ []) = refl
+all-open (opened v ∷ (opened w ∷ [])) = refl
+all-open (opened v ∷ (marked w ∷ [])) = refl
+all-open (marked v ∷ (q ∷ [])) = refl
+all-open (p ∷ (q ∷ (r ∷ ps))) =
+    let k = suc (length (p ∷ (q ∷ (r ∷ ps)))) in
+    let z : eqb k 3 ≡ false = ne-eqb k 3 (λ h. omega arith) in
+    let l = p ∷ (q ∷ (r ∷ ps)) in
+    ap (λ (t : Bool). t && (firstOpen l && lastOpen l)) z ∙ sym (ap (λ (t : Bool). t && allOpen l) z)
+
+by-flags : (ps : List Node) (w i : ℕ) → operationBy (suc (length ps)) (firstOpen ps) (lastOpen ps) w i ≡ operationFor ps w i
+unfolding operationBy
+by-flags ps zero i =
+    ap (λ (t : Bool). elim t as (λ x. Operation) [
+      | true ↦ Close
+      | false ↦ elim (eqb i 2 && firstOpen ps) [ true ↦ Forward | false ↦ elim (eqb (i + 1) (suc (length ps)) && lastOpen ps) [ true ↦ Backward | false ↦ Split (i - 1) ] ]
+    ]) (all-open ps)
+by-flags ps (suc w) i = refl
 
 -- the definition, by its two places
-choice-by : (a b c : ℕ) (ts : List Triangle) (ls : List Ring)
-    → placeFor (sizeOf ls 0) (seatOf ls (spotOf 0 (turnIn (length ts) c b ts) c ls)) (seatOf ls (spotOf 0 c (turnOut (length ts) c a ts) ls))
+choice-by : (a b c : ℕ) (ts : List Triangle) (ls : List Ring) → let ps = afterCurrent ls in
+    placeFor (suc (length ps)) (firstOpen ps) (lastOpen ps) (seatOf ls (spotOf 0 (turnIn (length ts) c b ts) c ls)) (seatOf ls (spotOf 0 c (turnOut (length ts) c a ts) ls))
     ≡ choosePlace a b c ts ls
 unfolding choosePlace placeFor
 choice-by a b c ts ls = go (spotOf 0 (turnIn (length ts) c b ts) c ls) refl (spotOf 0 c (turnOut (length ts) c a ts) ls) refl
   where
+    ps : List Node
+    ps = afterCurrent ls
+
     go : (s : Spot) → spotOf 0 (turnIn (length ts) c b ts) c ls ≡ s → (t : Spot) → spotOf 0 c (turnOut (length ts) c a ts) ls ≡ t
-        → placeFor (sizeOf ls 0) (seatOf ls s) (seatOf ls t) ≡ choosePlace a b c ts ls
-    go (spot w i) e t f = rw (choosePlace, e) refl
-    go nowhere e (spot w i) f = rw (choosePlace, e, f) refl
+        → placeFor (suc (length ps)) (firstOpen ps) (lastOpen ps) (seatOf ls s) (seatOf ls t) ≡ choosePlace a b c ts ls
+    go (spot w i) e t f = by-flags ps w (following (sizeOf ls w) i) ∙ rw (choosePlace, e) refl
+    go nowhere e (spot w i) f = by-flags ps w i ∙ rw (choosePlace, e, f) refl
     go nowhere e nowhere f = rw (choosePlace, e, f) refl
 
 module _ (xs cs flags m : List ℕ) (l : Loops) (a b c : ℕ) (h : Choosable xs cs flags m l a b c) where
@@ -56,8 +76,15 @@ module _ (xs cs flags m : List ℕ) (l : Loops) (a b c : ℕ) (h : Choosable xs 
   abbrev ts : List Triangle
   ts = unbuiltOf flags xs
 
+  -- whether the edge after f is open, and the edge into e
+  abbrev next : Bool
+  next = isOpenAt m (afterOf m (l .current))
+
+  abbrev last : Bool
+  last = isOpenAt m (beforeOf m (l .current))
+
   seat : (x y : ℕ) → seatIn l m x y ≡ seatOf ls (spotOf 0 x y ls)
-  seat x y = seat-is l m (ringsIn maxPlaces l m) (h .stands) (h .live) (h .three) (h .unique) x y
+  seat x y = seat-is l m (ringsIn maxPlaces l m) (h .stands) (h .live) (h .two) (h .unique) x y
 
   -- what the two turns and the search ask
   pub enter-asks : Linked xs cs × (b ≡ c → ⊥)
@@ -67,7 +94,7 @@ module _ (xs cs flags m : List ℕ) (l : Loops) (a b c : ℕ) (h : Choosable xs 
   leave-asks = (h .linked, differ xs cs flags (h .linked) a b c (h .number) (h .corner) (h .found) (h .built) .0)
 
   pub seek-asks : Seekable l m
-  seek-asks = seekable l m (ringsIn maxPlaces l m) (h .stands) (h .live) (h .three)
+  seek-asks = seekable l m (ringsIn maxPlaces l m) (h .stands) (h .live) (h .two)
 
   -- the place where the edge into c starts
   enter-last : (r : Turned) → EndsIn xs flags c b r → r .last ≡ turnIn (length ts) c b ts
@@ -102,24 +129,27 @@ module _ (xs cs flags m : List ℕ) (l : Loops) (a b c : ℕ) (h : Choosable xs 
       ∙ ap (λ (x : ℕ). seatOf ls (spotOf 0 c x ls)) (leave-last r e)
 
   -- the operation
-  pub chosen : (s t : Seat) → s ≡ enterSeat xs flags m l b c → t ≡ leaveSeat xs flags m l a c → placeFor (l .size) s t ≡ choosePlace a b c ts ls
+  pub chosen : (s t : Seat) → s ≡ enterSeat xs flags m l b c → t ≡ leaveSeat xs flags m l a c → placeFor (l .size) next last s t ≡ choosePlace a b c ts ls
   unfolding enterSeat leaveSeat
   chosen s t p q =
-      ap (λ (k : ℕ). placeFor k s t) (size-is l m (ringsIn maxPlaces l m) (h .stands) (h .live))
-      ∙ (ap₂ (placeFor (sizeOf ls 0)) p q ∙ choice-by a b c ts ls)
+      let z = seen-is l m (ringsIn maxPlaces l m) (h .stands) (h .live) (h .two) in
+      let ps = afterCurrent ls in
+      ap (λ (k : ℕ). placeFor k next last s t) (z .size)
+      ∙ (ap₂ (λ (u v : Bool). placeFor (suc (length ps)) u v s t) (z .next) (z .last)
+      ∙ (ap₂ (placeFor (suc (length ps)) (firstOpen ps) (lastOpen ps)) p q ∙ choice-by a b c ts ls))
 
   pub chosen-enter : (s : Seat) (w k i j : ℕ) (o : Operation) → s ≡ enterSeat xs flags m l b c → s ≡ At w k i → j ≡ following k i
-      → o ≡ operationFor (l .size) w j → o ≡ choosePlace a b c ts ls
+      → o ≡ operationBy (l .size) (isOpenAt m (afterOf m (l .current))) (isOpenAt m (beforeOf m (l .current))) w j → o ≡ choosePlace a b c ts ls
   unfolding placeFor
   chosen-enter s w k i j o p e f q =
-      q ∙ ap (operationFor (l .size) w) f ∙ (ap (λ (z : Seat). placeFor (l .size) z (leaveSeat xs flags m l a c)) (sym e) ∙ chosen s (leaveSeat xs flags m l a c) p refl)
+      q ∙ ap (operationBy (l .size) next last w) f ∙ (ap (λ (z : Seat). placeFor (l .size) next last z (leaveSeat xs flags m l a c)) (sym e) ∙ chosen s (leaveSeat xs flags m l a c) p refl)
 
   pub chosen-leave : (s t : Seat) (w k i : ℕ) (o : Operation) → s ≡ enterSeat xs flags m l b c → s ≡ Nowhere → t ≡ leaveSeat xs flags m l a c → t ≡ At w k i
-      → o ≡ operationFor (l .size) w i → o ≡ choosePlace a b c ts ls
+      → o ≡ operationBy (l .size) (isOpenAt m (afterOf m (l .current))) (isOpenAt m (beforeOf m (l .current))) w i → o ≡ choosePlace a b c ts ls
   unfolding placeFor
-  chosen-leave s t w k i o p e q f g = g ∙ (ap₂ (placeFor (l .size)) (sym e) (sym f) ∙ chosen s t p q)
+  chosen-leave s t w k i o p e q f g = g ∙ (ap₂ (placeFor (l .size) next last) (sym e) (sym f) ∙ chosen s t p q)
 
   pub chosen-none : (s t : Seat) → s ≡ enterSeat xs flags m l b c → s ≡ Nowhere → t ≡ leaveSeat xs flags m l a c → t ≡ Nowhere
       → Border ≡ choosePlace a b c ts ls
   unfolding placeFor
-  chosen-none s t p e q f = ap₂ (placeFor (l .size)) (sym e) (sym f) ∙ chosen s t p q
+  chosen-none s t p e q f = ap₂ (placeFor (l .size) next last) (sym e) (sym f) ∙ chosen s t p q

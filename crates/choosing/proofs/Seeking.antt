@@ -5,21 +5,22 @@ use native.Mathlib.Omega.{arith}
 use mathlib.Core.Bool.{Bool, true, false, _&&_}
 use mathlib.Core.List.{List, [], _∷_}
 use mathlib.Core.Path.{_≡_, refl, sym, ap, ap₂, _∙_, subst}
-use lib.ListN.{length, getD}
+use lib.ListN.{length, drop, getD}
 use lib.Dec.{eqb}
 use borrow.Author.Tests.{eqb-true, lt-ltb, le-ltb}
 use Rattle.rules.specs.Limits.{maxPlaces}
 use Rattle.rules.specs.Count.{num}
-use Rattle.rules.specs.Ring.{Node, Ring, vertex, isOpen, startOr, vertexAt, loopAt}
-use Rattle.rules.specs.Choice.{Position, absent, at, Spot, nowhere, spot, edgeIn, spotOf, sizeOf}
+use Rattle.rules.specs.Ring.{Node, Ring, vertex, isOpen, firstOpen, startOr, vertexAt, lastOpen, loopAt}
+use Rattle.rules.specs.Choice.{Position, absent, at, Spot, nowhere, spot, edgeIn, spotOf, sizeOf, afterCurrent}
 use Rattle.links.specs.Memory.{named, namedRing, namedLoops}
-use Rattle.links.proofs.Named.{named-vertex, named-open, named-length, named-start}
+use Rattle.links.proofs.Named.{named-vertex, named-open, named-length, named-start, named-firstOpen, named-lastOpen}
 use Rattle.gap.specs.Spots.{EdgeIn, OpenAt, Unique}
 use Rattle.gap.proofs.Spotting.{spot-some}
 use Rattle.gap.proofs.Bools.{and-true}
 use Rattle.memory.specs.declared.Loops.{Loops}
 use Rattle.memory.specs.Layout as layout
 use Rattle.memory.specs.Layout.{vertexOf, beforeOf, afterOf, verticesOf, walked}
+use Rattle.memory.specs.Decision.{isOpenAt}
 use Rattle.memory.specs.Stands.{Waits, StandsAt}
 use Rattle.memory.proofs.Columns.{column-at}
 use Rattle.memory.proofs.Standing.{Hop, Trail, Trails, trails, trail-at, walk-trail}
@@ -225,6 +226,12 @@ module _ (n : ℕ) (m : List ℕ) (b : ℕ) where
   trail-last p [] t = t .0 .back
   trail-last p (q ∷ ps) t = trail-last q ps (t .1)
 
+  -- whether the edge into b is open
+  trail-mark : (p : Node) (ps : List Node) → Trail n m (p ∷ ps) b → isOpenAt m (beforeOf m b) ≡ lastOpen (p ∷ ps)
+  unfolding lastOpen
+  trail-mark p [] t = ap (isOpenAt m) (t .0 .back) ∙ (ap (λ (o : ℕ). eqb o 1) (t .0 .mark) ∙ flag-is (isOpen p))
+  trail-mark p (q ∷ ps) t = trail-mark q ps (t .1)
+
   -- the places of a ring and those after them
   trail-near : b < n → (ps : List Node) (i : ℕ) → Trail n m ps b → i < length ps → (vertexAt ps i < n) × (afterOf m (vertexAt ps i) < n)
   unfolding vertexAt
@@ -241,14 +248,14 @@ inside-ring l m (q ∷ ps) k j p t e h =
     let z = trail-near maxPlaces m (vertex q) (t .0 .near) (q ∷ ps) j t h in
     subst (Inside m) (sym w) (omega (arith, z .0, k), omega (arith, z .1, k))
 
-module _ (l : Loops) (m : List ℕ) (e f g : Node) (ps : List Node) (ws : List Ring) (st : StandsAt maxPlaces l m ((e ∷ (f ∷ (g ∷ ps))) ∷ ws)) where
+module _ (l : Loops) (m : List ℕ) (e f : Node) (ps : List Node) (ws : List Ring) (st : StandsAt maxPlaces l m ((e ∷ (f ∷ ps)) ∷ ws)) where
   abbrev r : Ring
-  r = e ∷ (f ∷ (g ∷ ps))
+  r = e ∷ (f ∷ ps)
 
   ring : Trail maxPlaces m r (vertex e)
   ring = trails maxPlaces l m (r ∷ ws) st .0
 
-  size : l .size ≡ suc (suc (suc (length ps)))
+  size : l .size ≡ suc (suc (length ps))
   size = st .heads .size
 
   place-f : afterOf m (l .current) ≡ vertexAt r 1
@@ -257,8 +264,8 @@ module _ (l : Loops) (m : List ℕ) (e f g : Node) (ps : List Node) (ws : List R
 
   place-last : beforeOf m (l .current) ≡ vertexAt r (l .size - 1)
   place-last =
-      let z : suc (suc (length ps)) ≡ l .size - 1 = omega (arith, size) in
-      ap (beforeOf m) (st .heads .current) ∙ (trail-last maxPlaces m (vertex e) e (f ∷ (g ∷ ps)) ring ∙ ap (vertexAt r) z)
+      let z : suc (length ps) ≡ l .size - 1 = omega (arith, size) in
+      ap (beforeOf m) (st .heads .current) ∙ (trail-last maxPlaces m (vertex e) e (f ∷ ps) ring ∙ ap (vertexAt r) z)
 
   place-second : beforeOf m (beforeOf m (l .current)) ≡ vertexAt r (l .size - 2)
   place-second =
@@ -269,6 +276,14 @@ module _ (l : Loops) (m : List ℕ) (e f g : Node) (ps : List Node) (ws : List R
   inside-at i p q h =
       let z = trail-near maxPlaces m (vertex e) (ring .0 .near) r i ring (omega (arith, h, size)) in
       subst (Inside m) (sym q) (omega (arith, z .0, st .long), omega (arith, z .1, st .long))
+
+  -- whether the edge after f is open, and the edge into e
+  open-f : isOpenAt m (afterOf m (l .current)) ≡ isOpen f
+  unfolding vertexAt
+  open-f = ap (isOpenAt m) place-f ∙ (ap (λ (o : ℕ). eqb o 1) (ring .1 .0 .mark) ∙ flag-is (isOpen f))
+
+  open-e : isOpenAt m (beforeOf m (l .current)) ≡ lastOpen (f ∷ ps)
+  open-e = ap (λ (p : ℕ). isOpenAt m (beforeOf m p)) (st .heads .current) ∙ trail-mark maxPlaces m (vertex e) f ps (ring .1)
 
   seat-match : (x y : ℕ) → Unique (namedLoops (verticesOf maxPlaces m) (r ∷ ws))
       → Match 0 (namedLoops (verticesOf maxPlaces m) (r ∷ ws)) (seatIn l m x y) (spotOf 0 x y (namedLoops (verticesOf maxPlaces m) (r ∷ ws)))
@@ -296,7 +311,7 @@ module _ (l : Loops) (m : List ℕ) (e f g : Node) (ps : List Node) (ws : List R
   seekable-at : 1 ≤ l .live → Seekable l m
   seekable-at h = record {
     live = h;
-    three = omega (arith, size);
+    two = omega (arith, size);
     long = st .long;
     after = inside-at 1 _ place-f (omega (arith, size));
     before = inside-at (l .size - 1) _ place-last (omega (arith, size));
@@ -311,21 +326,39 @@ module _ (l : Loops) (m : List ℕ) (e f g : Node) (ps : List Node) (ws : List R
   }
 
 -- the search in the memory answers as the definition does
-pub seat-is : (l : Loops) (m : List ℕ) (rs : List Ring) → StandsAt maxPlaces l m rs → 1 ≤ l .live → 3 ≤ l .size
+pub seat-is : (l : Loops) (m : List ℕ) (rs : List Ring) → StandsAt maxPlaces l m rs → 1 ≤ l .live → 2 ≤ l .size
     → Unique (namedLoops (verticesOf maxPlaces m) rs) → (x y : ℕ)
     → seatIn l m x y ≡ seatOf (namedLoops (verticesOf maxPlaces m) rs) (spotOf 0 x y (namedLoops (verticesOf maxPlaces m) rs))
 seat-is l m [] st h k u x y = absurd (omega (arith, h, st .heads))
 seat-is l m ([] ∷ ws) st h k u x y = absurd (omega (arith, k, st .heads .size))
 seat-is l m ((e ∷ []) ∷ ws) st h k u x y = absurd (omega (arith, k, st .heads .size))
-seat-is l m ((e ∷ (f ∷ [])) ∷ ws) st h k u x y = absurd (omega (arith, k, st .heads .size))
-seat-is l m ((e ∷ (f ∷ (g ∷ ps))) ∷ ws) st h k u x y = match-seat _ _ _ (seat-match l m e f g ps ws st x y u)
+seat-is l m ((e ∷ (f ∷ ps)) ∷ ws) st h k u x y = match-seat _ _ _ (seat-match l m e f ps ws st x y u)
 
-pub seekable : (l : Loops) (m : List ℕ) (rs : List Ring) → StandsAt maxPlaces l m rs → 1 ≤ l .live → 3 ≤ l .size → Seekable l m
+pub seekable : (l : Loops) (m : List ℕ) (rs : List Ring) → StandsAt maxPlaces l m rs → 1 ≤ l .live → 2 ≤ l .size → Seekable l m
 seekable l m [] st h k = absurd (omega (arith, h, st .heads))
 seekable l m ([] ∷ ws) st h k = absurd (omega (arith, k, st .heads .size))
 seekable l m ((e ∷ []) ∷ ws) st h k = absurd (omega (arith, k, st .heads .size))
-seekable l m ((e ∷ (f ∷ [])) ∷ ws) st h k = absurd (omega (arith, k, st .heads .size))
-seekable l m ((e ∷ (f ∷ (g ∷ ps))) ∷ ws) st h k = seekable-at l m e f g ps ws st h
+seekable l m ((e ∷ (f ∷ ps)) ∷ ws) st h k = seekable-at l m e f ps ws st h
+
+-- the current loop: its places, the edge after f and the edge into e
+pub record Seen (l : Loops) (m : List ℕ) (ps : List Node) : Type 0 where
+  pub size : l .size ≡ suc (length ps)
+  pub next : isOpenAt m (afterOf m (l .current)) ≡ firstOpen ps
+  pub last : isOpenAt m (beforeOf m (l .current)) ≡ lastOpen ps
+
+pub seen-is : (l : Loops) (m : List ℕ) (rs : List Ring) → StandsAt maxPlaces l m rs → 1 ≤ l .live → 2 ≤ l .size
+    → Seen l m (afterCurrent (namedLoops (verticesOf maxPlaces m) rs))
+unfolding loopAt namedLoops namedRing
+seen-is l m [] st h k = absurd (omega (arith, h, st .heads))
+seen-is l m ([] ∷ ws) st h k = absurd (omega (arith, k, st .heads .size))
+seen-is l m ((e ∷ []) ∷ ws) st h k = absurd (omega (arith, k, st .heads .size))
+seen-is l m ((e ∷ (f ∷ ps)) ∷ ws) st h k =
+    let vs = verticesOf maxPlaces m in
+    record {
+      size = st .heads .size ∙ ap suc (sym (named-length vs (f ∷ ps)));
+      next = open-f l m e f ps ws st ∙ sym (named-firstOpen vs (f ∷ ps));
+      last = open-e l m e f ps ws st ∙ sym (named-lastOpen vs (f ∷ ps));
+    }
 
 -- a place that the definition finds is one of its ring
 Bounds : ℕ → List Ring → Spot → Type 0

@@ -37,7 +37,7 @@ pub record Choosable (xs cs flags m : List ℕ) (l : Loops) (a b c : ℕ) : Type
   pub linked : Linked xs cs
   pub stands : Stands maxPlaces l m
   pub live : 1 ≤ l .live
-  pub three : 3 ≤ l .size
+  pub two : 2 ≤ l .size
   -- an open edge stands at one place, and it is an edge of the model
   pub unique : Unique (loopsIn maxPlaces l m)
   pub edges : (x y w i : ℕ) → OpenAt (loopsIn maxPlaces l m) w i x y → Unused x y (trianglesOf xs) → ⊥

@@ -7,10 +7,10 @@ use mathlib.Core.List.{List}
 use lib.ListN.{length}
 use lib.Dec.{eqb, ltb}
 use Rattle.rules.specs.declared.Operation.{Operation}
-use Rattle.rules.specs.declared.Operation.the-variants.{Border}
+use Rattle.rules.specs.declared.Operation.the-variants.{Forward, Backward, Border, Split, Close, Union}
 use Rattle.rules.specs.Limits.{maxPlaces}
 use Rattle.rules.specs.Ring.{Ring}
-use Rattle.rules.specs.Choice.{Spot, nowhere, spot, sizeOf, operationFor, following}
+use Rattle.rules.specs.Choice.{Spot, nowhere, spot, sizeOf, following}
 use Rattle.memory.specs.declared.Loops.{Loops}
 use Rattle.memory.specs.Layout.{at, vertexOf, beforeOf, afterOf, walked}
 use Rattle.memory.specs.Decision.{isOpenAt}
@@ -59,13 +59,22 @@ abbrev pub seatOf : List Ring → Spot → Seat
 seatOf ls nowhere = Nowhere
 seatOf ls (spot w i) = At w (sizeOf ls w) i
 
--- the operation for the two places that turning ends at, where the current loop has k places: c is where the edge of the first ends,
--- or else where that of the second starts
-unfoldable pub placeFor : ℕ → Seat → Seat → Operation
-placeFor k s t =
+-- The operation for place i of loop w, where the current loop has k places: u tells whether the edge after f is open, v whether
+-- the edge into e is.
+unfoldable pub operationBy : ℕ → Bool → Bool → ℕ → ℕ → Operation
+operationBy k u v zero i =
+    elim (eqb k 3 && (u && v)) [
+      | true ↦ Close
+      | false ↦ elim (eqb i 2 && u) [ true ↦ Forward | false ↦ elim (eqb (i + 1) k && v) [ true ↦ Backward | false ↦ Split (i - 1) ] ]
+    ]
+operationBy k u v (suc w) i = Union (suc w) i
+
+-- the operation for the two places that turning ends at: c is where the edge of the first ends, or else where that of the second starts
+unfoldable pub placeFor : ℕ → Bool → Bool → Seat → Seat → Operation
+placeFor k u v s t =
     elim s [
-      | At w n i ↦ operationFor k w (following n i)
-      | Nowhere ↦ elim t [ At w n i ↦ operationFor k w i | Nowhere ↦ Border ]
+      | At w n i ↦ operationBy k u v w (following n i)
+      | Nowhere ↦ elim t [ At w n i ↦ operationBy k u v w i | Nowhere ↦ Border ]
     ]
 
 -- place p and the place after it are in the memory
@@ -75,7 +84,7 @@ Inside m p = (4 * p + 3 < length m) × (4 * afterOf m p + 3 < length m)
 -- the places that are looked at are in the memory
 pub record Seekable (l : Loops) (m : List ℕ) : Type 0 where
   pub live : 1 ≤ l .live
-  pub three : 3 ≤ l .size
+  pub two : 2 ≤ l .size
   pub long : 5 * maxPlaces + 2 * l .live ≤ length m
   pub after : Inside m (afterOf m (l .current))
   pub before : Inside m (beforeOf m (l .current))

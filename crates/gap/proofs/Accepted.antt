@@ -33,5 +33,5 @@ accepted-packable v xs h =
 
 -- the packing of an accepted list is stopped by 9 or 10, or it is complete
 pub accepted-packs : (h : Most) (v : ℕ) (xs : List ℕ) → check v xs ≡ Accepted
-    → Ends (nothingBuilt h (trianglesOf xs)) [] [] (chosenFor h (trianglesOf xs))
+    → Ends (nothingBuilt h (trianglesOf xs)) [] [] [] (chosenFor h (trianglesOf xs))
 accepted-packs h v xs a = let s = accepted-packable v xs a in packs-whole h (trianglesOf xs) (s .once) (s .fans)

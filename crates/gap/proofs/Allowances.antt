@@ -3,13 +3,15 @@
 use Prim.Native.Nat.{ℕ, suc}
 use mathlib.Core.Bool.{Bool, true, false}
 use mathlib.Core.List.{List, [], _∷_}
-use mathlib.Core.Path.{_≡_, refl, sym, ap}
+use mathlib.Core.Path.{_≡_, refl, sym, ap, subst}
 use Rattle.rules.specs.declared.Triangle.{Triangle}
 use Rattle.rules.specs.declared.Operation.{Operation}
 use Rattle.rules.specs.declared.Operation.the-variants.{New, Forward, Backward, Border, Split, Close, Union, Start}
 use Rattle.rules.specs.Triangle.{tri, Edge, edge}
-use Rattle.rules.specs.Ring.{Node, Ring, vertex}
+use Rattle.rules.specs.Ring.{Node, Ring, vertex, startOr, reached, shown}
 use Rattle.rules.specs.Table.{Side, Effect, not-allowed, builds, marks, allowed, marking, atEdge, atRest}
+use Rattle.shown.specs.Shown.{shownAll}
+use Rattle.shown.proofs.Shown.{border-shown}
 use Rattle.gap.specs.Trace.{afterBorder, withRing}
 use Rattle.gap.proofs.Tracking.{firstRing}
 
@@ -34,7 +36,7 @@ only-start Start u = (refl, refl, refl, refl)
 unfoldable pub OnlyBorder : Operation → Node → Node → List Node → List Ring → Effect → Type 0
 OnlyBorder o e f ps ws not-allowed = Unit {0}
 OnlyBorder o e f ps ws (builds ls t pq qr rp n s k) = Unit {0}
-OnlyBorder o e f ps ws (marks ls d n) = (o ≡ Border) × (ls ≡ withRing (afterBorder e f ps) ws)
+OnlyBorder o e f ps ws (marks ls d n) = (o ≡ Border) × (ls ≡ shownAll (withRing (afterBorder e f ps) ws))
 
 marks-allowed : (o : Operation) (e f : Node) (ps : List Node) (ws : List Ring) (b : Bool) (ls : List Ring) (t : Triangle) (pq qr rp : Side) (n s k : ℕ)
     → OnlyBorder o e f ps ws (allowed b (builds ls t pq qr rp n s k))
@@ -42,17 +44,19 @@ unfolding OnlyBorder allowed
 marks-allowed o e f ps ws true ls t pq qr rp n s k = tt
 marks-allowed o e f ps ws false ls t pq qr rp n s k = tt
 
-marks-border : (e f : Node) (ps : List Node) (ws : List Ring) (r : Ring) (d : Edge) → afterBorder e f ps ≡ r → OnlyBorder Border e f ps ws (marking r ws d)
+marks-border : (e f : Node) (ps : List Node) (ws : List Ring) (r : Ring) (d : Edge) → afterBorder e f ps ≡ r → OnlyBorder Border e f ps ws (marking (shown r) (shownAll ws) d)
 unfolding OnlyBorder
-marks-border e f ps ws [] d h = (refl, ap (λ (r : Ring). withRing r ws) (sym h))
-marks-border e f ps ws (p ∷ r) d h = (refl, ap (λ (k : Ring). withRing k ws) (sym h))
+marks-border e f ps ws [] d h = (refl, ap (λ (r : Ring). shownAll (withRing r ws)) (sym h))
+marks-border e f ps ws (p ∷ r) d h = (refl, ap (λ (k : Ring). shownAll (withRing k ws)) (sym h))
 
-pub only-border : (o : Operation) (u : ℕ) (e f : Node) (ps : List Node) (ws : List Ring) → OnlyBorder o e f ps ws (atEdge o u (vertex e) (f ∷ ps) ws)
+pub only-border : (o : Operation) (u : ℕ) (e f : Node) (ps : List Node) (ws : List Ring) → OnlyBorder o e f ps ws (atEdge o u (vertex e) (reached (f ∷ ps) false) (shownAll ws))
 unfolding OnlyBorder atEdge
 only-border New u e f ps ws = tt
 only-border Forward u e f ps ws = marks-allowed Forward e f ps ws _ _ _ _ _ _ _ _ _
 only-border Backward u e f ps ws = marks-allowed Backward e f ps ws _ _ _ _ _ _ _ _ _
-only-border Border u e f ps ws = marks-border e f ps ws (afterBorder e f ps) (edge (vertex e) (vertex f)) refl
+only-border Border u e f ps ws =
+    subst (λ (r : Ring). OnlyBorder Border e f ps ws (marking r (shownAll ws) (edge (vertex e) (startOr (vertex e) (reached (f ∷ ps) false))))) (sym (border-shown (f ∷ ps) (vertex e)))
+    (marks-border e f ps ws (afterBorder e f ps) (edge (vertex e) (startOr (vertex e) (reached (f ∷ ps) false))) refl)
 only-border (Split i) u e f ps ws = marks-allowed (Split i) e f ps ws _ _ _ _ _ _ _ _ _
 only-border Close u e f ps ws = marks-allowed Close e f ps ws _ _ _ _ _ _ _ _ _
 only-border (Union n j) u e f ps ws = marks-allowed (Union n j) e f ps ws _ _ _ _ _ _ _ _ _

@@ -5,13 +5,11 @@ use native.Mathlib.Omega.{arith}
 use mathlib.Core.Bool.{Bool, true, false}
 use mathlib.Core.List.{List, [], _∷_, _++_}
 use mathlib.Core.Path.{_≡_, refl, sym, subst}
-use lib.ListN.{length}
-use lib.Dec.{leb}
 use Rattle.rules.specs.declared.Operation.{Operation}
 use Rattle.rules.specs.declared.Operation.the-variants.{New, Forward, Backward, Split, Close, Union}
 use Rattle.rules.specs.Ring.{Node, opened, marked, Ring, vertex}
-use Rattle.rules.specs.Table.{inOrder, shorterFirst}
-use Rattle.gap.specs.Surgery.{Surgery, on-new, on-forward, on-backward, on-close, on-split, on-union}
+use Rattle.rules.specs.Table.{inOrder}
+use Rattle.gap.specs.Surgery.{fewer, fewerFirst, Surgery, on-new, on-forward, on-backward, on-close, on-split, on-union}
 use Rattle.gap.specs.Trace.{afterBorder, withRing}
 use Rattle.gap.specs.Tally.{newNumbers}
 use Rattle.gap.proofs.Onward.{turned-ring}
@@ -41,9 +39,9 @@ module _ (u : ℕ) where
   all-split [] vs a = (tt, a)
   all-split (l ∷ us) vs a = let r = all-split us vs (a .1) in ((a .0, r .0), r .1)
 
-  all-shorter : (a b : List Node) (ws : List Ring) → Below u a → Below u b → AllBelow u ws → AllBelow u (shorterFirst a b ws)
+  all-shorter : (a b : List Node) (ws : List Ring) → Below u a → Below u b → AllBelow u ws → AllBelow u (fewerFirst a b ws)
   unfolding inOrder
-  all-shorter a b ws h k m = go (leb (length a) (length b))
+  all-shorter a b ws h k m = go (fewer a b)
     where
       go : (t : Bool) → AllBelow u (inOrder t a b ws)
       go true = (h, (k, m))

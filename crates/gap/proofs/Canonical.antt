@@ -13,10 +13,11 @@ use Rattle.rules.specs.Ring.{Node, Ring, vertex, loopAt}
 use Rattle.rules.specs.Choice.{choosePlace}
 use Rattle.fans.specs.Corner.{Rot, at-p, In, here, there, Once}
 use Rattle.fans.specs.Neighbours.{Neighbours}
+use Rattle.shown.specs.Shown.{shownAll, Live}
 use Rattle.gap.specs.Turn.{Unused}
 use Rattle.gap.specs.Corners.{Everywhere, AllMarks}
 use Rattle.gap.specs.Surgery.{Surgery}
-use Rattle.gap.specs.Spots.{OpenAt, Unique}
+use Rattle.gap.specs.Spots.{OpenAt, Unique, seat}
 use Rattle.gap.specs.Trace.{triangleAt, Trace}
 use Rattle.fans.proofs.Corners.{in-next, rot-next}
 use Rattle.gap.proofs.Links.{free-rot}
@@ -27,6 +28,7 @@ use Rattle.gap.proofs.Sites.{Named, named}
 use Rattle.gap.proofs.Places.{spotted-holds, place-leaving}
 use Rattle.gap.proofs.Exists.{Used}
 use Rattle.gap.proofs.Choice.{chosen}
+use Rattle.gap.proofs.Showing.{open-full, unique-shown}
 
 -- what holds of the triangles M of a complete model, those built and those to come, and of the rings, in every legal state
 pub record State (M R B : List Triangle) (ls : List Ring) : Type 0 where
@@ -43,20 +45,24 @@ pub open-used : (M R B : List Triangle) (ls : List Ring) → State M R B ls → 
 open-used M R B ls s x y l i o =
     let r = spotted-holds (Used B) (place-leaving ls l i x y o .1) (s .used) .1 in (r .0, s .subB x y (r .0) (r .1))
 
+-- in the rings shown too
+pub shown-used : (M R B : List Triangle) (ls : List Ring) → State M R B ls → Live ls → (x y l i : ℕ) → OpenAt (shownAll ls) l i x y → (z : ℕ) × In x y z M
+shown-used M R B ls s g x y l i o = let r = open-full ls g l i x y o in open-used M R B ls s x y l (r .0) (r .1)
+
 module _ (M R B : List Triangle) (e f : Node) (ps : List Node) (ws ls : List Ring) (c : ℕ) (o : Operation) (os : List Operation)
-    (s : Surgery e f ps ws ls c o) (later : Trace M ls os R) (marks : AllMarks M ((e ∷ (f ∷ ps)) ∷ ws))
+    (s : Surgery e f ps ws ls c o) (later : Trace M ls os R) (live : Live ((e ∷ (f ∷ ps)) ∷ ws)) (marks : AllMarks M ((e ∷ (f ∷ ps)) ∷ ws))
     (st : State M (triangleAt e f c ∷ R) B ((e ∷ (f ∷ ps)) ∷ ws)) (fan : Neighbours M c) where
   tri : Rot (triangleAt e f c) (vertex f) (vertex e) c
   tri = at-p refl refl refl
 
-  choice-named : Named M R e f ps ws c o → choosePlace (vertex e) (vertex f) c R ((e ∷ (f ∷ ps)) ∷ ws) ≡ o
+  choice-named : Named M R e f ps ws c o → choosePlace (vertex e) (vertex f) c R (shownAll ((e ∷ (f ∷ ps)) ∷ ws)) ≡ o
   unfolding loopAt
   choice-named n =
       let u = spotted-holds (Used B) (n .spot) (st .used) in
       chosen M R (vertex e) (vertex f) c (λ x y z i. st .subR x y z (there i)) (st .subR _ _ _ (here tri))
-      (free-rot R (st .once .0) (rot-next tri)) (st .onceM) (st .once .2) fan ((e ∷ (f ∷ ps)) ∷ ws) (st .unique)
-      (open-used M (triangleAt e f c ∷ R) B ((e ∷ (f ∷ ps)) ∷ ws) st)
-      (n .ring) (n .at) (n .x) (u .0 .0) (n .y) (n .seen) (st .subB _ _ _ (u .0 .1))
+      (free-rot R (st .once .0) (rot-next tri)) (st .onceM) (st .once .2) fan (shownAll ((e ∷ (f ∷ ps)) ∷ ws)) (unique-shown ((e ∷ (f ∷ ps)) ∷ ws) live (st .unique))
+      (shown-used M (triangleAt e f c ∷ R) B ((e ∷ (f ∷ ps)) ∷ ws) st live)
+      (n .ring) (seat (n .spot)) (n .x) (u .0 .0) (n .y) (n .seen) (st .subB _ _ _ (u .0 .1))
       (λ z i. st .apart _ _ z (u .0 .0) (there i) (u .0 .1))
       (λ q. st .apart (vertex e) c (vertex f) (u .0 .0) (here (rot-next tri)) (subst (λ (v : ℕ). In v c (u .0 .0) B) q (u .0 .1)))
       (λ z i. st .apart _ _ z (u .1 .0) (there i) (u .1 .1)) (n .heirs .enter) (n .heirs .leave)
@@ -71,11 +77,11 @@ module _ (M R B : List Triangle) (e f : Node) (ps : List Node) (ws ls : List Rin
   named-built n = let u = spotted-holds (Used B) (n .spot) (st .used) .0 in (u .0, n .x, in-next (u .1))
 
   -- and the place that the packer chooses is the one that the operation names
-  pub canonical : (o ≡ New) ⊎ ((choosePlace (vertex e) (vertex f) c R ((e ∷ (f ∷ ps)) ∷ ws) ≡ o) × ((m : ℕ) × (n : ℕ) × In c m n B))
-  canonical = go (named M R e f ps ws ls c o s marks (fate later (marks-step M e f ps ws ls c o s marks)))
+  pub canonical : (o ≡ New) ⊎ ((choosePlace (vertex e) (vertex f) c R (shownAll ((e ∷ (f ∷ ps)) ∷ ws)) ≡ o) × ((m : ℕ) × (n : ℕ) × In c m n B))
+  canonical = go (named M R e f ps ws ls c o s live marks (fate later (marks-step M e f ps ws ls c o s marks)))
     where
       go : (o ≡ New) ⊎ Named M R e f ps ws c o
-          → (o ≡ New) ⊎ ((choosePlace (vertex e) (vertex f) c R ((e ∷ (f ∷ ps)) ∷ ws) ≡ o) × ((m : ℕ) × (n : ℕ) × In c m n B))
+          → (o ≡ New) ⊎ ((choosePlace (vertex e) (vertex f) c R (shownAll ((e ∷ (f ∷ ps)) ∷ ws)) ≡ o) × ((m : ℕ) × (n : ℕ) × In c m n B))
       go (inl h) = inl h
       go (inr n) = inr (choice-named n, named-built n)
 

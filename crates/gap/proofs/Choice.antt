@@ -4,10 +4,10 @@ use Prim.Native.Nat.{ℕ}
 use mathlib.Core.List.{List}
 use mathlib.Core.Path.{_≡_, refl, sym, ap, _∙_, subst}
 use mathlib.Core.Logic.{_⊎_, inl, inr}
-use lib.ListN.{length}
+use lib.ListN.{length, drop}
 use Rattle.rules.specs.declared.Triangle.{Triangle}
-use Rattle.rules.specs.Ring.{Ring}
-use Rattle.rules.specs.Choice.{nowhere, spot, spotOf, operationFor, sizeOf, following, choosePlace, turnIn, turnOut}
+use Rattle.rules.specs.Ring.{Ring, loopAt}
+use Rattle.rules.specs.Choice.{nowhere, spot, spotOf, operationFor, sizeOf, following, choosePlace, turnIn, turnOut, afterCurrent}
 use Rattle.fans.specs.Corner.{In, Once}
 use Rattle.fans.specs.Neighbours.{Neighbours}
 use Rattle.gap.specs.Turn.{Unused, Links, Turn}
@@ -21,12 +21,12 @@ use Rattle.gap.proofs.Spotting.{spot-none, spot-some}
 module _ (M R : List Triangle) (a b c : ℕ) (sub : (x y z : ℕ) → In x y z R → In x y z M) (tri : In b a c M) (free-a : Unused a c R)
     (onceM : Once M) (once : Once R) (fan : Neighbours M c) (ls : List Ring) (unique : Unique ls)
     (used : (x y l i : ℕ) → OpenAt ls l i x y → (z : ℕ) × In x y z M) where
-  choice-out : (l i : ℕ) → spotOf 0 (turnIn (length R) c b R) c ls ≡ spot l i → choosePlace a b c R ls ≡ operationFor (sizeOf ls 0) l (following (sizeOf ls l) i)
+  choice-out : (l i : ℕ) → spotOf 0 (turnIn (length R) c b R) c ls ≡ spot l i → choosePlace a b c R ls ≡ operationFor (afterCurrent ls) l (following (sizeOf ls l) i)
   unfolding choosePlace
   choice-out l i h = rw (choosePlace, h) refl
 
   choice-back : (l i : ℕ) → spotOf 0 (turnIn (length R) c b R) c ls ≡ nowhere → spotOf 0 c (turnOut (length R) c a R) ls ≡ spot l i
-      → choosePlace a b c R ls ≡ operationFor (sizeOf ls 0) l i
+      → choosePlace a b c R ls ≡ operationFor (afterCurrent ls) l i
   unfolding choosePlace
   choice-back l i h k = rw (choosePlace, h, k) refl
 
@@ -49,13 +49,13 @@ module _ (M R : List Triangle) (a b c : ℕ) (sub : (x y z : ℕ) → In x y z R
 
   -- the place between x and y, whose heirs lead from x to b and from a to y, is the packer's choice
   pub chosen : (l i x z y : ℕ) → Site M ls l i c x y → In x c z M → Unused x c R → (x ≡ a → ⊥) → Unused c y R
-      → Turn M c R x b → Turn M c R a y → choosePlace a b c R ls ≡ operationFor (sizeOf ls 0) l i
+      → Turn M c R x b → Turn M c R a y → choosePlace a b c R ls ≡ operationFor (afterCurrent ls) l i
   chosen l i x z y s ix fx ne fy p q = go (one-way M R a b c sub tri free-a onceM fan x z y once ix fx ne p q)
     where
-      go : Links c R x b ⊎ (Blocked M c R b × Links c R a y) → choosePlace a b c R ls ≡ operationFor (sizeOf ls 0) l i
+      go : Links c R x b ⊎ (Blocked M c R b × Links c R a y) → choosePlace a b c R ls ≡ operationFor (afterCurrent ls) l i
       go (inl w) =
           choice-out l (s .from) (rw (turn-in R once fx w) (spot-some x c l (s .from) ls unique (open-enter l i x y s w)))
-          ∙ ap (operationFor (sizeOf ls 0) l) (s .next)
+          ∙ ap (operationFor (afterCurrent ls) l) (s .next)
       go (inr (k, w)) =
           choice-back l i
           (rw (turn-in R once (λ v j. k .edge v (sub _ _ _ j)) (k .way)) (spot-none (k .at) c ls (λ m j o. k .edge (used (k .at) c m j o .0) (used (k .at) c m j o .1))))

@@ -6,16 +6,14 @@ use mathlib.Core.Bool.{Bool, true, false, false≢true}
 use mathlib.Core.List.{List, [], _∷_, _++_}
 use mathlib.Core.Path.{_≡_, refl, sym, ap, _∙_, subst}
 use mathlib.Core.Logic.{_⊎_, inl, inr}
-use lib.ListN.{length}
-use lib.Dec.{leb}
 use Rattle.rules.specs.declared.Operation.{Operation}
 use Rattle.rules.specs.declared.Operation.the-variants.{New, Forward, Backward, Border, Split, Close, Union, Start}
 use Rattle.rules.specs.Count.{hit}
 use Rattle.rules.specs.Ring.{Node, opened, Ring, vertex, startOr}
-use Rattle.rules.specs.Table.{inOrder, shorterFirst}
+use Rattle.rules.specs.Table.{inOrder}
 use Rattle.fans.proofs.Counting.{hit-yes}
 use Rattle.gap.specs.Corners.{endOr, Along, Around, Everywhere}
-use Rattle.gap.specs.Surgery.{Surgery, on-new, on-forward, on-backward, on-close, on-split, on-union}
+use Rattle.gap.specs.Surgery.{fewer, fewerFirst, Surgery, on-new, on-forward, on-backward, on-close, on-split, on-union}
 use Rattle.gap.specs.Tally.{tally, ringTally, total}
 use Rattle.gap.proofs.Rings.{ring-join, ring-parts, ring-swap, last-append}
 use Rattle.gap.proofs.Fate.{rings-append, rings-split}
@@ -92,9 +90,9 @@ module _ (Q : ℕ → ℕ → ℕ → Type 0) (a b c xP yP : ℕ) where
   elsewhere-rings (l ∷ ls) h g k r =
       (elsewhere-ring l (omega arith) (omega arith) (omega arith) (r .0), elsewhere-rings ls (omega arith) (omega arith) (omega arith) (r .1))
 
-rings-shorter-of : (Q : ℕ → ℕ → ℕ → Type 0) (a b : List Node) (ws : List Ring) → Around Q a → Around Q b → Everywhere Q ws → Everywhere Q (shorterFirst a b ws)
+rings-shorter-of : (Q : ℕ → ℕ → ℕ → Type 0) (a b : List Node) (ws : List Ring) → Around Q a → Around Q b → Everywhere Q ws → Everywhere Q (fewerFirst a b ws)
 unfolding inOrder
-rings-shorter-of Q a b ws h k m = go (leb (length a) (length b))
+rings-shorter-of Q a b ws h k m = go (fewer a b)
   where
     go : (t : Bool) → Everywhere Q (inOrder t a b ws)
     go true = (h, (k, m))
@@ -200,7 +198,7 @@ module _ (Q : ℕ → ℕ → ℕ → Type 0) (e f p : Node) (ws : List Ring) wh
       elsewhere-rings Q a b c b a ws (omega arith) (omega arith) (omega arith) (g .0 .1)
 
   fore-split : (us vs : List Node) → Given Q e f (us ++ (p ∷ vs)) ws (vertex p) (endOr (vertex f) us) (startOr (vertex e) vs)
-      → Everywhere Q (shorterFirst (opened (vertex p) ∷ (f ∷ us)) (opened (vertex e) ∷ (p ∷ vs)) ws)
+      → Everywhere Q (fewerFirst (opened (vertex p) ∷ (f ∷ us)) (opened (vertex e) ∷ (p ∷ vs)) ws)
   fore-split us vs g =
       let a = vertex e in
       let b = vertex f in

@@ -5,13 +5,11 @@ use native.Mathlib.Omega.{arith}
 use mathlib.Core.Bool.{Bool, true, false}
 use mathlib.Core.List.{List, [], _∷_, _++_}
 use mathlib.Core.Path.{_≡_, refl, ap}
-use lib.ListN.{length}
-use lib.Dec.{leb}
 use Rattle.rules.specs.declared.Operation.{Operation}
 use Rattle.rules.specs.declared.Operation.the-variants.{New, Forward, Backward, Split, Close, Union}
 use Rattle.rules.specs.Ring.{Node, opened, marked, Ring, vertex, isOpen}
-use Rattle.rules.specs.Table.{inOrder, shorterFirst}
-use Rattle.gap.specs.Surgery.{Surgery, on-new, on-forward, on-backward, on-close, on-split, on-union}
+use Rattle.rules.specs.Table.{inOrder}
+use Rattle.gap.specs.Surgery.{fewer, fewerFirst, Surgery, on-new, on-forward, on-backward, on-close, on-split, on-union}
 use Rattle.gap.specs.Trace.{afterBorder, withRing}
 use Rattle.gap.specs.Tally.{when, openEdges, allOpenEdges}
 use Rattle.gap.proofs.Onward.{turned-ring}
@@ -25,9 +23,9 @@ all-append : (us vs : List Ring) → allOpenEdges (us ++ vs) ≡ allOpenEdges us
 all-append [] vs = omega arith
 all-append (u ∷ us) vs = let h = all-append us vs in omega arith
 
-all-shorter : (a b : List Node) (ws : List Ring) → allOpenEdges (shorterFirst a b ws) ≡ openEdges a + (openEdges b + allOpenEdges ws)
+all-shorter : (a b : List Node) (ws : List Ring) → allOpenEdges (fewerFirst a b ws) ≡ openEdges a + (openEdges b + allOpenEdges ws)
 unfolding inOrder
-all-shorter a b ws = go (leb (length a) (length b))
+all-shorter a b ws = go (fewer a b)
   where
     go : (t : Bool) → allOpenEdges (inOrder t a b ws) ≡ openEdges a + (openEdges b + allOpenEdges ws)
     go true = refl

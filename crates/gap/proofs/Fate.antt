@@ -4,26 +4,24 @@ use Prim.Native.Nat.{ℕ, _+_}
 use mathlib.Core.Bool.{Bool, true, false}
 use mathlib.Core.List.{List, [], _∷_, _++_}
 use mathlib.Core.Path.{refl, subst}
-use lib.ListN.{length}
-use lib.Dec.{leb}
 use Rattle.rules.specs.declared.Triangle.{Triangle}
 use Rattle.rules.specs.declared.Operation.{Operation}
 use Rattle.rules.specs.declared.Operation.the-variants.{New, Forward, Backward, Split, Close, Union}
 use Rattle.rules.specs.Ring.{Node, opened, Ring, vertex}
-use Rattle.rules.specs.Table.{inOrder, shorterFirst}
+use Rattle.rules.specs.Table.{inOrder}
 use Rattle.fans.specs.Corner.{at-p, at-q, at-r, here}
 use Rattle.gap.specs.Turn.{rest, turn}
 use Rattle.gap.specs.Corners.{Around, Everywhere, Filled}
-use Rattle.gap.specs.Surgery.{Surgery, on-new, on-forward, on-backward, on-close, on-split, on-union}
+use Rattle.gap.specs.Surgery.{fewer, fewerFirst, Surgery, on-new, on-forward, on-backward, on-close, on-split, on-union}
 use Rattle.gap.specs.Trace.{triangleAt}
 use Rattle.gap.proofs.Links.{turn-join, turn-more}
 use Rattle.gap.proofs.Rings.{ring-swap, rings-map}
 use Rattle.gap.proofs.Back.{back-new, back-forward, back-backward, back-close, back-split, back-union}
 
 -- the two rings of a split, whichever comes first
-pub rings-shorter : (Q : ℕ → ℕ → ℕ → Type 0) (a b : List Node) (ws : List Ring) → Everywhere Q (shorterFirst a b ws) → Around Q a × Around Q b × Everywhere Q ws
+pub rings-shorter : (Q : ℕ → ℕ → ℕ → Type 0) (a b : List Node) (ws : List Ring) → Everywhere Q (fewerFirst a b ws) → Around Q a × Around Q b × Everywhere Q ws
 unfolding inOrder
-rings-shorter Q a b ws r = go (leb (length a) (length b)) r
+rings-shorter Q a b ws r = go (fewer a b) r
   where
     go : (t : Bool) → Everywhere Q (inOrder t a b ws) → Around Q a × Around Q b × Everywhere Q ws
     go true h = (h .0, h .1 .0, h .1 .1)

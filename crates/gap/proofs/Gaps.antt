@@ -2,7 +2,7 @@
 -- Assumes nothing.
 use Prim.Native.Nat.{ℕ, zero, suc, _+_, _-_, _≤_}
 use native.Mathlib.Omega.{arith}
-use mathlib.Core.Bool.{Bool, true, false}
+use mathlib.Core.Bool.{Bool, true, false, _&&_}
 use mathlib.Core.List.{List, _∷_}
 use mathlib.Core.Path.{_≡_, refl, sym, _∙_, subst}
 use lib.ListN.{length}
@@ -10,11 +10,12 @@ use lib.Dec.{eqb}
 use Rattle.rules.specs.declared.Triangle.{Triangle}
 use Rattle.rules.specs.declared.Operation.{Operation}
 use Rattle.rules.specs.declared.Operation.the-variants.{New, Forward, Backward, Split, Close}
-use Rattle.rules.specs.Ring.{Node, Ring, vertex, startOr}
+use Rattle.rules.specs.Ring.{Node, Ring, vertex, firstOpen, allOpen, lastOpen, startOr, reached}
 use Rattle.rules.specs.Choice.{operationFor}
 use Rattle.fans.specs.Corner.{In}
 use Rattle.fans.specs.Neighbours.{Neighbours}
 use Rattle.gap.specs.Corners.{endOr, Everywhere, Filled}
+use Rattle.gap.specs.Spots.{seat}
 use Rattle.gap.specs.Surgery.{Surgery, on-new}
 use Rattle.gap.specs.Trace.{triangleAt}
 use Rattle.gap.specs.Tally.{total}
@@ -28,9 +29,9 @@ use Rattle.gap.proofs.Allowing.{Allowed}
 use Rattle.gap.proofs.Elsewhere.{Kept, beforeC, fore-step, isNew, op-not-new}
 use Rattle.gap.proofs.Keeping.{heir-e, heir-f, kept, Holds, at-place, new-gap, rings-zip}
 
-place-op : (k l i : ℕ) → isNew (operationFor k l i) ≡ false
+place-op : (ps : List Node) (l i : ℕ) → isNew (operationFor ps l i) ≡ false
 unfolding isNew
-place-op k zero i = go (eqb k 3) (eqb i 2) (eqb (i + 1) k)
+place-op ps zero i = go (eqb (suc (length ps)) 3 && allOpen ps) (eqb i 2 && firstOpen ps) (eqb (i + 1) (suc (length ps)) && lastOpen ps)
   where
     go : (r s t : Bool)
         → isNew (elim r as (λ w. Operation) [ true ↦ Close | false ↦ elim s as (λ w. Operation) [ true ↦ Forward | false ↦ elim t as (λ w. Operation) [ true ↦ Backward | false ↦ Split (i - 1) ] ] ]) ≡ false
@@ -38,7 +39,7 @@ place-op k zero i = go (eqb k 3) (eqb i 2) (eqb (i + 1) k)
     go false true t = refl
     go false false true = refl
     go false false false = refl
-place-op k (suc l) i = refl
+place-op ps (suc l) i = refl
 
 module _ (M R B : List Triangle) (e f : Node) (ps : List Node) (ws : List Ring) (c : ℕ)
     (pk : Packs M (triangleAt e f c ∷ R) B ((e ∷ (f ∷ ps)) ∷ ws)) (fan : Neighbours M c)
@@ -51,7 +52,7 @@ module _ (M R B : List Triangle) (e f : Node) (ps : List Node) (ws : List Ring) 
   cur = st .used .0 .0 .1
 
   -- after the operation at the place of c
-  pub gaps-place : (n : PlaceOf M R ((e ∷ (f ∷ ps)) ∷ ws) (vertex e) (vertex f) c) (al : Allowed e f ps ws c (n .ring) (n .at) (n .x) (n .y))
+  pub gaps-place : (n : PlaceOf M R ((e ∷ (f ∷ ps)) ∷ ws) (vertex e) (vertex f) c) (al : Allowed e f ps ws c (n .ring) (n .at) (seat (n .spot)) (n .x) (n .y))
       → Everywhere (Filled M R) (al .ls)
   unfolding st
   gaps-place n al =
@@ -63,7 +64,7 @@ module _ (M R B : List Triangle) (e f : Node) (ps : List Node) (ws : List Ring) 
       one
       (heir-e M R B e f c ((e ∷ (f ∷ ps)) ∷ ws) pk fan cur (endOr (vertex f) ps) (pk .gaps .0 .0) (st .used .0 .0))
       (heir-f M R B e f c ((e ∷ (f ∷ ps)) ∷ ws) pk fan cur (startOr (vertex e) ps) (pk .gaps .0 .1 .0) (st .used .0 .1 .0))
-      (λ q. absurd (op-not-new (operationFor (suc (suc (length ps))) (n .ring) (n .at)) (place-op (suc (suc (length ps))) (n .ring) (n .at)) (al .names ∙ q)))
+      (λ q. absurd (op-not-new (operationFor (reached (f ∷ ps) false) (n .ring) (seat (n .spot))) (place-op (reached (f ∷ ps) false) (n .ring) (seat (n .spot))) (al .names ∙ q)))
       (λ q. (
         subst (λ (v : ℕ). Filled M R v c (vertex f)) (sym (al .enter)) (n .back),
         subst (λ (v : ℕ). Filled M R (vertex e) c v) (sym (al .leave)) (n .on),

@@ -1,18 +1,17 @@
 -- Packing meets the edge rule: an edge of the new triangle whose opposite is used is glued.
 -- Assumes nothing.
-use Prim.Native.Nat.{ℕ, suc, _+_, _-_, _≤_, _<_}
+use Prim.Native.Nat.{ℕ, suc, _+_, _≤_, _<_}
 use native.Mathlib.Omega.{arith}
 use mathlib.Core.Bool.{Bool, true, false}
 use mathlib.Core.List.{List, _∷_}
-use mathlib.Core.Path.{_≡_, refl, sym, ap, ap₂, _∙_, subst}
+use mathlib.Core.Path.{_≡_, refl, sym, ap₂, _∙_, subst}
 use mathlib.Core.Logic.{_⊎_, inl, inr}
 use lib.ListN.{length}
 use lib.Dec.{eqb}
-use borrow.Author.Tests.{eqb-true, eqb-false, ne-eqb}
+use borrow.Author.Tests.{eqb-true, ne-eqb}
 use Rattle.rules.specs.declared.Triangle.{Triangle}
-use Rattle.rules.specs.declared.Operation.the-variants.{Forward, Backward, Close}
 use Rattle.rules.specs.Ring.{Node, Ring, vertex, isOpen, loopAt}
-use Rattle.rules.specs.Choice.{operationFor, sizeOf, following}
+use Rattle.rules.specs.Choice.{sizeOf, following}
 use Rattle.fans.specs.Corner.{at-p, In, here, there}
 use Rattle.gap.specs.Turn.{Unused, Turn, rest, turn, jump}
 use Rattle.gap.specs.Corners.{Filled}
@@ -24,7 +23,6 @@ use Rattle.gap.proofs.Places.{spotted-holds, spotted-site, place-leavin
 use Rattle.gap.proofs.Exists.{Used, PlaceOf}
 use Rattle.gap.proofs.Canonical.{State}
 use Rattle.gap.proofs.Packing.{Packs, no-step}
-use Rattle.gap.proofs.Sites.{op-close, op-forward, op-backward}
 
 -- a path into a vertex that nothing enters
 pub no-entry : {M : List Triangle} {c x y : ℕ} {R : List Triangle} → Unused y c R → (Unused y c M → ⊥) → Turn M c R x y → x ≡ y
@@ -155,39 +153,3 @@ module _ (M R B : List Triangle) (e f : Node) (ps : List Node) (ws : List Ring) 
           let v-a = once-inj (triangleAt e f c ∷ R) (st .once) (h .2) ba in
           no-entry (λ w j. st .apart (vertex e) (vertex f) w (ab .0) j (ab .1)) (λ g. g (ab .0) (st .subB _ _ _ (ab .1)))
           (subst (λ (v : ℕ). Turn M (vertex f) (triangleAt e f c ∷ R) x v) v-a (h .1))
-
--- the place before e is named by close or backward, the one after f by close or forward
-before-op : (k i : ℕ) → i + 1 ≡ k → (operationFor k 0 i ≡ Close) ⊎ (operationFor k 0 i ≡ Backward)
-before-op k i h = go (eqb k 3) refl
-  where
-    go : (t : Bool) → eqb k 3 ≡ t → (operationFor k 0 i ≡ Close) ⊎ (operationFor k 0 i ≡ Backward)
-    go true g =
-        let k3 = eqb-true k 3 g in
-        let i2 : i ≡ 2 = omega arith in
-        inl (ap₂ (λ (m j : ℕ). operationFor m 0 j) k3 i2 ∙ op-close)
-    go false g = inr (op-backward k i (eqb-false k 3 g) (λ j. eqb-false k 3 g (omega arith)) h)
-
-after-op : (k : ℕ) → (operationFor k 0 2 ≡ Close) ⊎ (operationFor k 0 2 ≡ Forward)
-after-op k = go (eqb k 3) refl
-  where
-    go : (t : Bool) → eqb k 3 ≡ t → (operationFor k 0 2 ≡ Close) ⊎ (operationFor k 0 2 ≡ Forward)
-    go true g = inl (ap (λ (m : ℕ). operationFor m 0 2) (eqb-true k 3 g) ∙ op-close)
-    go false g = inr (op-forward k (eqb-false k 3 g))
-
--- the edge rule, for the operation o that the place names: an opposite that is used is glued
-module _ (M R B : List Triangle) (e f : Node) (ps : List Node) (ws : List Ring) (c : ℕ)
-    (pk : Packs M (triangleAt e f c ∷ R) B ((e ∷ (f ∷ ps)) ∷ ws)) (live : isOpen e ≡ true) (three : 1 ≤ length ps)
-    (n : PlaceOf M R ((e ∷ (f ∷ ps)) ∷ ws) (vertex e) (vertex f) c) where
-  pub rule-a : (z : ℕ) → In c (vertex e) z B
-      → (operationFor (suc (suc (length ps))) (n .ring) (n .at) ≡ Close) ⊎ (operationFor (suc (suc (length ps))) (n .ring) (n .at) ≡ Backward)
-  rule-a z i =
-      let g = glue-a M R B e f ps ws c pk live three n z i in
-      subst (λ (r : ℕ). (operationFor (suc (suc (length ps))) r (n .at) ≡ Close) ⊎ (operationFor (suc (suc (length ps))) r (n .at) ≡ Backward)) (sym (g .0))
-      (before-op (suc (suc (length ps))) (n .at) (g .1))
-
-  pub rule-b : (z : ℕ) → In (vertex f) c z B
-      → (operationFor (suc (suc (length ps))) (n .ring) (n .at) ≡ Close) ⊎ (operationFor (suc (suc (length ps))) (n .ring) (n .at) ≡ Forward)
-  rule-b z i =
-      let g = glue-b M R B e f ps ws c pk live three n z i in
-      subst (λ (r : ℕ). (operationFor (suc (suc (length ps))) r (n .at) ≡ Close) ⊎ (operationFor (suc (suc (length ps))) r (n .at) ≡ Forward)) (sym (g .0))
-      (subst (λ (i : ℕ). (operationFor (suc (suc (length ps))) 0 i ≡ Close) ⊎ (operationFor (suc (suc (length ps))) 0 i ≡ Forward)) (sym (g .1)) (after-op (suc (suc (length ps)))))

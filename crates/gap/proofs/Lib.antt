@@ -8,6 +8,7 @@ pub mod Fate
 pub mod Turning
 pub mod Spotting
 pub mod Choice
+pub mod Showing
 pub mod Sites
 pub mod Onward
 pub mod Marking
@@ -46,10 +47,12 @@ pub mod Operating
 pub mod Tracking
 pub mod Following
 pub mod Below
+pub mod Full
 pub mod Working
 pub mod Allowances
 pub mod Rules
 pub mod Repacking
+pub mod Shortened
 pub mod Renaming
 pub mod Unpacking
 pub mod Distinct

@@ -5,14 +5,12 @@ use native.Mathlib.Omega.{arith}
 use mathlib.Core.Bool.{Bool, true, false, false≢true}
 use mathlib.Core.List.{List, [], _∷_, _++_}
 use mathlib.Core.Path.{_≡_, refl, sym, ap, _∙_}
-use lib.ListN.{length}
-use lib.Dec.{leb}
 use Rattle.rules.specs.declared.Operation.{Operation}
 use Rattle.rules.specs.declared.Operation.the-variants.{New, Forward, Backward, Split, Close, Union}
 use Rattle.rules.specs.Count.{hit}
 use Rattle.rules.specs.Ring.{Node, opened, marked, Ring, vertex, isOpen, startOr}
-use Rattle.rules.specs.Table.{inOrder, shorterFirst}
-use Rattle.gap.specs.Surgery.{Surgery, on-new, on-forward, on-backward, on-close, on-split, on-union}
+use Rattle.rules.specs.Table.{inOrder}
+use Rattle.gap.specs.Surgery.{fewer, fewerFirst, Surgery, on-new, on-forward, on-backward, on-close, on-split, on-union}
 use Rattle.gap.specs.Trace.{afterBorder, withRing}
 use Rattle.gap.specs.Tally.{tally, total, unless}
 use Rattle.gap.proofs.Rings.{append-none}
@@ -61,9 +59,9 @@ module _ (x y : ℕ) where
   all-append [] vs = omega arith
   all-append (u ∷ us) vs = let h = all-append us vs in omega arith
 
-  all-shorter : (a b : List Node) (ws : List Ring) → allMark x y (shorterFirst a b ws) ≡ ringMark x y a + (ringMark x y b + allMark x y ws)
+  all-shorter : (a b : List Node) (ws : List Ring) → allMark x y (fewerFirst a b ws) ≡ ringMark x y a + (ringMark x y b + allMark x y ws)
   unfolding inOrder
-  all-shorter a b ws = go (leb (length a) (length b))
+  all-shorter a b ws = go (fewer a b)
     where
       go : (t : Bool) → allMark x y (inOrder t a b ws) ≡ ringMark x y a + (ringMark x y b + allMark x y ws)
       go true = refl

@@ -5,16 +5,14 @@ use mathlib.Core.Bool.{Bool, true, false, false≢true}
 use mathlib.Core.List.{List, [], _∷_, _++_}
 use mathlib.Core.Path.{_≡_, sym, subst}
 use mathlib.Core.Logic.{_⊎_, inl, inr}
-use lib.ListN.{length}
-use lib.Dec.{leb}
 use Rattle.rules.specs.declared.Triangle.{Triangle}
 use Rattle.rules.specs.declared.Operation.{Operation}
 use Rattle.rules.specs.declared.Operation.the-variants.{New, Forward, Backward, Split, Close, Union}
 use Rattle.rules.specs.Ring.{Node, opened, marked, Ring, vertex, startOr, onward}
-use Rattle.rules.specs.Table.{inOrder, shorterFirst}
+use Rattle.rules.specs.Table.{inOrder}
 use Rattle.gap.specs.Turn.{Unused, rest, jump}
 use Rattle.gap.specs.Corners.{endOr, Along, Around, Marks, RingMarks, AllMarks, Filled}
-use Rattle.gap.specs.Surgery.{Surgery, on-new, on-forward, on-backward, on-close, on-split, on-union}
+use Rattle.gap.specs.Surgery.{fewer, fewerFirst, Surgery, on-new, on-forward, on-backward, on-close, on-split, on-union}
 use Rattle.gap.proofs.Rings.{append-none, ring-swap}
 use Rattle.gap.proofs.Sites.{all-marks-split}
 use Rattle.gap.proofs.Onward.{Closed, Turned, onward-cases}
@@ -43,9 +41,9 @@ module _ (M : List Triangle) where
   all-marks-append [] vs r s = s
   all-marks-append (u ∷ us) vs r s = (r .0, all-marks-append us vs (r .1) s)
 
-  marks-shorter : (a b : List Node) (ws : List Ring) → RingMarks M a → RingMarks M b → AllMarks M ws → AllMarks M (shorterFirst a b ws)
+  marks-shorter : (a b : List Node) (ws : List Ring) → RingMarks M a → RingMarks M b → AllMarks M ws → AllMarks M (fewerFirst a b ws)
   unfolding inOrder
-  marks-shorter a b ws h k m = go (leb (length a) (length b))
+  marks-shorter a b ws h k m = go (fewer a b)
     where
       go : (t : Bool) → AllMarks M (inOrder t a b ws)
       go true = (h, (k, m))

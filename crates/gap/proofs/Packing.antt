@@ -1,25 +1,27 @@
 -- Packing a list that is accepted: the choice is one operation, and it is allowed.
 -- Assumes nothing.
-use Prim.Native.Nat.{ℕ, suc}
+use Prim.Native.Nat.{ℕ}
+use mathlib.Core.Bool.{true, false}
 use mathlib.Core.List.{List, _∷_}
 use mathlib.Core.Path.{_≡_, refl, sym, _∙_, subst}
 use mathlib.Core.Logic.{_⊎_}
-use lib.ListN.{length}
 use Rattle.rules.specs.declared.Triangle.{Triangle}
-use Rattle.rules.specs.Ring.{Node, Ring, vertex, loopAt}
+use Rattle.rules.specs.Ring.{Node, Ring, vertex, isOpen, reached, loopAt}
 use Rattle.rules.specs.Choice.{operationFor, choosePlace}
 use Rattle.fans.specs.Corner.{Rot, at-p, In, here, there}
 use Rattle.fans.specs.Neighbours.{Neighbours}
+use Rattle.shown.specs.Shown.{shownAll, Live}
 use Rattle.gap.specs.Turn.{Unused, Turn, rest, turn, jump}
 use Rattle.gap.specs.Corners.{Everywhere, AllMarks, Filled}
-use Rattle.gap.specs.Spots.{OpenAt}
+use Rattle.gap.specs.Spots.{OpenAt, seat}
 use Rattle.gap.specs.Trace.{triangleAt}
 use Rattle.fans.proofs.Corners.{rot-next}
 use Rattle.gap.proofs.Links.{free-rot}
-use Rattle.gap.proofs.Places.{spotted-holds, spotted-site}
+use Rattle.gap.proofs.Places.{spotted-holds, spotted-seen}
 use Rattle.gap.proofs.Exists.{Used, PlaceOf, exists}
 use Rattle.gap.proofs.Choice.{chosen}
-use Rattle.gap.proofs.Canonical.{State, open-used}
+use Rattle.gap.proofs.Showing.{unique-shown}
+use Rattle.gap.proofs.Canonical.{State, shown-used}
 use Rattle.gap.proofs.Allowing.{Allowed, allowed-at}
 
 -- what packing keeps besides: all triangles are built or left; gaps are filled by those left; an edge whose other side is left is open
@@ -45,15 +47,15 @@ module _ (M R B : List Triangle) (e f : Node) (ps : List Node) (ws : List Ring) 
   st = pk .state
 
   -- the place is the packer's choice
-  pub choice-place : (n : PlaceOf M R ((e ∷ (f ∷ ps)) ∷ ws) (vertex e) (vertex f) c)
-      → choosePlace (vertex e) (vertex f) c R ((e ∷ (f ∷ ps)) ∷ ws) ≡ operationFor (suc (suc (length ps))) (n .ring) (n .at)
+  pub choice-place : Live ((e ∷ (f ∷ ps)) ∷ ws) → (n : PlaceOf M R ((e ∷ (f ∷ ps)) ∷ ws) (vertex e) (vertex f) c)
+      → choosePlace (vertex e) (vertex f) c R (shownAll ((e ∷ (f ∷ ps)) ∷ ws)) ≡ operationFor (reached (f ∷ ps) false) (n .ring) (seat (n .spot))
   unfolding loopAt st
-  choice-place n =
+  choice-place live n =
       let u = spotted-holds (Used B) (n .spot) (st .used) in
       chosen M R (vertex e) (vertex f) c (λ x y z i. st .subR x y z (there i)) (st .subR _ _ _ (here tri))
-      (free-rot R (st .once .0) (rot-next tri)) (st .onceM) (st .once .2) fan ((e ∷ (f ∷ ps)) ∷ ws) (st .unique)
-      (open-used M (triangleAt e f c ∷ R) B ((e ∷ (f ∷ ps)) ∷ ws) st)
-      (n .ring) (n .at) (n .x) (u .0 .0) (n .y) (spotted-site M (n .spot) (pk .marks)) (st .subB _ _ _ (u .0 .1))
+      (free-rot R (st .once .0) (rot-next tri)) (st .onceM) (st .once .2) fan (shownAll ((e ∷ (f ∷ ps)) ∷ ws)) (unique-shown ((e ∷ (f ∷ ps)) ∷ ws) live (st .unique))
+      (shown-used M (triangleAt e f c ∷ R) B ((e ∷ (f ∷ ps)) ∷ ws) st live)
+      (n .ring) (seat (n .spot)) (n .x) (u .0 .0) (n .y) (spotted-seen M (n .spot) (pk .marks) live) (st .subB _ _ _ (u .0 .1))
       (λ z i. st .apart _ _ z (u .0 .0) (there i) (u .0 .1))
       (λ q. st .apart (vertex e) c (vertex f) (u .0 .0) (here (rot-next tri)) (subst (λ (v : ℕ). In v c (u .0 .0) B) q (u .0 .1)))
       (λ z i. st .apart _ _ z (u .1 .0) (there i) (u .1 .1)) (n .back) (n .on)
@@ -66,16 +68,16 @@ module _ (M R B : List Triangle) (e f : Node) (ps : List Node) (ws : List Ring) 
       ((e ∷ (f ∷ ps)) ∷ ws) (pk .gaps) (st .used) (pk .opens) m n j
 
   -- and the table allows its operation
-  pub place-allowed : (n : PlaceOf M R ((e ∷ (f ∷ ps)) ∷ ws) (vertex e) (vertex f) c) → Allowed e f ps ws c (n .ring) (n .at) (n .x) (n .y)
+  pub place-allowed : isOpen e ≡ true → (n : PlaceOf M R ((e ∷ (f ∷ ps)) ∷ ws) (vertex e) (vertex f) c) → Allowed e f ps ws c (n .ring) (n .at) (seat (n .spot)) (n .x) (n .y)
   unfolding st
-  place-allowed n =
+  place-allowed live n =
       let s = n .spot in
       let g =
       allowed-at M e f ps ws (s .p)
       (λ h. h (vertex e) (subst (λ (v : ℕ). In v (vertex f) (vertex e) M) (sym (s .own)) (st .subR _ _ _ (here (rot-next (rot-next tri))))))
       (λ h. h (vertex f) (subst (λ (v : ℕ). In (vertex e) v (vertex f) M) (sym (s .own)) (st .subR _ _ _ (here (rot-next tri)))))
-      (pk .marks)
+      live (pk .marks)
       (λ h. st .once .1 .1 (sym h ∙ s .own))
       (λ h. st .once .1 .2 (sym (s .own) ∙ h))
-      (s .before) (s .us) (s .vs) (s .behind) (s .whole) in
+      (s .before) (s .us) (s .vs) (s .behind) (s .whole) (s .stays) in
       rw (← s .own, ← s .number, ← s .position, ← s .enter, ← s .leave) g

@@ -1,16 +1,20 @@
 -- From an open edge to the place that it leaves, and to the place that it enters.
 -- Assumes nothing.
 use Prim.Native.Nat.{ℕ, zero, suc, _+_}
+use mathlib.Core.Bool.{true, false, not}
 use mathlib.Core.List.{List, [], _∷_, _++_, append-assoc}
 use mathlib.Core.Path.{_≡_, refl, sym, ap, _∙_, subst}
+use mathlib.Core.Logic.{inl, inr}
 use lib.ListN.{length}
 use Rattle.rules.specs.declared.Triangle.{Triangle}
-use Rattle.rules.specs.Ring.{Node, Ring, vertex, startOr}
+use Rattle.rules.specs.Ring.{Node, Ring, vertex, isOpen, startOr}
+use Rattle.shown.specs.Shown.{ends, shownAll, Live}
+use Rattle.shown.proofs.Shown.{live-split, ends-last}
 use Rattle.gap.specs.Corners.{endOr, Everywhere, AllMarks}
-use Rattle.gap.specs.Spots.{EdgeIn, OpenAt, Site, Spotted}
+use Rattle.gap.specs.Spots.{EdgeIn, OpenAt, Site, Spotted, seat}
 use Rattle.gap.proofs.Rings.{ring-swap, last-append}
 use Rattle.gap.proofs.Fate.{rings-split}
-use Rattle.gap.proofs.Sites.{site, all-marks-split, last-join, first-join, first-append}
+use Rattle.gap.proofs.Sites.{site, site-shown, alone, all-marks-split, last-join, first-join, first-append}
 
 -- what holds at each place holds there
 pub spotted-holds : (Q : ℕ → ℕ → ℕ → Type 0) {ls : List Ring} {l i c x y : ℕ} → Spotted ls l i c x y → Everywhere Q ls → Q x c y
@@ -28,6 +32,14 @@ spotted-site M {ls} {l} {i} {c} {x} {y} s m =
     rw (s .whole, ← s .number, ← s .position, ← s .own, ← s .enter, ← s .leave)
     (site M (s .before) (s .us) (s .p) (s .vs) (s .behind) k)
 
+-- and its place in the rings shown
+pub spotted-seen : (M : List Triangle) {ls : List Ring} {l i c x y : ℕ} (s : Spotted ls l i c x y) → AllMarks M ls → Live ls → Site M (shownAll ls) l (seat s) c x y
+spotted-seen M {ls} {l} {i} {c} {x} {y} s m g =
+    let k = all-marks-split M (s .before) ((s .us ++ (s .p ∷ s .vs)) ∷ s .behind) (subst (AllMarks M) (s .whole) m) .1 .0 in
+    let h = alone (s .us ++ (s .p ∷ s .vs)) (s .behind) (live-split (s .before) ((s .us ++ (s .p ∷ s .vs)) ∷ s .behind) (subst Live (s .whole) g) .1) in
+    rw (s .whole, ← s .number, ← s .own, ← s .enter, ← s .leave)
+    (site-shown M (s .before) (s .us) (s .p) (s .vs) (s .behind) k h (s .stays))
+
 record Edged (first : ℕ) (l : List Node) (i x y : ℕ) : Type 0 where
   us : List Node
   p : Node
@@ -36,9 +48,10 @@ record Edged (first : ℕ) (l : List Node) (i x y : ℕ) : Type 0 where
   position : length us ≡ i
   own : vertex p ≡ x
   next : startOr first vs ≡ y
+  live : isOpen p ≡ true
 
 edged : (first : ℕ) (l : List Node) (i x y : ℕ) → EdgeIn first l i x y → Edged first l i x y
-edged first (p ∷ ps) zero x y h = record { us = []; p = p; vs = ps; whole = refl; position = refl; own = h .1; next = h .2 }
+edged first (p ∷ ps) zero x y h = record { us = []; p = p; vs = ps; whole = refl; position = refl; own = h .1; next = h .2; live = h .0 }
 edged first (p ∷ ps) (suc i) x y h =
     let r = edged first ps i x y h in
     record {
@@ -49,6 +62,7 @@ edged first (p ∷ ps) (suc i) x y h =
       position = ap suc (r .position);
       own = r .own;
       next = r .next;
+      live = r .live;
     }
 
 more-before : (w : List Node) {ls : List Ring} {l i c x y : ℕ} → Spotted ls l i c x y → Spotted (w ∷ ls) (suc l) i c x y
@@ -65,6 +79,7 @@ more-before w s =
       own = s .own;
       enter = s .enter;
       leave = s .leave;
+      stays = s .stays;
     }
 
 -- the place that an open edge leaves
@@ -85,6 +100,7 @@ place-leaving (w ∷ ws) zero i c y h =
         enter = refl;
         leave =
             ap (λ (v : ℕ). startOr v (r .vs)) (sym (ap (startOr 0) (r .whole) ∙ first-append 0 (r .us) (r .p) (r .vs))) ∙ r .next;
+        stays = inl (r .live);
       },
     )
 place-leaving (w ∷ ws) (suc l) i c y h = let r = place-leaving ws l i c y h in (r .0, more-before w (r .1))
@@ -96,8 +112,9 @@ pub record Entered (ls : List Ring) (l c x : ℕ) : Type 0 where
   pub place : Spotted ls l at c x y
 
 entered-ring : (w : List Node) (ws : List Ring) (x c : ℕ) (us : List Node) (q : Node) (vs : List Node) → w ≡ us ++ (q ∷ vs)
-    → vertex q ≡ x → startOr (startOr (vertex q) us) vs ≡ c → Entered (w ∷ ws) 0 c x
-entered-ring w ws x c us q (p ∷ vs) e o n = record {
+    → vertex q ≡ x → startOr (startOr (vertex q) us) vs ≡ c → isOpen q ≡ true → Entered (w ∷ ws) 0 c x
+unfolding ends
+entered-ring w ws x c us q (p ∷ vs) e o n h = record {
   at = length (us ++ (q ∷ []));
   y = startOr (startOr (vertex p) (us ++ (q ∷ []))) vs;
   place =
@@ -113,9 +130,10 @@ entered-ring w ws x c us q (p ∷ vs) e o n = record {
         own = n;
         enter = last-append (endOr (vertex p) vs) us q [] ∙ o;
         leave = refl;
+        stays = inr (ends-last us q false ∙ ap not h);
       };
 }
-entered-ring w ws x c [] q [] e o n = record {
+entered-ring w ws x c [] q [] e o n h = record {
   at = 0;
   y = vertex q;
   place =
@@ -131,9 +149,10 @@ entered-ring w ws x c [] q [] e o n = record {
         own = n;
         enter = o;
         leave = refl;
+        stays = inr refl;
       };
 }
-entered-ring w ws x c (p ∷ us) q [] e o n = record {
+entered-ring w ws x c (p ∷ us) q [] e o n h = record {
   at = 0;
   y = startOr (vertex p) (us ++ (q ∷ []));
   place =
@@ -149,6 +168,7 @@ entered-ring w ws x c (p ∷ us) q [] e o n = record {
         own = n;
         enter = last-append (vertex p) us q [] ∙ o;
         leave = refl;
+        stays = inr refl;
       };
 }
 
@@ -156,6 +176,6 @@ pub place-entered : (ls : List Ring) (l i x c : ℕ) → OpenAt ls l i x c → E
 place-entered (w ∷ ws) zero i x c h =
     let r = edged (startOr 0 w) w i x c h in
     entered-ring w ws x c (r .us) (r .p) (r .vs) (r .whole) (r .own)
-    (ap (λ (v : ℕ). startOr v (r .vs)) (sym (ap (startOr 0) (r .whole) ∙ first-append 0 (r .us) (r .p) (r .vs))) ∙ r .next)
+    (ap (λ (v : ℕ). startOr v (r .vs)) (sym (ap (startOr 0) (r .whole) ∙ first-append 0 (r .us) (r .p) (r .vs))) ∙ r .next) (r .live)
 place-entered (w ∷ ws) (suc l) i x c h =
     let r = place-entered ws l i x c h in record { at = r .at; y = r .y; place = more-before w (r .place) }

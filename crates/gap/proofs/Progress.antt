@@ -7,18 +7,19 @@ use mathlib.Core.List.{List, [], _∷_, _++_}
 use mathlib.Core.Path.{_≡_, refl, sym, ap, _∙_, subst}
 use mathlib.Core.Logic.{_⊎_, inl, inr}
 use lib.ListN.{length, length-append}
-use lib.Dec.{eqb, leb}
+use lib.Dec.{eqb}
 use borrow.Author.Tests.{eqb-true, eqb-false}
 use Rattle.rules.specs.declared.Triangle.{Triangle}
 use Rattle.rules.specs.declared.Operation.{Operation}
 use Rattle.rules.specs.declared.Operation.the-variants.{New, Forward, Backward, Split, Close, Union}
 use Rattle.rules.specs.Ring.{Node, opened, marked, Ring, vertex, isOpen, firstOpen}
-use Rattle.rules.specs.Table.{inOrder, shorterFirst}
+use Rattle.rules.specs.Table.{inOrder}
 use Rattle.rules.specs.Choice.{choosePlace}
 use Rattle.fans.specs.Corner.{at-p, at-q, at-r, In, here, there, Once}
 use Rattle.fans.specs.Neighbours.{Neighbours}
+use Rattle.shown.specs.Shown.{shownAll, Live}
 use Rattle.gap.specs.Turn.{Unused}
-use Rattle.gap.specs.Surgery.{Surgery, on-new, on-forward, on-backward, on-close, on-split, on-union}
+use Rattle.gap.specs.Surgery.{fewer, fewerFirst, Surgery, on-new, on-forward, on-backward, on-close, on-split, on-union}
 use Rattle.gap.specs.Trace.{afterBorder, withRing}
 use Rattle.gap.proofs.Turning.{others, look}
 use Rattle.gap.proofs.Onward.{Turned, turned-ring}
@@ -36,6 +37,11 @@ abbrev pub AllGood : List Ring → Type 0
 AllGood [] = Unit {0}
 AllGood (l ∷ ls) = Good l × AllGood ls
 
+pub good-live : (ls : List Ring) → AllGood ls → Live ls
+good-live [] g = tt
+good-live ([] ∷ ls) g = g .0
+good-live ((p ∷ ps) ∷ ls) g = (g .0 .0, good-live ls (g .1))
+
 good-split : (us vs : List Ring) → AllGood (us ++ vs) → AllGood us × AllGood vs
 good-split [] vs g = (tt, g)
 good-split (u ∷ us) vs g = let r = good-split us vs (g .1) in ((g .0, r .0), r .1)
@@ -44,9 +50,9 @@ good-append : (us vs : List Ring) → AllGood us → AllGood vs → AllGood (us 
 good-append [] vs g h = h
 good-append (u ∷ us) vs g h = (g .0, good-append us vs (g .1) h)
 
-good-shorter : (a b : List Node) (ws : List Ring) → Good a → Good b → AllGood ws → AllGood (shorterFirst a b ws)
+good-shorter : (a b : List Node) (ws : List Ring) → Good a → Good b → AllGood ws → AllGood (fewerFirst a b ws)
 unfolding inOrder
-good-shorter a b ws h k m = go (leb (length a) (length b))
+good-shorter a b ws h k m = go (fewer a b)
   where
     go : (t : Bool) → AllGood (inOrder t a b ws)
     go true = (h, (k, m))
@@ -107,7 +113,7 @@ pub data Goes (M R B : List Triangle) (ls rims : List Ring) : Type 0 where
   by-build : (e f : Node) (ps : List Node) (ws : List Ring) (c : ℕ) (i : In (vertex f) (vertex e) c R) → ls ≡ (e ∷ (f ∷ ps)) ∷ ws
       → (p : Packed M (others i) B e f ps ws rims c)
       → (((m n : ℕ) → In c m n B → ⊥) × (p .o ≡ New))
-      ⊎ (((m : ℕ) × (n : ℕ) × In c m n B) × (choosePlace (vertex e) (vertex f) c (others i) ((e ∷ (f ∷ ps)) ∷ ws) ≡ p .o))
+      ⊎ (((m : ℕ) × (n : ℕ) × In c m n B) × (choosePlace (vertex e) (vertex f) c (others i) (shownAll ((e ∷ (f ∷ ps)) ∷ ws)) ≡ p .o))
       → AllGood (p .ls) → Goes M R B ls rims
   by-border : (e f : Node) (ps : List Node) (ws : List Ring) → ls ≡ (e ∷ (f ∷ ps)) ∷ ws → Unused (vertex f) (vertex e) R
       → Keeps M R B (withRing (afterBorder e f ps) ws) (withRim (afterBorder e f ps) (rimOf e f ps) rims) → AllGood (withRing (afterBorder e f ps) ws)
@@ -122,7 +128,7 @@ live-step M R B e f ps ws rims k g fan = go (look (vertex f) (vertex e) R)
     built c i (inl r) =
         let three : 1 ≤ length ps = (let h = g .0 .1 in omega arith) in
         let p =
-        pack-old M (others i) B e f ps ws rims c (keeps-take M R B ((e ∷ (f ∷ ps)) ∷ ws) rims (vertex f) (vertex e) c i k) (fan c) (g .0 .0) three (r .0) (r .1) (r .2) in
+        pack-old M (others i) B e f ps ws rims c (keeps-take M R B ((e ∷ (f ∷ ps)) ∷ ws) rims (vertex f) (vertex e) c i k) (fan c) (good-live ((e ∷ (f ∷ ps)) ∷ ws) g) three (r .0) (r .1) (r .2) in
         by-build e f ps ws c i refl (p .0) (inr (r, p .1)) (good-step e f ps ws (p .0 .ls) c (p .0 .o) (p .0 .does) g)
     built c i (inr n) =
         let p = pack-new M (others i) B e f ps ws rims c (keeps-take M R B ((e ∷ (f ∷ ps)) ∷ ws) rims (vertex f) (vertex e) c i k) (fan c) n in

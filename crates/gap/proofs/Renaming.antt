@@ -2,18 +2,20 @@
 -- Assumes nothing.
 use Prim.Native.Nat.{ℕ, suc, _+_}
 use native.Mathlib.Omega.{arith}
-use mathlib.Core.Bool.{Bool, true, false}
+use mathlib.Core.Bool.{Bool, true, false, not}
 use mathlib.Core.List.{List, [], _∷_, _++_}
 use mathlib.Core.Path.{_≡_, refl, sym, ap, ap₂, _∙_}
+use mathlib.Core.Logic.{inl, inr}
 use lib.ListN.{length}
 use lib.Dec.{leb}
 use Rattle.rules.specs.declared.Triangle.{Triangle}
 use Rattle.rules.specs.declared.Operation.{Operation}
 use Rattle.rules.specs.declared.Operation.the-variants.{New, Forward, Backward, Split, Close, Union}
 use Rattle.rules.specs.Triangle.{tri}
-use Rattle.rules.specs.Ring.{Node, opened, marked, Ring, vertex, isOpen, onward, places}
-use Rattle.rules.specs.Table.{inOrder, shorterFirst}
-use Rattle.gap.specs.Surgery.{Surgery, on-new, on-forward, on-backward, on-close, on-split, on-union}
+use Rattle.rules.specs.Ring.{Node, opened, marked, Ring, vertex, isOpen, onward, reached, shown, places}
+use Rattle.rules.specs.Table.{inOrder}
+use Rattle.shown.specs.Shown.{ends, Stays, shownAll, Live}
+use Rattle.gap.specs.Surgery.{fewerFirst, Surgery, on-new, on-forward, on-backward, on-close, on-split, on-union}
 use Rattle.gap.specs.Trace.{afterBorder, withRing}
 
 module _ (name : ℕ → ℕ) where
@@ -69,10 +71,52 @@ module _ (name : ℕ → ℕ) where
   places-rings [] = refl
   places-rings (l ∷ ls) = ap₂ (λ (a b : ℕ). a + b) (length-nodes l) (places-rings ls)
 
-  shorter-nodes : (a b : List Node) (ws : List Ring) → rings (shorterFirst a b ws) ≡ shorterFirst (nodes a) (nodes b) (rings ws)
+  -- what is shown of the rings
+  pub reached-nodes : (ps : List Node) (m : Bool) → reached (nodes ps) m ≡ nodes (reached ps m)
+  unfolding reached
+  reached-nodes [] m = refl
+  reached-nodes (opened v ∷ ps) m = ap (λ (l : List Node). opened (name v) ∷ l) (reached-nodes ps false)
+  reached-nodes (marked v ∷ ps) true = reached-nodes ps true
+  reached-nodes (marked v ∷ ps) false = ap (λ (l : List Node). marked (name v) ∷ l) (reached-nodes ps true)
+
+  pub ends-nodes : (ps : List Node) (m : Bool) → ends (nodes ps) m ≡ ends ps m
+  unfolding ends
+  ends-nodes [] m = refl
+  ends-nodes (p ∷ ps) m = ends-nodes ps (not (isOpen (node p))) ∙ ap (λ (t : Bool). ends ps (not t)) (open-node p)
+
+  stays-node : (us : List Node) (p : Node) → Stays us p → Stays (nodes us) (node p)
+  stays-node us p (inl h) = inl (open-node p ∙ h)
+  stays-node us p (inr h) = inr (ends-nodes us false ∙ h)
+
+  short-nodes : (ps : List Node) (m : Bool) → length (reached (nodes ps) m) ≡ length (reached ps m)
+  short-nodes ps m = ap length (reached-nodes ps m) ∙ length-nodes (reached ps m)
+
+  shown-nodes : (l : List Node) → shown (nodes l) ≡ nodes (shown l)
+  shown-nodes [] = refl
+  shown-nodes (p ∷ ps) = ap (λ (l : List Node). node p ∷ l) (reached-nodes ps false)
+
+  pub all-shown-named : (ls : List Ring) → shownAll (rings ls) ≡ rings (shownAll ls)
+  all-shown-named [] = refl
+  all-shown-named (l ∷ ls) = ap₂ (λ (k : Ring) (ks : List Ring). k ∷ ks) (shown-nodes l) (all-shown-named ls)
+
+  -- they have as many places and loops
+  pub shown-places-named : (ls : List Ring) → places (shownAll (rings ls)) ≡ places (shownAll ls)
+  shown-places-named ls = ap places (all-shown-named ls) ∙ places-rings (shownAll ls)
+
+  pub shown-loops-named : (ls : List Ring) → length (shownAll (rings ls)) ≡ length (shownAll ls)
+  shown-loops-named ls = ap length (all-shown-named ls) ∙ length-rings (shownAll ls)
+
+  pub live-named : (ls : List Ring) → Live ls → Live (rings ls)
+  live-named [] g = tt
+  live-named ([] ∷ ls) g = g
+  live-named ((p ∷ ps) ∷ ls) g = (open-node p ∙ g .0, live-named ls (g .1))
+
+  shorter-nodes : (a b : List Node) (ws : List Ring) → rings (fewerFirst a b ws) ≡ fewerFirst (nodes a) (nodes b) (rings ws)
   unfolding inOrder
   shorter-nodes a b ws =
-      go (leb (length a) (length b)) ∙ ap (λ (t : Bool). inOrder t (nodes a) (nodes b) (rings ws)) (sym (ap₂ leb (length-nodes a) (length-nodes b)))
+      go (leb (length (shown a)) (length (shown b)))
+      ∙ ap (λ (t : Bool). inOrder t (nodes a) (nodes b) (rings ws))
+      (sym (ap₂ leb (ap length (shown-nodes a) ∙ length-nodes (shown a)) (ap length (shown-nodes b) ∙ length-nodes (shown b))))
     where
       go : (t : Bool) → rings (inOrder t a b ws) ≡ inOrder t (nodes a) (nodes b) (rings ws)
       go true = refl
@@ -94,15 +138,15 @@ module _ (name : ℕ → ℕ) where
   surgery-named e f ps ws ls c Close (on-close p sh k op op′ l) =
       on-close (node p) (ap nodes sh) (ap name k ∙ sym (vertex-node p)) (open-node f ∙ op) (open-node p ∙ op′) (ap rings l)
   surgery-named e f ps ws ls c (Split i) (on-split us p vs sh n lu lv k l) =
-      on-split (nodes us) (node p) (nodes vs) (ap nodes sh ∙ nodes-append us (p ∷ vs)) (ap suc (length-nodes us) ∙ n)
+      on-split (nodes us) (node p) (nodes vs) (ap nodes sh ∙ nodes-append us (p ∷ vs)) (short-nodes (f ∷ us) false ∙ n .0, stays-node (f ∷ us) p (n .1))
       (let h = length-nodes us in omega arith) (let h = length-nodes vs in omega arith) (ap name k ∙ sym (vertex-node p))
       (ap rings l
       ∙ (shorter-nodes (opened (vertex p) ∷ (f ∷ us)) (opened (vertex e) ∷ (p ∷ vs)) ws
-      ∙ ap₂ (λ (x y : Node). shorterFirst (x ∷ (node f ∷ nodes us)) (y ∷ (node p ∷ nodes vs)) (rings ws)) (opened-node p) (opened-node e)))
+      ∙ ap₂ (λ (x y : Node). fewerFirst (x ∷ (node f ∷ nodes us)) (y ∷ (node p ∷ nodes vs)) (rings ws)) (opened-node p) (opened-node e)))
   surgery-named e f ps ws ls c (Union w j) (on-union before us p vs behind sh n i k l) =
       on-union (rings before) (nodes us) (node p) (nodes vs) (rings behind)
       (ap rings sh ∙ (rings-append before ((us ++ (p ∷ vs)) ∷ behind) ∙ ap (λ (r : List Node). rings before ++ (r ∷ rings behind)) (nodes-append us (p ∷ vs))))
-      (ap suc (length-rings before) ∙ n) (length-nodes us ∙ i) (ap name k ∙ sym (vertex-node p))
+      (ap suc (length-rings before) ∙ n) (short-nodes us false ∙ i .0, stays-node us p (i .1)) (ap name k ∙ sym (vertex-node p))
       (ap rings l
       ∙ (ap₂ (λ (r : List Node) (rs : List Ring). (opened (name (vertex p)) ∷ (node f ∷ r)) ∷ rs)
       (nodes-append ps (opened (vertex e) ∷ (p ∷ (vs ++ us))) ∙ ap (λ (r : List Node). nodes ps ++ (opened (name (vertex e)) ∷ (node p ∷ r))) (nodes-append vs us))

@@ -24,7 +24,7 @@ use Rattle.gap.specs.Building.{onto}
 use Rattle.gap.proofs.Runs.{Run, r-done, r-start, r-build, r-border, Facts, facts, Choices, canonical-all}
 use Rattle.gap.proofs.Fans.{fans-of}
 use Rattle.gap.proofs.Whole.{fits-begin}
-use Rattle.gap.proofs.Tracking.{peak, Within, numbering, upTo}
+use Rattle.gap.proofs.Tracking.{shownPlaces, shownLoops, peak, Within, numbering, upTo}
 use Rattle.gap.proofs.Following.{Followed, follow, run-length}
 use Rattle.gap.proofs.Working.{Worked, Ready, works, works-ready}
 
@@ -76,8 +76,8 @@ within-more w k l h (r-start np nq nr d run) c = (let b = c .0 in omega arith, w
 within-more w k l h (r-build v s ra rb d new run) c = (let b = c .0 in omega arith, within-more w k l h run (c .1))
 within-more w k l h (r-border v run) c = (let b = c .0 in omega arith, within-more w k l h run (c .1))
 
-pub ready-empty : (st : Counts) → Ready (empty st)
-ready-empty st = record { good = tt; low = λ x y z i. elim i [ ]; rings = tt }
+pub ready-empty : (st : Counts) → Ready (empty st) [] []
+ready-empty st = record { shows = refl; sound = λ x y. inl refl; good = tt; low = λ x y z i. elim i [ ]; rings = tt }
 
 -- the packing of what the machine m has built by the operations os
 pub record Repacked (h : Most) (os : List Operation) (m : Machine) : Type 0 where
@@ -89,14 +89,14 @@ pub record Repacked (h : Most) (os : List Operation) (m : Machine) : Type 0 wher
   pub numbers : last .numbered ≡ upTo (m .used)
 
 module _ (st : Counts) (os : List Operation) (m : Machine) (w : Works (empty st) os m) (done : m .loops ≡ []) where
-  pub worked : Worked m (empty st) [] os
-  worked = works w (ready-empty st) done []
+  pub worked : Worked m (empty st) [] [] os
+  worked = works w [] [] (ready-empty st) done
 
   pub works-facts : Facts (m .triangles) (worked .order) []
   works-facts = facts (worked .run) (λ x y. inl refl) tt
 
   pub works-below : (x y z : ℕ) → In x y z (m .triangles) → x < m .used
-  works-below = works-ready w (ready-empty st) .low
+  works-below = works-ready w [] [] (ready-empty st) .2 .low
 
   pub works-order : trianglesOf (numbersOf (m .triangles)) ≡ worked .order
   works-order = built-order (m .triangles) (worked .order) (run-onto (worked .run))
@@ -114,11 +114,11 @@ module _ (st : Counts) (os : List Operation) (m : Machine) (w : Works (empty st)
         canonical-all (m .triangles) (worked .order) (works-facts .once) in-order (works-facts .subR) (fans-of (m .used) (m .triangles) (works-facts .onceM) fans works-below)
         (worked .run)
 
-    followed : Followed (nothingBuilt h (worked .order)) (4 * length (worked .order) + 1) os (peak places 0 (worked .run)) (peak length 0 (worked .run)) (numbering [] (worked .run))
+    followed : Followed (nothingBuilt h (worked .order)) (4 * length (worked .order) + 1) os (peak shownPlaces 0 (worked .run)) (peak shownLoops 0 (worked .run)) (numbering [] (worked .run))
     followed =
         follow (4 * length (worked .order) + 1) (worked .run) (nothingBuilt h (worked .order)) choices (λ x y. inl refl)
-        (within-more places (st .places) (h .places) in-places (worked .run) (worked .in-places))
-        (within-more length (st .loops) (h .loops) in-loops (worked .run) (worked .in-loops))
+        (within-more shownPlaces (st .places) (h .places) in-places (worked .run) (worked .in-places))
+        (within-more shownLoops (st .loops) (h .loops) in-loops (worked .run) (worked .in-loops))
         refl refl (fits-begin h (worked .order) (works-facts .once) .numbers) (let k = run-length (worked .run) in omega arith)
 
     pub repacks : Repacked h os m

@@ -128,10 +128,10 @@ module _ (st : Counts) (os : List Operation) (m : Machine) (w : Works (empty st)
   pub packs-back : Repacked most os m
   packs-back = repacks st os m w (done .no-loop) most (done .fans) (bounds .2) (bounds .3)
 
-  whole : Complete (nothingBuilt most order) [] [] os (packs-back .last)
+  whole : Complete (nothingBuilt most order) [] [] [] os (packs-back .last)
   unfolding Ends
   whole =
-      subst (Ends (nothingBuilt most order) [] []) (ap (chosenFor most) (sym (works-order st os m w (done .no-loop))) ∙ packs-back .packs)
+      subst (Ends (nothingBuilt most order) [] [] []) (ap (chosenFor most) (sym (works-order st os m w (done .no-loop))) ∙ packs-back .packs)
       (packs-whole most order (works-facts st os m w (done .no-loop) .once) fan)
 
   met : (c : ℕ) → c < m .used → Met c order

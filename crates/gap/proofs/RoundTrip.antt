@@ -24,7 +24,7 @@ use Rattle.fans.specs.Neighbours.{Neighbours}
 use Rattle.gap.proofs.Runs.{facts}
 use Rattle.gap.proofs.Numbering.{Met, index-tells}
 use Rattle.gap.proofs.Distinct.{all-once}
-use Rattle.gap.proofs.Tracking.{peak-within, numbering}
+use Rattle.gap.proofs.Tracking.{shownPlaces, shownLoops, peak-within, numbering}
 use Rattle.gap.proofs.Whole.{Complete, Ends, complete-all, complete-only}
 use Rattle.gap.proofs.Renaming.{triangles, length-triangles}
 use Rattle.gap.proofs.Unpacking.{Reached, reach, run-count}
@@ -40,7 +40,7 @@ statedBy v ts s = record { vertices = v; triangles = length ts; places = s .most
 abbrev pub newNumber : Packing → ℕ → ℕ
 newNumber s x = indexOf x (s .numbered)
 
-module _ (h : Most) (v : ℕ) (ts : List Triangle) (ok : Packable v ts) (os : List Operation) (s : Packing) (c : Complete (nothingBuilt h ts) [] [] os s) where
+module _ (h : Most) (v : ℕ) (ts : List Triangle) (ok : Packable v ts) (os : List Operation) (s : Packing) (c : Complete (nothingBuilt h ts) [] [] [] os s) where
   met-built : (x : ℕ) → Met x ts → Met x (c .built)
   met-built x m = (m .0, m .1, complete-all h ts os s c x (m .0) (m .1) (m .2))
 
@@ -61,8 +61,8 @@ module _ (h : Most) (v : ℕ) (ts : List Triangle) (ok : Packable v ts) (os : Li
       let w =
       reach (newNumber s) (c .built) numbers-tell (r .run) (empty (statedBy v ts s)) [] refl refl refl (r .agrees) (omega arith)
       (let k = r .count in omega arith)
-      (peak-within places 0 (s .mostPlaces) (r .run) (let k = r .most-places in omega arith))
-      (peak-within length 0 (s .mostLoops) (r .run) (let k = r .most-loops in omega arith)) in
+      (peak-within shownPlaces 0 (s .mostPlaces) (r .run) (let k = r .most-places in omega arith))
+      (peak-within shownLoops 0 (s .mostLoops) (r .run) (let k = r .most-loops in omega arith)) in
       record {
         end = w .end;
         works = w .works;
@@ -97,6 +97,6 @@ module _ (h : Most) (v : ℕ) (ts : List Triangle) (ok : Packable v ts) (os : Li
 
 -- an accepted list whose packing is not stopped by 9 or 10
 pub accepted-complete : (h : Most) (v : ℕ) (xs : List ℕ) (os : List Operation) (s : Packing) → check v xs ≡ Accepted
-    → chosenFor h (trianglesOf xs) ≡ chosen os s → Complete (nothingBuilt h (trianglesOf xs)) [] [] os s
+    → chosenFor h (trianglesOf xs) ≡ chosen os s → Complete (nothingBuilt h (trianglesOf xs)) [] [] [] os s
 unfolding Ends
-accepted-complete h v xs os s a e = subst (Ends (nothingBuilt h (trianglesOf xs)) [] []) e (accepted-packs h v xs a)
+accepted-complete h v xs os s a e = subst (Ends (nothingBuilt h (trianglesOf xs)) [] [] []) e (accepted-packs h v xs a)

@@ -16,6 +16,7 @@ use Rattle.rules.specs.Choice.{choosePlace}
 use Rattle.fans.specs.Corner.{at-p, at-q, at-r, In, here, there, Once}
 use Rattle.fans.specs.Neighbours.{Neighbours}
 use Rattle.fans.proofs.Counting.{hit-yes}
+use Rattle.shown.specs.Shown.{shownAll, Live}
 use Rattle.gap.specs.Turn.{Unused}
 use Rattle.gap.specs.Corners.{AllMarks}
 use Rattle.gap.specs.Surgery.{Surgery}
@@ -32,7 +33,7 @@ use Rattle.gap.proofs.Canonical.{State, canonical, border-across, next-
 use Rattle.gap.proofs.Marked.{allMark, all-le, mark-step, mark-border}
 use Rattle.gap.proofs.First.{legal-first}
 
--- the machine's run, from triangles B, ended rims and rings on, to the end, where M is built; R are the triangles that it builds
+-- the machine's run, from triangles B, ended rims and full rings on, to the end, where M is built; R are the triangles that it builds
 pub data Run (M : List Triangle) : List Triangle → List Ring → List Ring → List Operation → List Triangle → Type 0 where
   r-done : {rims : List Ring} → Run M M rims [] [] []
   r-start : {B : List Triangle} {rims : List Ring} {p q r : ℕ} {os : List Operation} {R : List Triangle}
@@ -41,7 +42,7 @@ pub data Run (M : List Triangle) : List Triangle → List Ring → List Ring →
       → Run M (record { p = p; q = q; r = r } ∷ B) rims ((opened p ∷ (opened q ∷ (opened r ∷ []))) ∷ []) os R
       → Run M B rims [] (Start ∷ os) (record { p = p; q = q; r = r } ∷ R)
   r-build : {B : List Triangle} {rims ws ls : List Ring} {e f : Node} {ps : List Node} {c : ℕ} {o : Operation} {os : List Operation} {R : List Triangle}
-      → isOpen e ≡ true → Surgery e f ps ws ls c o
+      → Live ((e ∷ (f ∷ ps)) ∷ ws) → Surgery e f ps ws ls c o
       → (gluesA o ≡ false → Unused (vertex e) c B × Unused c (vertex e) B) → (gluesB o ≡ false → Unused c (vertex f) B × Unused (vertex f) c B)
       → ((vertex e ≡ vertex f) → ⊥) × ((vertex f ≡ c) → ⊥) × ((c ≡ vertex e) → ⊥) → (o ≡ New → (m n : ℕ) → In c m n B → ⊥)
       → Run M (triangleAt e f c ∷ B) rims ls os R → Run M B rims ((e ∷ (f ∷ ps)) ∷ ws) (o ∷ os) (triangleAt e f c ∷ R)
@@ -112,7 +113,7 @@ stays {M} (r-done {rims = rims}) l x y h = go (l x y)
     go (inr e) = e .2
 stays {M} {B} (r-start {rims = rims} {p = p} {q = q} {r = r} np nq nr d run) l x y h = stays run (legal-first B rims p q r d np nq nr l) x y (omega arith)
 stays {M} {B} (r-build {rims = rims} {ws = ws} {ls = ls} {e = e} {f = f} {ps = ps} {c = c} {o = op} v s ra rb d new run) l x y h =
-    let m = mark-step x y e f ps ws ls c op v s in
+    let m = mark-step x y e f ps ws ls c op (v .0) s in
     stays run (legal-step B e f ps ws ls rims c op s ra rb (d .0) (d .1) (d .2) l) x y (omega arith)
 stays {M} {B} (r-border {rims = rims} {ws = ws} {e = e} {f = f} {ps = ps} v run) l x y h =
     let m = mark-border x y e f ps ws rims v (afterBorder e f ps) refl in stays run (sound-border B rims ws e f ps l) x y (omega arith)
@@ -141,7 +142,7 @@ Choices mesh (r-start np nq nr d run) = Choices mesh run
 Choices mesh (r-build {B = B} {ws = ws} {e = e} {f = f} {ps = ps} {c = c} {o = o} {R = R} v s ra rb d new run) =
     Finds (vertex f) (vertex e) c mesh
     × (((o ≡ New) × ((m n : ℕ) → In c m n B → ⊥))
-    ⊎ ((choosePlace (vertex e) (vertex f) c R ((e ∷ (f ∷ ps)) ∷ ws) ≡ o) × ((m : ℕ) × (n : ℕ) × In c m n B)))
+    ⊎ ((choosePlace (vertex e) (vertex f) c R (shownAll ((e ∷ (f ∷ ps)) ∷ ws)) ≡ o) × ((m : ℕ) × (n : ℕ) × In c m n B)))
     × Choices mesh run
 Choices mesh (r-border {e = e} {f = f} {R = R} v run) = (across (vertex f) (vertex e) mesh ≡ Nothing) × Choices mesh run
 
@@ -171,14 +172,14 @@ module _ (M mesh : List Triangle) (once : Once mesh) (all : (x y z : ℕ) → In
       let l′ = legal-step B e f ps ws ls rims c op s ra rb (d .0) (d .1) (d .2) l in
       let o′ = once-step B e f ps ws ls rims c op s ra rb (d .0) (d .1) (d .2) l o in
       let st = state-of M (triangleAt e f c ∷ R) B ((e ∷ (f ∷ ps)) ∷ ws) rims (facts-more M R B (triangleAt e f c) o′ (facts run l′ o′)) l in (
-        next-across M R B e f ps ws ls c op os s (trace run l′) m st (fan c) mesh once all,
-        told (canonical M R B e f ps ws ls c op os s (trace run l′) m st (fan c)),
+        next-across M R B e f ps ws ls c op os s (trace run l′) v m st (fan c) mesh once all,
+        told (canonical M R B e f ps ws ls c op os s (trace run l′) v m st (fan c)),
         canonical-run run l′ o′ (marks-step M e f ps ws ls c op s m),
       )
     where
-      told : (op ≡ New) ⊎ ((choosePlace (vertex e) (vertex f) c R ((e ∷ (f ∷ ps)) ∷ ws) ≡ op) × ((j : ℕ) × (n : ℕ) × In c j n B))
+      told : (op ≡ New) ⊎ ((choosePlace (vertex e) (vertex f) c R (shownAll ((e ∷ (f ∷ ps)) ∷ ws)) ≡ op) × ((j : ℕ) × (n : ℕ) × In c j n B))
           → ((op ≡ New) × ((j n : ℕ) → In c j n B → ⊥))
-          ⊎ ((choosePlace (vertex e) (vertex f) c R ((e ∷ (f ∷ ps)) ∷ ws) ≡ op) × ((j : ℕ) × (n : ℕ) × In c j n B))
+          ⊎ ((choosePlace (vertex e) (vertex f) c R (shownAll ((e ∷ (f ∷ ps)) ∷ ws)) ≡ op) × ((j : ℕ) × (n : ℕ) × In c j n B))
       told (inl h) = inl (h, new h)
       told (inr h) = inr h
   canonical-run {B} (r-border {rims = rims} {ws = ws} {e = e} {f = f} {ps = ps} {R = R} v run) l o m =

@@ -9,16 +9,17 @@ use mathlib.Core.Logic.{_⊎_, inl, inr}
 use lib.ListN.{length}
 use Rattle.rules.specs.declared.Triangle.{Triangle}
 use Rattle.rules.specs.declared.Operation.{Operation}
-use Rattle.rules.specs.declared.Operation.the-variants.{New, Forward, Backward, Close}
+use Rattle.rules.specs.declared.Operation.the-variants.{New}
 use Rattle.rules.specs.Count.{hit}
 use Rattle.rules.specs.Ring.{Node, opened, Ring, vertex, isOpen, startOr}
-use Rattle.rules.specs.Choice.{operationFor, choosePlace}
+use Rattle.rules.specs.Choice.{choosePlace}
 use Rattle.fans.specs.Corner.{Rot, at-p, at-q, at-r, In, here, there, Once}
 use Rattle.fans.specs.Neighbours.{Neighbours}
+use Rattle.shown.specs.Shown.{shownAll, Live}
 use Rattle.gap.specs.Turn.{Unused}
 use Rattle.gap.specs.Corners.{Everywhere, Marks, AllMarks, Filled}
 use Rattle.gap.specs.Surgery.{Surgery, on-new}
-use Rattle.gap.specs.Spots.{EdgeIn, OpenAt}
+use Rattle.gap.specs.Spots.{EdgeIn, OpenAt, seat}
 use Rattle.gap.specs.Trace.{triangleAt}
 use Rattle.gap.specs.Tally.{tally, total, gluesA, gluesB, when, unless}
 use Rattle.fans.proofs.Corners.{in-next, rot-next}
@@ -30,7 +31,7 @@ use Rattle.gap.proofs.Standing.{legal-unique, legal-used, at-most-one, 
 use Rattle.gap.proofs.Exists.{PlaceOf}
 use Rattle.gap.proofs.Packing.{Packs, choice-place, place, place-allowed}
 use Rattle.gap.proofs.Allowing.{Allowed}
-use Rattle.gap.proofs.Gluing.{rule-a, rule-b}
+use Rattle.gap.proofs.Gluing.{glue-a, glue-b}
 use Rattle.gap.proofs.Gaps.{gaps-place, gaps-new}
 
 -- an edge that stands in the rings and has its other side in the model is open somewhere
@@ -243,8 +244,8 @@ module _ (M R B : List Triangle) (e f : Node) (ps : List Node) (ws rims : List R
       rB g = (cb, λ z i. none z (vertex f) (in-next i))
 
   -- c has a built triangle: the packer's choice is an operation at its place
-  pub pack-old : isOpen e ≡ true → 1 ≤ length ps → (m n : ℕ) → In c m n B
-      → (p : Packed M R B e f ps ws rims c) × (choosePlace (vertex e) (vertex f) c R ((e ∷ (f ∷ ps)) ∷ ws) ≡ p .o)
+  pub pack-old : Live ((e ∷ (f ∷ ps)) ∷ ws) → 1 ≤ length ps → (m n : ℕ) → In c m n B
+      → (p : Packed M R B e f ps ws rims c) × (choosePlace (vertex e) (vertex f) c R (shownAll ((e ∷ (f ∷ ps)) ∷ ws)) ≡ p .o)
   unfolding pk
   pack-old live three m n j = (
     record {
@@ -255,25 +256,17 @@ module _ (M R B : List Triangle) (e f : Node) (ps : List Node) (ws rims : List R
       ruleB = rB;
       keeps = keeps-next M R B e f ps ws (al .ls) rims c (al .o) k (al .does) rA rB (gaps-place M R B e f ps ws c pk fan once-each pl al);
     },
-    choice-place M R B e f ps ws c pk fan pl ∙ al .names,
+    choice-place M R B e f ps ws c pk fan live pl ∙ al .names,
   )
     where
       pl : PlaceOf M R ((e ∷ (f ∷ ps)) ∷ ws) (vertex e) (vertex f) c
       pl = place M R B e f ps ws c pk fan m n j
 
-      al : Allowed e f ps ws c (pl .ring) (pl .at) (pl .x) (pl .y)
-      al = place-allowed M R B e f ps ws c pk fan pl
-
-      glued-a : (operationFor (suc (suc (length ps))) (pl .ring) (pl .at) ≡ Close) ⊎ (operationFor (suc (suc (length ps))) (pl .ring) (pl .at) ≡ Backward) → gluesA (al .o) ≡ true
-      glued-a (inl h) = ap gluesA (sym (al .names) ∙ h)
-      glued-a (inr h) = ap gluesA (sym (al .names) ∙ h)
-
-      glued-b : (operationFor (suc (suc (length ps))) (pl .ring) (pl .at) ≡ Close) ⊎ (operationFor (suc (suc (length ps))) (pl .ring) (pl .at) ≡ Forward) → gluesB (al .o) ≡ true
-      glued-b (inl h) = ap gluesB (sym (al .names) ∙ h)
-      glued-b (inr h) = ap gluesB (sym (al .names) ∙ h)
+      al : Allowed e f ps ws c (pl .ring) (pl .at) (seat (pl .spot)) (pl .x) (pl .y)
+      al = place-allowed M R B e f ps ws c pk fan (live .0) pl
 
       rA : gluesA (al .o) ≡ false → Unused (vertex e) c B × Unused c (vertex e) B
-      rA g = (ac, λ z i. false≢true (sym g ∙ glued-a (rule-a M R B e f ps ws c pk live three pl z i)))
+      rA g = (ac, λ z i. (let h = glue-a M R B e f ps ws c pk (live .0) three pl z i in false≢true (sym g ∙ al .last (h .0) (h .1))))
 
       rB : gluesB (al .o) ≡ false → Unused c (vertex f) B × Unused (vertex f) c B
-      rB g = (cb, λ z i. false≢true (sym g ∙ glued-b (rule-b M R B e f ps ws c pk live three pl z i)))
+      rB g = (cb, λ z i. (let h = glue-b M R B e f ps ws c pk (live .0) three pl z i in false≢true (sym g ∙ al .second (h .0) (h .1))))

@@ -5,14 +5,12 @@ use native.Mathlib.Omega.{arith}
 use mathlib.Core.Bool.{Bool, true, false}
 use mathlib.Core.List.{List, [], _∷_, _++_}
 use mathlib.Core.Path.{_≡_, refl, sym, ap}
-use lib.ListN.{length}
-use lib.Dec.{leb}
 use Rattle.rules.specs.declared.Operation.{Operation}
 use Rattle.rules.specs.declared.Operation.the-variants.{New, Forward, Backward, Split, Close, Union}
 use Rattle.rules.specs.Count.{hit}
 use Rattle.rules.specs.Ring.{Node, opened, Ring, vertex, startOr}
-use Rattle.rules.specs.Table.{inOrder, shorterFirst}
-use Rattle.gap.specs.Surgery.{Surgery, on-new, on-forward, on-backward, on-close, on-split, on-union}
+use Rattle.rules.specs.Table.{inOrder}
+use Rattle.gap.specs.Surgery.{fewer, fewerFirst, Surgery, on-new, on-forward, on-backward, on-close, on-split, on-union}
 use Rattle.gap.specs.Tally.{tally, ringTally, total, gluesA, gluesB, when, unless}
 use Rattle.gap.proofs.Rings.{append-none}
 
@@ -33,9 +31,9 @@ module _ (x y : ℕ) where
   total-append [] vs = omega arith
   total-append (u ∷ us) vs = let h = total-append us vs in omega arith
 
-  pub total-shorter : (a b : List Node) (ws : List Ring) → total x y (shorterFirst a b ws) ≡ ringTally x y a + (ringTally x y b + total x y ws)
+  pub total-shorter : (a b : List Node) (ws : List Ring) → total x y (fewerFirst a b ws) ≡ ringTally x y a + (ringTally x y b + total x y ws)
   unfolding inOrder
-  total-shorter a b ws = go (leb (length a) (length b))
+  total-shorter a b ws = go (fewer a b)
     where
       go : (t : Bool) → total x y (inOrder t a b ws) ≡ ringTally x y a + (ringTally x y b + total x y ws)
       go true = refl

@@ -11,6 +11,7 @@ use Rattle.rules.specs.declared.Operation.the-variants.{New, Forward, Backward,
 use Rattle.rules.specs.Ring.{places, opened, Ring}
 use Rattle.rules.specs.Choice.{Packing}
 use Rattle.rules.specs.Pack.{indexOf}
+use Rattle.shown.specs.Shown.{shownAll}
 use Rattle.gap.specs.Trace.{afterBorder, withRing}
 use Rattle.gap.specs.Tally.{newNumbers}
 use Rattle.gap.proofs.Runs.{Run, r-done, r-start, r-build, r-border}
@@ -18,6 +19,13 @@ use Rattle.gap.proofs.Runs.{Run, r-done, r-start, r-build, r-border}
 -- the ring of a first triangle
 abbrev pub firstRing : ℕ → ℕ → ℕ → List Ring
 firstRing p q r = (opened p ∷ (opened q ∷ (opened r ∷ []))) ∷ []
+
+-- what is counted of the rings shown
+abbrev pub shownPlaces : List Ring → ℕ
+shownPlaces ls = places (shownAll ls)
+
+abbrev pub shownLoops : List Ring → ℕ
+shownLoops ls = length (shownAll ls)
 
 -- the peak of something that the loops have, from a on
 abbrev pub peak : (List Ring → ℕ) → ℕ → {M B : List Triangle} {rims ls : List Ring} {os : List Operation} {R : List Triangle} → Run M B rims ls os R → ℕ
@@ -105,13 +113,14 @@ pub record RunsAt (last : Packing) (M B : List Triangle) (rims : List Ring) (os 
   pub order : List Triangle
   pub count : length order ≡ n
   pub run : Run M B rims ls os order
-  pub most-places : last .mostPlaces ≡ peak places a run
-  pub most-loops : last .mostLoops ≡ peak length b run
+  pub most-places : last .mostPlaces ≡ peak shownPlaces a run
+  pub most-loops : last .mostLoops ≡ peak shownLoops b run
   pub numbers : last .numbered ≡ numbering vs run
   pub agrees : Agrees (λ (v : ℕ). indexOf v (last .numbered)) vs run
 
-abbrev pub Runs : Packing → Packing → List Triangle → List Triangle → List Ring → List Operation → Type 0
-Runs s last M B rims os = RunsAt last M B rims os (s .loops) (length (s .left)) (s .mostPlaces) (s .mostLoops) (s .numbered)
+-- ls are the full rings of which the packing has those shown
+abbrev pub Runs : Packing → List Ring → Packing → List Triangle → List Triangle → List Ring → List Operation → Type 0
+Runs s ls last M B rims os = RunsAt last M B rims os ls (length (s .left)) (s .mostPlaces) (s .mostLoops) (s .numbered)
 
 -- a peak is not below any value of the run
 peak-more : (w : List Ring → ℕ) (a : ℕ) {M B : List Triangle} {rims ls : List Ring} {os : List Operation} {R : List Triangle} (run : Run M B rims ls os R) → a ≤ peak w a run

@@ -11,10 +11,11 @@ use Rattle.rules.specs.declared.Triangle.{Triangle}
 use Rattle.rules.specs.declared.Operation.{Operation}
 use Rattle.rules.specs.declared.Operation.the-variants.{New, Forward, Backward, Border, Split, Close, Union, Start}
 use Rattle.rules.specs.Triangle.{tri, edge}
-use Rattle.rules.specs.Ring.{Node, Ring, vertex, places}
+use Rattle.rules.specs.Ring.{Node, Ring, vertex, reached, places}
 use Rattle.rules.specs.Table.{glued, fresh, atRest, effect, edgeRule}
 use Rattle.rules.specs.Machine.{Machine, afterBuild, afterMark, built, operation}
 use Rattle.fans.specs.Corner.{at-p, at-q, at-r, In, here, there}
+use Rattle.shown.specs.Shown.{shownAll, Live}
 use Rattle.gap.specs.Turn.{Unused}
 use Rattle.gap.specs.Surgery.{Surgery, on-new, on-forward, on-backward, on-close, on-split, on-union}
 use Rattle.gap.specs.Trace.{triangleAt, afterBorder, withRing}
@@ -24,10 +25,10 @@ use Rattle.fans.proofs.Corners.{in-next}
 use Rattle.gap.proofs.Effects.{allows-any, border-marks}
 use Rattle.gap.proofs.Runs.{Run, r-done, r-start, r-build, r-border}
 use Rattle.gap.proofs.Numbering.{Met}
-use Rattle.gap.proofs.Tracking.{firstRing, peak, Within, numberedAfter, numbering, numbering-grows, Agrees}
+use Rattle.gap.proofs.Tracking.{firstRing, shownPlaces, shownLoops, peak, Within, numberedAfter, numbering, numbering-grows, Agrees}
 use Rattle.gap.proofs.Rules.{Rules, rule-of, rule-fresh}
 use Rattle.gap.proofs.Operating.{within-of, operation-built, operation-declared}
-use Rattle.gap.proofs.Renaming.{node, nodes, rings, triangles, vertex-node, length-rings, places-rings, length-triangles, surgery-named, border-named}
+use Rattle.gap.proofs.Renaming.{node, nodes, rings, triangles, vertex-node, shown-places-named, shown-loops-named, live-named, length-triangles, surgery-named, border-named}
 
 -- what is built stays built
 pub run-keeps : {M B : List Triangle} {rims ls : List Ring} {os : List Operation} {R : List Triangle} → Run M B rims ls os R → (x y z : ℕ) → In x y z B → In x y z M
@@ -99,15 +100,15 @@ module _ (name : ℕ → ℕ) (M : List Triangle) (tells : (x y : ℕ) → Met x
   builtBy e f c = triangleAt (node name e) (node name f) (name c)
 
   abbrev machineBy : Machine → Node → Node → ℕ → Operation → List Ring → Machine
-  machineBy m e f c o ls = afterBuild m (rings name ls) (builtBy e f c) glued (sideOf (gluesA o)) (sideOf (gluesB o)) (newNumbers o) 0 (unionsOf o)
+  machineBy m e f c o ls = afterBuild m (shownAll (rings name ls)) (builtBy e f c) glued (sideOf (gluesA o)) (sideOf (gluesB o)) (newNumbers o) 0 (unionsOf o)
 
   -- an operation that builds
-  module _ (m : Machine) (B : List Triangle) (ws ls : List Ring) (e f : Node) (ps : List Node) (c : ℕ) (o : Operation) (vs : List ℕ) (does : Surgery e f ps ws ls c o)
+  module _ (m : Machine) (B : List Triangle) (ws ls : List Ring) (e f : Node) (ps : List Node) (c : ℕ) (o : Operation) (vs : List ℕ) (live : Live ws) (does : Surgery e f ps ws ls c o)
       (ruleA : gluesA o ≡ false → Unused (vertex e) c B × Unused c (vertex e) B) (ruleB : gluesB o ≡ false → Unused c (vertex f) B × Unused (vertex f) c B)
       (apart : ((vertex e ≡ vertex f) → ⊥) × ((vertex f ≡ c) → ⊥) × ((c ≡ vertex e) → ⊥)) (sub : (x y z : ℕ) → In x y z (triangleAt e f c ∷ B) → In x y z M)
-      (ht : m .triangles ≡ triangles name B) (hl : m .loops ≡ rings name ((e ∷ (f ∷ ps)) ∷ ws)) (hu : m .used ≡ length vs) (next : o ≡ New → name c ≡ length vs)
-      (vertices : length (numberedAfter o c vs) ≤ m .stated .vertices) (many : suc (length B) ≤ m .stated .triangles) (in-places : places ls ≤ m .stated .places)
-      (in-loops : length ls ≤ m .stated .loops) where
+      (ht : m .triangles ≡ triangles name B) (hl : m .loops ≡ shownAll (rings name ((e ∷ (f ∷ ps)) ∷ ws))) (hu : m .used ≡ length vs) (next : o ≡ New → name c ≡ length vs)
+      (vertices : length (numberedAfter o c vs) ≤ m .stated .vertices) (many : suc (length B) ≤ m .stated .triangles) (in-places : shownPlaces ls ≤ m .stated .places)
+      (in-loops : shownLoops ls ≤ m .stated .loops) where
     named : tri (name (vertex f)) (name (vertex e)) (name c) ≡ builtBy e f c
     named = ap₂ (λ (x y : ℕ). tri x y (name c)) (sym (vertex-node name f)) (sym (vertex-node name e))
 
@@ -146,14 +147,14 @@ module _ (name : ℕ → ℕ) (M : List Triangle) (tells : (x y : ℕ) → Met x
     accepts-build : operation m o ≡ built (builtBy e f c) (machineBy m e f c o ls)
     unfolding effect
     accepts-build =
-        operation-built m o (rings name ls) (builtBy e f c) glued (sideOf (gluesA o)) (sideOf (gluesB o)) (newNumbers o) 0 (unionsOf o)
+        operation-built m o (shownAll (rings name ls)) (builtBy e f c) glued (sideOf (gluesA o)) (sideOf (gluesB o)) (newNumbers o) 0 (unionsOf o)
         (ap (effect o (m .used)) hl
-        ∙ allows-any o (m .used) (node name e) (node name f) (nodes name ps) (rings name ws) (rings name ls) (name c) (surgery-named name e f ps ws ls c o does) (λ h. next h ∙ sym hu))
+        ∙ allows-any o (m .used) (node name e) (node name f) (nodes name ps) (rings name ws) (rings name ls) (name c) (live-named name ws live) (surgery-named name e f ps ws ls c o does) (λ h. next h ∙ sym hu))
         (within-of (machineBy m e f c o ls)
         (let h = used-next in omega arith)
         (let h : length (m .triangles) ≡ length (triangles name B) = ap length ht in let k = length-triangles name B in omega arith)
-        (let h = places-rings name ls in omega arith)
-        (let h = length-rings name ls in omega arith))
+        (let h = shown-places-named name ls in omega arith)
+        (let h = shown-loops-named name ls in omega arith))
         rule-next
 
     reached-build : (os : List Operation) (u a b : ℕ) → Reached (machineBy m e f c o ls) os u a b → Reached m (o ∷ os) u a b
@@ -180,7 +181,7 @@ module _ (name : ℕ → ℕ) (M : List Triangle) (tells : (x y : ℕ) → Met x
       (ht : m .triangles ≡ triangles name B) (hl : m .loops ≡ []) (hu : m .used ≡ length vs)
       (next : (name p ≡ length vs) × (name q ≡ suc (length vs)) × (name r ≡ suc (suc (length vs))))
       (vertices : length (vs ++ (p ∷ (q ∷ (r ∷ [])))) ≤ m .stated .vertices) (many : suc (length B) ≤ m .stated .triangles)
-      (in-places : places (firstRing p q r) ≤ m .stated .places) (in-loops : length (firstRing p q r) ≤ m .stated .loops) where
+      (in-places : shownPlaces (firstRing p q r) ≤ m .stated .places) (in-loops : shownLoops (firstRing p q r) ≤ m .stated .loops) where
     at-p′ : name p ≡ m .used
     at-p′ = next .0 ∙ sym hu
 
@@ -193,7 +194,8 @@ module _ (name : ℕ → ℕ) (M : List Triangle) (tells : (x y : ℕ) → Met x
     first-named : tri (name p) (name q) (name r) ≡ tri (m .used) (suc (m .used)) (suc (suc (m .used)))
     first-named = rw (at-p′, at-q′, at-r′) refl
 
-    ring-named : firstRing (m .used) (suc (m .used)) (suc (suc (m .used))) ≡ rings name (firstRing p q r)
+    ring-named : firstRing (m .used) (suc (m .used)) (suc (suc (m .used))) ≡ shownAll (rings name (firstRing p q r))
+    unfolding reached
     ring-named = rw (at-p′, at-q′, at-r′) refl
 
     three-more : m .used + 3 ≡ length (vs ++ (p ∷ (q ∷ (r ∷ []))))
@@ -216,7 +218,7 @@ module _ (name : ℕ → ℕ) (M : List Triangle) (tells : (x y : ℕ) → Met x
         below x y z i = sub x y z (there i)
 
     accepts-start : operation m Start ≡ built (tri (m .used) (suc (m .used)) (suc (suc (m .used)))) (machineStart m)
-    unfolding effect atRest places
+    unfolding effect atRest places reached
     accepts-start =
         operation-built m Start (firstRing (m .used) (suc (m .used)) (suc (suc (m .used)))) (tri (m .used) (suc (m .used)) (suc (suc (m .used)))) fresh fresh fresh 3 1 0
         (ap (effect Start (m .used)) hl)
@@ -240,14 +242,14 @@ module _ (name : ℕ → ℕ) (M : List Triangle) (tells : (x y : ℕ) → Met x
 
   -- border
   abbrev machineBorder : Machine → Node → Node → List Node → List Ring → ℕ → Machine
-  machineBorder m e f ps ws n = afterMark m (withRing (afterBorder (node name e) (node name f) (nodes name ps)) (rings name ws)) n
+  machineBorder m e f ps ws n = afterMark m (shownAll (withRing (afterBorder (node name e) (node name f) (nodes name ps)) (rings name ws))) n
 
   pub reach : {B : List Triangle} {rims ls : List Ring} {os : List Operation} {R : List Triangle} (run : Run M B rims ls os R) (m : Machine) (vs : List ℕ)
-      → m .triangles ≡ triangles name B → m .loops ≡ rings name ls → m .used ≡ length vs → Agrees name vs run
+      → m .triangles ≡ triangles name B → m .loops ≡ shownAll (rings name ls) → m .used ≡ length vs → Agrees name vs run
       → length (numbering vs run) ≤ m .stated .vertices → length R + length B ≤ m .stated .triangles
-      → Within places (m .stated .places) run → Within length (m .stated .loops) run
-      → Reached m os (length (numbering vs run)) (peak places (m .mostPlaces) run) (peak length (m .mostLoops) run)
-  unfolding effect places
+      → Within shownPlaces (m .stated .places) run → Within shownLoops (m .stated .loops) run
+      → Reached m os (length (numbering vs run)) (peak shownPlaces (m .mostPlaces) run) (peak shownLoops (m .mostLoops) run)
+  unfolding effect places reached
   reach r-done m vs ht hl hu ag hv hm hp hb = record {
     end = m;
     works = w-none;
@@ -262,7 +264,7 @@ module _ (name : ℕ → ℕ) (M : List Triangle) (tells : (x y : ℕ) → Met x
       let next = vs ++ (p ∷ (q ∷ (r ∷ []))) in
       let k = grows-by run next in
       reached-start m B p q r vs np nq nr d (run-keeps run) ht hl hu (ag .0) (omega arith) (omega arith) (hp .0) (hb .0) os
-      (length (numbering next run)) (peak places (max (m .mostPlaces) (places (firstRing p q r))) run) (peak length (max (m .mostLoops) (length (firstRing p q r))) run)
+      (length (numbering next run)) (peak shownPlaces (max (m .mostPlaces) (shownPlaces (firstRing p q r))) run) (peak shownLoops (max (m .mostLoops) (shownLoops (firstRing p q r))) run)
       (reach run (machineStart m) next
       (ap₂ (λ (t : Triangle) (ts : List Triangle). t ∷ ts)
       (sym (first-named m B p q r vs np nq nr d (run-keeps run) ht hl hu (ag .0) (omega arith) (omega arith) (hp .0) (hb .0))) ht)
@@ -271,31 +273,31 @@ module _ (name : ℕ → ℕ) (M : List Triangle) (tells : (x y : ℕ) → Met x
   reach {B} (r-build {ws = ws} {ls = ls} {e = e} {f = f} {ps = ps} {c = c} {o = o} {os = os} {R = R} v s ra rb d new run) m vs ht hl hu ag hv hm hp hb =
       let next = numberedAfter o c vs in
       let k = grows-by run next in
-      reached-build m B ws ls e f ps c o vs s ra rb d (run-keeps run) ht hl hu (ag .0) (omega arith) (omega arith) (hp .0) (hb .0) os
-      (length (numbering next run)) (peak places (max (m .mostPlaces) (places ls)) run) (peak length (max (m .mostLoops) (length ls)) run)
-      (reached-at (machineBy m e f c o ls) os (length (numbering next run)) (peak places (max (m .mostPlaces) (places (rings name ls))) run) (peak length (max (m .mostLoops) (length (rings name ls))) run) _ _
-      (ap (λ (x : ℕ). peak places (max (m .mostPlaces) x) run) (places-rings name ls))
-      (ap (λ (x : ℕ). peak length (max (m .mostLoops) x) run) (length-rings name ls))
+      reached-build m B ws ls e f ps c o vs (v .1) s ra rb d (run-keeps run) ht hl hu (ag .0) (omega arith) (omega arith) (hp .0) (hb .0) os
+      (length (numbering next run)) (peak shownPlaces (max (m .mostPlaces) (shownPlaces ls)) run) (peak shownLoops (max (m .mostLoops) (shownLoops ls)) run)
+      (reached-at (machineBy m e f c o ls) os (length (numbering next run)) (peak shownPlaces (max (m .mostPlaces) (places (shownAll (rings name ls)))) run) (peak shownLoops (max (m .mostLoops) (length (shownAll (rings name ls)))) run) _ _
+      (ap (λ (x : ℕ). peak shownPlaces (max (m .mostPlaces) x) run) (shown-places-named name ls))
+      (ap (λ (x : ℕ). peak shownLoops (max (m .mostLoops) x) run) (shown-loops-named name ls))
       (reach run (machineBy m e f c o ls) next
       (ap₂ (λ (t : Triangle) (ts : List Triangle). t ∷ ts)
-      (sym (named m B ws ls e f ps c o vs s ra rb d (run-keeps run) ht hl hu (ag .0) (omega arith) (omega arith) (hp .0) (hb .0))) ht)
+      (sym (named m B ws ls e f ps c o vs (v .1) s ra rb d (run-keeps run) ht hl hu (ag .0) (omega arith) (omega arith) (hp .0) (hb .0))) ht)
       refl
-      (used-next m B ws ls e f ps c o vs s ra rb d (run-keeps run) ht hl hu (ag .0) (omega arith) (omega arith) (hp .0) (hb .0)) (ag .1) hv (omega arith) (hp .1) (hb .1)))
+      (used-next m B ws ls e f ps c o vs (v .1) s ra rb d (run-keeps run) ht hl hu (ag .0) (omega arith) (omega arith) (hp .0) (hb .0)) (ag .1) hv (omega arith) (hp .1) (hb .1)))
   reach {B} (r-border {ws = ws} {e = e} {f = f} {ps = ps} {os = os} {R = R} v run) m vs ht hl hu ag hv hm hp hb =
       let mark = border-marks (m .used) (node name e) (node name f) (nodes name ps) (rings name ws) in
       let old = withRing (afterBorder e f ps) ws in
       let new = withRing (afterBorder (node name e) (node name f) (nodes name ps)) (rings name ws) in
       let m′ = machineBorder m e f ps ws (mark .0) in
       let same : new ≡ rings name old = sym (border-named name e f ps ws) in
-      let in-places : places new ≡ places old = ap places same ∙ places-rings name old in
-      let in-loops : length new ≡ length old = ap length same ∙ length-rings name old in
+      let in-places : shownPlaces new ≡ shownPlaces old = ap shownPlaces same ∙ shown-places-named name old in
+      let in-loops : shownLoops new ≡ shownLoops old = ap shownLoops same ∙ shown-loops-named name old in
       let k = grows-by run vs in
-      let r = reach run m′ vs ht same hu ag hv hm (hp .1) (hb .1) in
+      let r = reach run m′ vs ht (ap shownAll same) hu ag hv hm (hp .1) (hb .1) in
       record {
         end = r .end;
         works =
             w-declared
-            (operation-declared m Border new (edge (vertex (node name e)) (vertex (node name f))) (mark .0) (ap (effect Border (m .used)) hl ∙ mark .1)
+            (operation-declared m Border (shownAll new) (edge (vertex (node name e)) (vertex (node name f))) (mark .0) (ap (effect Border (m .used)) hl ∙ mark .1)
             (within-of m′ (omega (arith, hu))
             (let h : length (m .triangles) ≡ length (triangles name B) = ap length ht in let j = length-triangles name B in omega arith)
             (let h = hp .0 in omega arith) (let h = hb .0 in omega arith)))
@@ -303,7 +305,7 @@ module _ (name : ℕ → ℕ) (M : List Triangle) (tells : (x y : ℕ) → Met x
         all-built = r .all-built;
         no-loop = r .no-loop;
         used = r .used;
-        most-places = r .most-places ∙ ap (λ (x : ℕ). peak places (max (m .mostPlaces) x) run) in-places;
-        most-loops = r .most-loops ∙ ap (λ (x : ℕ). peak length (max (m .mostLoops) x) run) in-loops;
+        most-places = r .most-places ∙ ap (λ (x : ℕ). peak shownPlaces (max (m .mostPlaces) x) run) in-places;
+        most-loops = r .most-loops ∙ ap (λ (x : ℕ). peak shownLoops (max (m .mostLoops) x) run) in-loops;
         stated = r .stated;
       }

@@ -23,8 +23,8 @@ use Rattle.gap.proofs.Runs.{r-done}
 use Rattle.gap.proofs.Tracking.{RunsAt, Runs}
 use Rattle.gap.proofs.Choosing.{Fits, labour, GoesOn, choose-step}
 
--- from a packing under way to its end, by the operations os
-pub record Complete (s : Packing) (B : List Triangle) (rims : List Ring) (os : List Operation) (s′ : Packing) : Type 0 where
+-- from a packing under way, with the full rings ls, to its end, by the operations os
+pub record Complete (s : Packing) (ls : List Ring) (B : List Triangle) (rims : List Ring) (os : List Operation) (s′ : Packing) : Type 0 where
   pub mesh : s′ .mesh ≡ s .mesh
   pub no-loop : s′ .loops ≡ []
   pub none-left : s′ .left ≡ []
@@ -34,11 +34,11 @@ pub record Complete (s : Packing) (B : List Triangle) (rims : List Ring) (os : L
   -- they are added in the order of building
   pub adds : (n : ℕ) → length os < n → built ≡ onto (builtBy n s) B
   pub fits : Fits s′ built ended-rims
-  pub runs : Runs s s′ built B rims os
+  pub runs : Runs s ls s′ built B rims os
 
-unfoldable pub Ends : Packing → List Triangle → List Ring → Chosen → Type 0
-Ends s B rims (stopped n) = (n ≡ 9) ⊎ (n ≡ 10)
-Ends s B rims (chosen os s′) = Complete s B rims os s′
+unfoldable pub Ends : Packing → List Ring → List Triangle → List Ring → Chosen → Type 0
+Ends s ls B rims (stopped n) = (n ≡ 9) ⊎ (n ≡ 10)
+Ends s ls B rims (chosen os s′) = Complete s ls B rims os s′
 
 onto-append : (us vs B : List Triangle) → onto (us ++ vs) B ≡ onto vs (onto us B)
 onto-append [] vs B = refl
@@ -53,11 +53,11 @@ built-next : (n : ℕ) (s s′ : Packing) (o : Operation) → choose s ≡ takes
 unfolding builtBy
 built-next n s s′ o h = rw (builtBy, h) refl
 
-ends-cons : (s : Packing) (B : List Triangle) (rims : List Ring) (g : GoesOn s B rims) (x : Chosen) → choose s ≡ takes (g .o) (g .after)
-    → Ends (g .after) (g .built-after) (g .rims-after) x → Ends s B rims (cons (g .o) x)
+ends-cons : (s : Packing) (ls : List Ring) (B : List Triangle) (rims : List Ring) (g : GoesOn s ls B rims) (x : Chosen) → choose s ≡ takes (g .o) (g .after)
+    → Ends (g .after) (g .fits .full) (g .built-after) (g .rims-after) x → Ends s ls B rims (cons (g .o) x)
 unfolding Ends
-ends-cons s B rims g (stopped n) e h = h
-ends-cons s B rims g (chosen os s′) e h =
+ends-cons s ls B rims g (stopped n) e h = h
+ends-cons s ls B rims g (chosen os s′) e h =
     record {
       mesh = h .mesh ∙ g .mesh;
       no-loop = h .no-loop;
@@ -107,28 +107,28 @@ unfolding chooseIn
 choose-ended s l h = rw (l, h, chooseIn) refl
 
 -- n operations are enough
-pub choose-all : (n : ℕ) (s : Packing) (B : List Triangle) (rims : List Ring) → Fits s B rims → ((c : ℕ) → Neighbours (s .mesh) c) → labour s < n
-    → Ends s B rims (chooseAll n s)
+pub choose-all : (n : ℕ) (s : Packing) (B : List Triangle) (rims : List Ring) (fit : Fits s B rims) → ((c : ℕ) → Neighbours (s .mesh) c) → labour s < n
+    → Ends s (fit .full) B rims (chooseAll n s)
 unfolding Ends
 choose-all zero s B rims fit fan h = absurd (omega arith)
 choose-all (suc n) s B rims fit fan h =
     go (λ g. choose-all n (g .after) (g .built-after) (g .rims-after) (g .fits) (subst (λ (M : List Triangle). (c : ℕ) → Neighbours M c) (sym (g .mesh)) fan) (let f = g .falls in omega arith))
     (choose-step s B rims fit fan)
   where
-    refused : (k : ℕ) → (k ≡ 9) ⊎ (k ≡ 10) → choose s ≡ refuses k → Ends s B rims (chooseAll (suc n) s)
-    refused k w e = subst (Ends s B rims) (sym (all-refused n k s e)) w
+    refused : (k : ℕ) → (k ≡ 9) ⊎ (k ≡ 10) → choose s ≡ refuses k → Ends s (fit .full) B rims (chooseAll (suc n) s)
+    refused k w e = subst (Ends s (fit .full) B rims) (sym (all-refused n k s e)) w
 
-    on : (g : GoesOn s B rims) → Ends (g .after) (g .built-after) (g .rims-after) (chooseAll n (g .after))
+    on : (g : GoesOn s (fit .full) B rims) → Ends (g .after) (g .fits .full) (g .built-after) (g .rims-after) (chooseAll n (g .after))
         → (limited (g .o) (g .after) ≡ takes (g .o) (g .after)) ⊎ ((limited (g .o) (g .after) ≡ refuses 9) ⊎ (limited (g .o) (g .after) ≡ refuses 10))
-        → Ends s B rims (chooseAll (suc n) s)
-    on g r (inl e) = subst (Ends s B rims) (sym (all-taken n s (g .after) (g .o) (g .chooses ∙ e))) (ends-cons s B rims g (chooseAll n (g .after)) (g .chooses ∙ e) r)
+        → Ends s (fit .full) B rims (chooseAll (suc n) s)
+    on g r (inl e) = subst (Ends s (fit .full) B rims) (sym (all-taken n s (g .after) (g .o) (g .chooses ∙ e))) (ends-cons s (fit .full) B rims g (chooseAll n (g .after)) (g .chooses ∙ e) r)
     on g r (inr (inl e)) = refused 9 (inl refl) (g .chooses ∙ e)
     on g r (inr (inr e)) = refused 10 (inr refl) (g .chooses ∙ e)
 
-    go : ((g : GoesOn s B rims) → Ends (g .after) (g .built-after) (g .rims-after) (chooseAll n (g .after)))
-        → ((s .loops ≡ []) × (s .left ≡ [])) ⊎ GoesOn s B rims → Ends s B rims (chooseAll (suc n) s)
+    go : ((g : GoesOn s (fit .full) B rims) → Ends (g .after) (g .fits .full) (g .built-after) (g .rims-after) (chooseAll n (g .after)))
+        → ((s .loops ≡ []) × (s .left ≡ []) × (fit .full ≡ [])) ⊎ GoesOn s (fit .full) B rims → Ends s (fit .full) B rims (chooseAll (suc n) s)
     go ih (inl e) =
-        subst (Ends s B rims) (sym (all-ended n s (choose-ended s (e .0) (e .1))))
+        subst (Ends s (fit .full) B rims) (sym (all-ended n s (choose-ended s (e .0) (e .1))))
         (record {
           mesh = refl;
           no-loop = e .0;
@@ -138,7 +138,7 @@ choose-all (suc n) s B rims fit fan h =
           adds = λ n l. sym (ap (λ (ts : List Triangle). onto ts B) (built-none n s (choose-ended s (e .0) (e .1))));
           fits = fit;
           runs =
-              subst (λ (l : List Ring). RunsAt s B B rims [] l (length (s .left)) (s .mostPlaces) (s .mostLoops) (s .numbered)) (sym (e .0))
+              subst (λ (l : List Ring). RunsAt s B B rims [] l (length (s .left)) (s .mostPlaces) (s .mostLoops) (s .numbered)) (sym (e .2))
               (record { order = []; count = sym (ap length (e .1)); run = r-done; most-places = refl; most-loops = refl; numbers = refl; agrees = tt });
         })
     go ih (inr g) = on g (ih g) (limited-cases (g .o) (g .after))
@@ -154,6 +154,8 @@ occurs-nil x = omega arith
 -- a list that is to be packed
 pub fits-begin : (h : Most) (M : List Triangle) → Once M → Fits (nothingBuilt h M) [] []
 fits-begin h M o = record {
+  full = [];
+  shows = refl;
   keeps = begin M o;
   good = tt;
   numbers = record { met = λ c g. absurd (has-none c g); numbered = λ c m. elim (m .2) [ ] };
@@ -161,11 +163,12 @@ fits-begin h M o = record {
 }
 
 -- the whole packing
-pub packs-whole : (h : Most) (M : List Triangle) → Once M → ((c : ℕ) → Neighbours M c) → Ends (nothingBuilt h M) [] [] (chosenFor h M)
+pub packs-whole : (h : Most) (M : List Triangle) → Once M → ((c : ℕ) → Neighbours M c) → Ends (nothingBuilt h M) [] [] [] (chosenFor h M)
+unfolding fits-begin
 packs-whole h M o fan = choose-all (4 * length M + 1) (nothingBuilt h M) [] [] (fits-begin h M o) fan (omega arith)
 
 -- its run builds the triangles of the list, and no others
-module _ (h : Most) (M : List Triangle) (os : List Operation) (s′ : Packing) (c : Complete (nothingBuilt h M) [] [] os s′) where
+module _ (h : Most) (M : List Triangle) (os : List Operation) (s′ : Packing) (c : Complete (nothingBuilt h M) [] [] [] os s′) where
   pub complete-all : (x y z : ℕ) → In x y z M → In x y z (c .built)
   complete-all x y z i = go (c .fits .keeps .part x y z (subst (In x y z) (sym (c .mesh)) i))
     where

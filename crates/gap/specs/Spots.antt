@@ -1,14 +1,15 @@
 -- Where an open edge stands in the rings, and what the packer sees of a place.
 -- Assumes nothing.
 use Prim.Native.Nat.{ℕ, zero, suc}
-use mathlib.Core.Bool.{true}
+use mathlib.Core.Bool.{true, false}
 use mathlib.Core.List.{List, [], _∷_, _++_}
 use mathlib.Core.Path.{_≡_}
 use mathlib.Core.Logic.{_⊎_}
 use lib.ListN.{length}
 use Rattle.rules.specs.declared.Triangle.{Triangle}
-use Rattle.rules.specs.Ring.{Node, Ring, vertex, isOpen, startOr}
+use Rattle.rules.specs.Ring.{Node, Ring, vertex, isOpen, startOr, reached}
 use Rattle.rules.specs.Choice.{sizeOf, following}
+use Rattle.shown.specs.Shown.{Stays}
 use Rattle.gap.specs.Turn.{Unused}
 use Rattle.gap.specs.Corners.{endOr}
 
@@ -35,7 +36,7 @@ pub record Site (M : List Triangle) (ls : List Ring) (l i c x y : ℕ) : Type 0 
   pub leave : Unused y c M ⊎ OpenAt ls l i c y
   pub next : following (sizeOf ls l) from ≡ i
 
--- place i of ring l is one of c, between vertices x and y: the parts of the rings about it
+-- place i of ring l is one of c, between vertices x and y: the parts of the rings about it; an open edge enters it or leaves it
 pub record Spotted (ls : List Ring) (l i c x y : ℕ) : Type 0 where
   pub before : List Ring
   pub us : List Node
@@ -48,3 +49,8 @@ pub record Spotted (ls : List Ring) (l i c x y : ℕ) : Type 0 where
   pub own : vertex p ≡ c
   pub enter : endOr (endOr (vertex p) vs) us ≡ x
   pub leave : startOr (startOr (vertex p) us) vs ≡ y
+  pub stays : Stays us p
+
+-- the number of the place in the rings shown
+abbrev pub seat : {ls : List Ring} {l i c x y : ℕ} → Spotted ls l i c x y → ℕ
+seat s = length (reached (s .us) false)

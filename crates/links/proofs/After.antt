@@ -12,13 +12,13 @@ use Rattle.rules.specs.declared.Operation.{Operation}
 use Rattle.rules.specs.declared.Operation.the-variants.{New, Forward, Backward, Border, Split, Close, Union, Start}
 use Rattle.rules.specs.Triangle.{Edge, edge}
 use Rattle.rules.specs.Count.{same}
-use Rattle.rules.specs.Ring.{Node, opened, marked, Ring, startOr, lastVertex, front, onward, loopAt}
+use Rattle.rules.specs.Ring.{Node, opened, marked, Ring, startOr, lastVertex, front, onward, shown, loopAt}
 use Rattle.rules.specs.Table.{Effect, not-allowed, builds, marks, allowed, marking, atEdge}
 use Rattle.rules.specs.Machine.{freshSides}
 use Rattle.book.specs.Sums.{pathSum, ringSum, loopsSum}
 use Rattle.book.proofs.Counting.{and-left, and-right}
 use Rattle.book.proofs.Sums.{sum-append, sum-turn, front-last, sum-without, turned}
-use Rattle.book.proofs.Effects.{sum-order}
+use Rattle.book.proofs.Effects.{sum-order, split-low, split-high}
 use Rattle.links.specs.Memory.{namedRing, namedLoops, placed}
 use Rattle.links.specs.Stores.{placesAfter, Takes, Fits}
 use Rattle.links.proofs.Named.{named-length, named-lastOpen, named-loopAt, named-lives}
@@ -95,15 +95,15 @@ pub fits : (o : Operation) (vs : List ℕ) (u a : ℕ) (ps : List Node) (ws : Li
 unfolding atEdge
 fits New vs u a ps ws = tt
 fits Forward vs u a ps ws =
-    allowed-unless _ _ _ (λ t. omega (arith, leb-true 4 (suc (length (namedRing vs ps))) (and-left (leb 4 (suc (length (namedRing vs ps)))) _ t), named-length vs ps))
-fits Backward vs u a ps ws = allowed-unless _ _ _ (λ t. sym (named-lastOpen vs ps) ∙ and-right (leb 4 (suc (length (namedRing vs ps)))) _ t)
+    allowed-unless _ _ _ (λ t. omega (arith, leb-true 3 (suc (length (namedRing vs ps))) (and-left (leb 3 (suc (length (namedRing vs ps)))) _ (and-left _ _ t)), named-length vs ps))
+fits Backward vs u a ps ws = allowed-unless _ _ _ (λ t. sym (named-lastOpen vs ps) ∙ and-right (leb 3 (suc (length (namedRing vs ps)))) _ (and-left _ _ t))
 fits Border vs u a ps ws =
-    marking-unless (Unit {0}) (onward [] (namedRing vs ps ++ (marked a ∷ []))) (namedLoops vs ws) (edge a (startOr a (namedRing vs ps))) tt
+    marking-unless (Unit {0}) (shown (onward [] (namedRing vs ps ++ (marked a ∷ [])))) (namedLoops vs ws) (edge a (startOr a (namedRing vs ps))) tt
 fits (Split i) vs u a ps ws =
     allowed-unless _ _ _
     (λ t.
-    let k = leb-true 2 i (and-left (leb 2 i) _ t) in
-    let l = leb-true (i + 3) (suc (length (namedRing vs ps))) (and-right (leb 2 i) _ t) in
+    let k = split-low i (suc (length (namedRing vs ps))) _ _ t in
+    let l = split-high i (suc (length (namedRing vs ps))) _ _ t in
     (omega (arith, k), omega (arith, l, named-length vs ps)))
 fits Close vs u a ps ws = allowed-unless _ _ _ (λ t. tt)
 fits (Union n j) vs u a ps ws =

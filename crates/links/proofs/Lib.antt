@@ -6,3 +6,4 @@ pub mod Named
 pub mod Loops
 pub mod Free
 pub mod After
+pub mod Cut

@@ -13,13 +13,14 @@ use Rattle.rules.specs.declared.Operation.{Operation}
 use Rattle.rules.specs.declared.Operation.the-variants.{New, Forward, Backward, Border, Split, Close, Union, Start}
 use Rattle.rules.specs.Triangle.{Edge, edge}
 use Rattle.rules.specs.Count.{same}
-use Rattle.rules.specs.Ring.{Node, opened, marked, Ring, startOr, vertexAt, lastVertex, front, onward, loopAt, without}
+use Rattle.rules.specs.Ring.{Node, opened, marked, Ring, startOr, vertexAt, lastVertex, front, onward, shown, loopAt, without}
 use Rattle.rules.specs.Table.{Effect, allowed, marking, atEdge}
 use Rattle.book.specs.Sums.{pathSum, ringSum, loopsSum}
 use Rattle.book.proofs.Counting.{same-yes, and-left, and-right}
+use Rattle.book.proofs.Effects.{split-high}
 use Rattle.links.specs.Memory.{namedRing, namedLoops}
-use Rattle.links.specs.Stores.{alive, placesAfter, verticesAfter, HasLoops, Takes}
-use Rattle.links.proofs.Named.{named-length, named-append, named-take, named-drop, named-at, named-last, named-front, named-onward, named-loopAt, named-without, named-order, free-ring, free-loops}
+use Rattle.links.specs.Stores.{alive, placesAfter, afterBorder, verticesAfter, HasLoops, Takes, Whole}
+use Rattle.links.proofs.Named.{named-length, named-append, named-take, named-drop, named-at, named-last, named-front, named-onward, named-shown, named-loopAt, named-without, named-order, free-ring, free-loops}
 
 allowed-has : (ls : List Ring) (t : Bool) (e : Effect) → (t ≡ true → HasLoops ls e) → HasLoops ls (allowed t e)
 unfolding allowed
@@ -76,7 +77,7 @@ module _ (vs : List ℕ) (u q e : ℕ) (ps : List Node) (ws : List Ring) (b : q 
       let c = getD vs (vertexAt ps i) 0 in
       let s = same-names vs q c e ps ws b z in
       allowed-has _ _ _ (λ t.
-      let h : i < length ps = omega (arith, leb-true (i + 3) (suc (length (namedRing vs ps))) (and-right (leb 2 i) _ t), named-length vs ps) in
+      let h : i < length ps = omega (arith, split-high i (suc (length (namedRing vs ps))) _ _ t, named-length vs ps) in
       let lt : length (take i (namedRing vs ps)) ≡ length (take i ps) = ap length (sym (named-take vs i ps)) ∙ named-length vs (take i ps) in
       let ld : length (drop i (namedRing vs ps)) ≡ length (drop i ps) = ap length (sym (named-drop vs i ps)) ∙ named-length vs (drop i ps) in
       rw (named-order (set vs q c), named-take (set vs q c) i ps, named-drop (set vs q c) i ps, s .here, s .first, s .ring, s .waiting, named-at vs ps i h, lt, ld))
@@ -108,29 +109,28 @@ module _ (vs : List ℕ) (u q e : ℕ) (ps : List Node) (ws : List Ring) where
   unfolding verticesAfter placesAfter atEdge
   has-close = allowed-has _ _ _ (λ t. refl)
 
-  has-border : HasLoops (namedLoops (verticesAfter Border u q vs ps ws) (placesAfter Border q e ps ws)) (atEdge Border u (getD vs e 0) (namedRing vs ps) (namedLoops vs ws))
-  unfolding verticesAfter placesAfter atEdge
+  pub has-border : HasLoops (namedLoops vs (afterBorder e ps ws)) (atEdge Border u (getD vs e 0) (namedRing vs ps) (namedLoops vs ws))
+  unfolding atEdge
   has-border =
-      subst (λ (l : Ring). HasLoops (namedLoops vs (alive (onward [] (ps ++ (marked e ∷ []))) ws)) (marking l (namedLoops vs ws) (edge (getD vs e 0) (startOr (getD vs e 0) (namedRing vs ps)))))
-      turned (has-marking vs (onward [] (ps ++ (marked e ∷ []))) ws (edge (getD vs e 0) (startOr (getD vs e 0) (namedRing vs ps))))
-    where
-      turned : namedRing vs (onward [] (ps ++ (marked e ∷ []))) ≡ onward [] (namedRing vs ps ++ (marked (getD vs e 0) ∷ []))
-      turned = onward-named vs e ps
+      let r = shown (onward [] (ps ++ (marked e ∷ []))) in
+      subst (λ (l : Ring). HasLoops (namedLoops vs (alive r ws)) (marking l (namedLoops vs ws) (edge (getD vs e 0) (startOr (getD vs e 0) (namedRing vs ps)))))
+      (named-shown vs (onward [] (ps ++ (marked e ∷ []))) ∙ ap shown (onward-named vs e ps))
+      (has-marking vs r ws (edge (getD vs e 0) (startOr (getD vs e 0) (namedRing vs ps))))
 
   has-backward : HasLoops (namedLoops (verticesAfter Backward u q vs ps ws) (placesAfter Backward q e ps ws)) (atEdge Backward u (getD vs e 0) (namedRing vs ps) (namedLoops vs ws))
   unfolding verticesAfter placesAfter atEdge namedLoops
-  has-backward = allowed-has _ _ _ (λ t. last-ring vs ps ws (omega (arith, named-length vs ps, leb-true 4 (suc (length (namedRing vs ps))) (and-left _ _ t))))
+  has-backward = allowed-has _ _ _ (λ t. last-ring vs ps ws (omega (arith, named-length vs ps, leb-true 3 (suc (length (namedRing vs ps))) (and-left _ _ (and-left _ _ t)))))
 
--- for each operation; one that takes a place is given a free one
-pub has-loops : (o : Operation) (vs : List ℕ) (u q e : ℕ) (ps : List Node) (ws : List Ring)
+-- for each operation but border; one that takes a place is given a free one
+pub has-loops : (o : Operation) → Whole o → (vs : List ℕ) (u q e : ℕ) (ps : List Node) (ws : List Ring)
     → (Takes o → (loopsSum (λ p r o. same q p) ((opened e ∷ ps) ∷ ws) ≡ 0) × (q < length vs))
     → HasLoops (namedLoops (verticesAfter o u q vs ps ws) (placesAfter o q e ps ws)) (atEdge o u (getD vs e 0) (namedRing vs ps) (namedLoops vs ws))
 unfolding atEdge
-has-loops New vs u q e ps ws z = has-new vs u q e ps ws (z tt .1) (z tt .0)
-has-loops Forward vs u q e ps ws z = has-forward vs u q e ps ws
-has-loops Backward vs u q e ps ws z = has-backward vs u q e ps ws
-has-loops Border vs u q e ps ws z = has-border vs u q e ps ws
-has-loops (Split i) vs u q e ps ws z = has-split vs u q e ps ws (z tt .1) (z tt .0) i
-has-loops Close vs u q e ps ws z = has-close vs u q e ps ws
-has-loops (Union n j) vs u q e ps ws z = has-union vs u q e ps ws (z tt .1) (z tt .0) n j
-has-loops Start vs u q e ps ws z = tt
+has-loops New h vs u q e ps ws z = has-new vs u q e ps ws (z tt .1) (z tt .0)
+has-loops Forward h vs u q e ps ws z = has-forward vs u q e ps ws
+has-loops Backward h vs u q e ps ws z = has-backward vs u q e ps ws
+has-loops Border h vs u q e ps ws z = absurd h
+has-loops (Split i) h vs u q e ps ws z = has-split vs u q e ps ws (z tt .1) (z tt .0) i
+has-loops Close h vs u q e ps ws z = has-close vs u q e ps ws
+has-loops (Union n j) h vs u q e ps ws z = has-union vs u q e ps ws (z tt .1) (z tt .0) n j
+has-loops Start h vs u q e ps ws z = tt

@@ -8,9 +8,10 @@ use mathlib.Core.Path.{_≡_, refl, sym, ap, ap₂, _∙_}
 use lib.ListN.{length, take, drop, getD, set}
 use lib.Seq.{getD-set-other}
 use Rattle.rules.specs.Count.{same}
-use Rattle.rules.specs.Ring.{Node, opened, marked, Ring, vertex, isOpen, firstOpen, allOpen, startOr, vertexAt, lastOpen, lastVertex, front, onward, loopAt, without}
+use Rattle.rules.specs.Ring.{Node, opened, marked, Ring, vertex, isOpen, firstOpen, allOpen, startOr, vertexAt, lastOpen, lastVertex, front, onward, reached, shown, loopAt, without}
 use Rattle.rules.specs.Table.{inOrder}
 use Rattle.book.specs.Sums.{pathSum, ringSum, loopsSum}
+use Rattle.shown.specs.Spaced.{Spaced}
 use Rattle.book.proofs.Counting.{same-yes}
 use Rattle.links.specs.Memory.{named, namedRing, namedLoops}
 
@@ -94,6 +95,32 @@ module _ (vs : List ℕ) where
   named-onward back (opened v ∷ ps) = ap (cons (opened (getD vs v 0))) (named-append ps back)
   named-onward back (marked v ∷ ps) =
       named-onward (back ++ (marked v ∷ [])) ps ∙ ap (λ (l : List Node). onward l (namedRing vs ps)) (named-append back (marked v ∷ []))
+
+  named-reached : (ps : List Node) (m : Bool) → namedRing vs (reached ps m) ≡ reached (namedRing vs ps) m
+  unfolding namedRing reached
+  named-reached [] m = refl
+  named-reached (opened v ∷ ps) m = ap (cons (opened (getD vs v 0))) (named-reached ps false)
+  named-reached (marked v ∷ ps) true = named-reached ps true
+  named-reached (marked v ∷ ps) false = ap (cons (marked (getD vs v 0))) (named-reached ps true)
+
+  pub named-shown : (r : Ring) → namedRing vs (shown r) ≡ shown (namedRing vs r)
+  unfolding namedRing
+  named-shown [] = refl
+  named-shown (p ∷ ps) = ap (cons (named vs p)) (named-reached ps false)
+
+  pub named-spaced : (ps : List Node) (m : Bool) → Spaced ps m → Spaced (namedRing vs ps) m
+  unfolding namedRing
+  named-spaced [] m h = tt
+  named-spaced (opened v ∷ ps) m h = named-spaced ps false h
+  named-spaced (marked v ∷ ps) true h = absurd h
+  named-spaced (marked v ∷ ps) false h = named-spaced ps true h
+
+  pub spaced-named : (ps : List Node) (m : Bool) → Spaced (namedRing vs ps) m → Spaced ps m
+  unfolding namedRing
+  spaced-named [] m h = tt
+  spaced-named (opened v ∷ ps) m h = spaced-named ps false h
+  spaced-named (marked v ∷ ps) true h = absurd h
+  spaced-named (marked v ∷ ps) false h = spaced-named ps true h
 
   pub named-loopAt : (ws : List Ring) (n : ℕ) → loopAt (namedLoops vs ws) n ≡ namedRing vs (loopAt ws n)
   unfolding namedLoops loopAt namedRing

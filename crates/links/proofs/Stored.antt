@@ -70,7 +70,7 @@ module _ (n : ℕ) (m : Memory) (long : Long n m) (e : ℕ) (ps : List Node) (ws
       go [] k = be
       go (p ∷ qs) k = k (vertex p) (omega (arith, same-yes (vertex p), first-le (λ x r o. same (vertex p) x) p qs e))
 
-  held-forward : (q : ℕ) → 3 ≤ length ps → Done (stored (stores Forward q e ps ws) m) (placesAfter Forward q e ps ws)
+  held-forward : (q : ℕ) → 2 ≤ length ps → Done (stored (stores Forward q e ps ws) m) (placesAfter Forward q e ps ws)
   unfolding stores placesAfter
   held-forward q k =
       let r = shape 0 ps (omega (arith, k)) in

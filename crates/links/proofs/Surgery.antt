@@ -115,6 +115,23 @@ module _ (n : ℕ) (m : Memory) (long : Long n m) (ws : List Ring) where
             (λ x y o. omega (arith, s (arcHit x y o)));
       }
 
+  -- the same where the last edge is marked: at a border the current place leaves
+  pub do-cut : (e l : ℕ) (ps : List Node) → Apart ((opened e ∷ (ps ++ (marked l ∷ []))) ∷ ws) → l < n → startOr l ps < n
+      → Holds m ((opened e ∷ (ps ++ (marked l ∷ []))) ∷ ws) → Done (stored (arc l (startOr l ps) true ∷ []) m) ((opened l ∷ ps) ∷ ws)
+  unfolding loopsSum ringSum pathSum among
+  do-cut e l ps a bl bf h =
+      let new = (opened l ∷ ps) ∷ ws in
+      let old = (opened e ∷ (ps ++ (marked l ∷ []))) ∷ ws in
+      let s : (w : Weight) → pathSum w (ps ++ (marked l ∷ [])) e ≡ pathSum w ps l + (w l e false + 0) = λ w. sum-append w ps (marked l ∷ []) e in
+      let sources : (x : ℕ) → placed x new ≤ placed x old = λ x. omega (arith, s (λ p r o. same x p)) in
+      let a′ : Apart new = apart-less old new a sources in
+      record {
+        apart = a′;
+        holds =
+            relink new a′ n m long old h (arc l (startOr l ps) true ∷ []) (omega (arith, arc-yes l (startOr l ps) true), bl, bf, tt)
+            (λ x y o. omega (arith, s (arcHit x y o)));
+      }
+
   -- i places after f is the place c, l is before it, and q becomes c's second place
   pub do-split : (e q : ℕ) (f : Node) (gs : List Node) (c : Node) (cs : List Node) (t : Bool) → Apart ((opened e ∷ (f ∷ (gs ++ (c ∷ cs)))) ∷ ws)
       → placed q ((opened e ∷ (f ∷ (gs ++ (c ∷ cs)))) ∷ ws) ≡ 0

@@ -9,7 +9,7 @@ use lib.ListN.{length, take, drop, getD, set}
 use lib.Dec.{eqb}
 use Rattle.rules.specs.declared.Operation.{Operation}
 use Rattle.rules.specs.declared.Operation.the-variants.{New, Forward, Backward, Border, Split, Close, Union, Start}
-use Rattle.rules.specs.Ring.{Node, opened, marked, Ring, startOr, vertexAt, lastOpen, lastVertex, front, onward, loopAt, without}
+use Rattle.rules.specs.Ring.{Node, opened, marked, Ring, isOpen, startOr, vertexAt, lastOpen, lastVertex, front, onward, shown, loopAt, without}
 use Rattle.rules.specs.Table.{Effect, not-allowed, builds, marks, shorterFirst}
 use Rattle.links.specs.Memory.{Arc, arc, placed}
 
@@ -18,7 +18,8 @@ abbrev pub alive : Ring → List Ring → List Ring
 alive [] ws = ws
 alive (p ∷ ps) ws = (p ∷ ps) ∷ ws
 
--- the rings of places after an operation that is allowed at a live loop; a start never is
+-- the rings of places after an operation that is allowed at a live loop; a start never is. At a border these are the rings when its
+-- edge is marked, before the places leave that no open edge enters or leaves
 unfoldable pub placesAfter : Operation → ℕ → ℕ → List Node → List Ring → List Ring
 placesAfter New q e ps ws = (opened q ∷ (ps ++ (opened e ∷ []))) ∷ ws
 placesAfter Forward q e ps ws = (opened e ∷ drop 1 ps) ∷ ws
@@ -30,6 +31,21 @@ placesAfter (Union n j) q e ps ws =
     let w = loopAt ws (n - 1) in
     (opened q ∷ (ps ++ (opened e ∷ (drop j w ++ take j w)))) ∷ without ws (n - 1)
 placesAfter Start q e ps ws = []
+
+-- the rings of places after a border
+abbrev pub afterBorder : ℕ → List Node → List Ring → List Ring
+afterBorder e ps ws = alive (shown (onward [] (ps ++ (marked e ∷ [])))) ws
+
+-- the places after the current one, without the next one if its edge is marked
+abbrev pub cutNext : List Node → List Node
+cutNext [] = []
+cutNext (opened v ∷ ps) = opened v ∷ ps
+cutNext (marked v ∷ ps) = ps
+
+-- if there are places after the current one, the edge of the first of them is open
+abbrev pub OpenNext : List Node → Type 0
+OpenNext [] = Unit {0}
+OpenNext (p ∷ ps) = isOpen p ≡ true
 
 -- the edges that it stores
 unfoldable pub stores : Operation → ℕ → ℕ → List Node → List Ring → List Arc
@@ -84,10 +100,21 @@ Takes Border = ⊥
 Takes Close = ⊥
 Takes Start = ⊥
 
+-- the operations that leave the rings of places as their stores do
+abbrev pub Whole : Operation → Type 0
+Whole New = Unit {0}
+Whole Forward = Unit {0}
+Whole Backward = Unit {0}
+Whole Border = ⊥
+Whole (Split i) = Unit {0}
+Whole Close = Unit {0}
+Whole (Union n j) = Unit {0}
+Whole Start = Unit {0}
+
 -- what an operation needs of the rings of places
 abbrev pub Fits : Operation → List Node → List Ring → Type 0
 Fits New ps ws = Unit {0}
-Fits Forward ps ws = 3 ≤ length ps
+Fits Forward ps ws = 2 ≤ length ps
 Fits Backward ps ws = lastOpen ps ≡ true
 Fits Border ps ws = Unit {0}
 Fits (Split i) ps ws = (1 ≤ i) × (i < length ps)

@@ -163,12 +163,12 @@ module _ (n : ℕ) (s : Front) (m : List ℕ) (M : Machine) (k : Keeps n s m M) 
   mark-within : (ls : List Ring) (d : Edge) (rim : ℕ) → effects.Marks (M .loops) ls d rim → within M ≡ true → within (afterMark M ls rim) ≡ true
   mark-within ls d rim b h =
       let w = within-each M h in
-      let o = b .sums (λ x y o. 1) in
+      let o = b .fewer (λ x. 1) in
       each-within (afterMark M ls rim)
       (record {
         vertices = w .vertices;
         triangles = w .triangles;
-        places = omega (arith, w .places, o .total, places-sum ls, places-sum (M .loops));
+        places = omega (arith, w .places, o, places-sum ls, places-sum (M .loops));
         loops = omega (arith, w .loops, b .lives);
       })
 

@@ -1,9 +1,9 @@
--- Close and border: the loops after them stand, also where the current loop ends and its places are freed.
+-- Close, and marking an edge: the loops after them stand, also where the current loop ends and its places are freed.
 -- Assumes nothing.
 use Prim.Native.Nat.{ℕ, suc, _+_, _-_, _*_, _≤_, _<_}
 use native.Mathlib.Omega.{arith}
-use mathlib.Core.Bool.{true, false}
-use mathlib.Core.List.{List, [], _∷_, _++_, append-assoc}
+use mathlib.Core.Bool.{true, false, false≢true}
+use mathlib.Core.List.{List, [], _∷_, _++_, append-nil}
 use mathlib.Core.Path.{_≡_, refl, sym, ap, _∙_, subst}
 use lib.ListN.{length, getD, length-set, length-append}
 use lib.Seq.{getD-set-other}
@@ -16,18 +16,20 @@ use Rattle.rules.specs.Ring.{Node, opened, marked, Ring, vertex, isOpen, startO
 use Rattle.rules.specs.Table.{Effect, marking, atEdge}
 use Rattle.book.specs.Sums.{Weight, pathSum, ringSum, loopsSum}
 use Rattle.book.specs.Consistent.{AllCurrent}
-use Rattle.book.proofs.Sums.{sum-append, sum-turn, start-append}
+use Rattle.book.proofs.Sums.{sum-append, start-append}
 use Rattle.links.specs.Memory.{Memory, Arc, arc, Holds, placed, stored, namedRing, namedLoops}
-use Rattle.links.specs.Stores.{alive, placesAfter, stores, verticesAfter, HasLoops}
+use Rattle.links.specs.Stores.{alive, placesAfter, stores, verticesAfter, HasLoops, OpenNext}
 use Rattle.links.proofs.Surgery.{do-mark}
+use Rattle.links.proofs.Stored as after
 use Rattle.memory.specs.declared.Loops.{Loops}
-use Rattle.memory.specs.Layout.{at, afterOf, openOf, verticesOf, linksOf, edgesStored, stacked, freed, released, sought}
+use Rattle.memory.specs.Layout.{at, afterOf, openOf, verticesOf, linksOf, edgesStored, stacked, freed, released}
 use Rattle.memory.specs.Stands.{Waits, StandsAt}
-use Rattle.memory.specs.Moves.{Held, held, endedHeld, turnedBy, markedHeld}
+use Rattle.memory.specs.Moves.{Held, held, endedHeld, turnedBy, turnedHeld}
 use Rattle.memory.proofs.Columns.{EdgesStored, edges-stored, links-long, same-vertices, same-links}
 use Rattle.memory.proofs.Standing.{Hop, Trail, start-trail, trails, trails-by, apart, below}
 use Rattle.memory.proofs.Room.{room}
-use Rattle.memory.proofs.Relinked.{Goes, Moved, effectAt, Relinked, relinked, stacked-same, stacked-freed, waits-same}
+use Rattle.memory.proofs.Relinked.{Goes, Moved, effectAt, relinked, stacked-same, stacked-freed, waits-same}
+use Rattle.memory.proofs.Cut.{Left}
 
 -- the links of a run do not change where the records do not
 pub trail-same : (n : ℕ) (m m′ : List ℕ) → ((i : ℕ) → i < 4 * n → at m′ i ≡ at m i) → (b : ℕ) → b < n → (ps : List Node) → Trail n m ps b → Trail n m′ ps b
@@ -161,7 +163,7 @@ module _ (n : ℕ) (s : Loops) (m : List ℕ) (u e : ℕ) (ps : List Node) (ws :
   pub moved-close : Goes (effectAt Close u n m e ps ws) → Moved n s m (endedHeld n s m) (effectAt Close u n m e ps ws)
   unfolding stores verticesAfter placesAfter stored
   moved-close goes =
-      let r = relinked Close n s m u 0 e ps ws st goes (λ t. absurd t) m refl refl in
+      let r = relinked Close n s m u 0 e ps ws st goes tt (λ t. absurd t) m refl refl in
       let d =
       ended n s m (opened e ∷ ps) e (st .long) (ring .0 .near) ring (st .heads .current) (st .heads .size) enough ws (st .heads .live)
       (st .heads .waiting) (r .current) whole (r .holds) in
@@ -173,52 +175,9 @@ module _ (n : ℕ) (s : Loops) (m : List ℕ) (u e : ℕ) (ps : List Node) (ws :
         loops = has-same (verticesOf n (endedHeld n s m .memory)) (verticesOf n m) ws (effectAt Close u n m e ps ws) (d .vertices) (r .loops);
       }
 
--- where the ring goes on after its first edge is marked
-data Way (m : List ℕ) (b : ℕ) (back ps : List Node) : Type 0 where
-  on : (v : ℕ) (qs : List Node) → onward back ps ≡ opened v ∷ qs → sought m (length ps) (startOr b ps) ≡ v → openOf m v ≡ 1
-      → length (opened v ∷ qs) ≡ length back + length ps → ((w : Weight) → ringSum w (opened v ∷ qs) ≡ ringSum w (back ++ ps)) → Way m b back ps
-  off : onward back ps ≡ [] → sought m (length ps) (startOr b ps) ≡ b → Way m b back ps
-
-sought-open : (m : List ℕ) (k v : ℕ) → openOf m v ≡ 1 → sought m (suc k) v ≡ v
-unfolding sought
-sought-open m k v h = subst (λ (x : ℕ). elim (eqb x 0) [ true ↦ sought m k (afterOf m v) | false ↦ v ] ≡ v) (sym h) refl
-
-sought-marked : (m : List ℕ) (k v : ℕ) → openOf m v ≡ 0 → sought m (suc k) v ≡ sought m k (afterOf m v)
-unfolding sought
-sought-marked m k v h = subst (λ (x : ℕ). elim (eqb x 0) [ true ↦ sought m k (afterOf m v) | false ↦ v ] ≡ sought m k (afterOf m v)) (sym h) refl
-
-way : (n : ℕ) (m : List ℕ) (b : ℕ) (back ps : List Node) → Trail n m ps b → Way m b back ps
-unfolding onward
-way n m b back [] t = off refl (unfold sought in refl)
-way n m b back (opened v ∷ ps) t =
-    on v (ps ++ back) refl (sought-open m (length ps) v (t .0 .mark)) (t .0 .mark) (simp length-append (omega arith)) (λ w. sum-turn w (opened v ∷ ps) back)
-way n m b back (marked v ∷ ps) t = go (way n m b (back ++ (marked v ∷ [])) ps (t .1))
-  where
-    step : sought m (suc (length ps)) v ≡ sought m (length ps) (startOr b ps)
-    step = sought-marked m (length ps) v (t .0 .mark) ∙ ap (sought m (length ps)) (t .0 .fore)
-
-    go : Way m b (back ++ (marked v ∷ [])) ps → Way m b back (marked v ∷ ps)
-    go (on x qs e f o l w) =
-        on x qs e (step ∙ f) o (l ∙ simp length-append (omega arith)) (λ k. w k ∙ ap (ringSum k) (append-assoc back (marked v ∷ []) ps))
-    go (off e f) = off e (step ∙ f)
-
-first-marked : (n : ℕ) (m : List ℕ) (b : ℕ) (ps : List Node) → Trail n m ps b → onward [] ps ≡ [] → 1 ≤ length ps → openOf m (startOr b ps) ≡ 0
-first-marked n m b [] t h k = absurd (omega (arith, k))
-first-marked n m b (marked v ∷ ps) t h k = t .0 .mark
-first-marked n m b (opened v ∷ ps) t h k = absurd (unfold onward in omega (arith, ap {B = ℕ} length h))
-
-marking-goes : (r : Ring) (ws : List Ring) (d : Edge) → Goes (marking r ws d)
-marking-goes [] ws d = tt
-marking-goes (p ∷ r) ws d = tt
-
-module _ (n : ℕ) (s : Loops) (m : List ℕ) (u e : ℕ) (ps : List Node) (ws : List Ring)
-    (st : StandsAt n s m ((opened e ∷ ps) ∷ ws)) where
-  pub goes-border : Goes (effectAt Border u n m e ps ws)
-  unfolding atEdge
-  goes-border =
-      marking-goes (onward [] (namedRing (verticesOf n m) ps ++ (marked (getD (verticesOf n m) e 0) ∷ []))) (namedLoops (verticesOf n m) ws)
-      (edge (getD (verticesOf n m) e 0) (startOr (getD (verticesOf n m) e 0) (namedRing (verticesOf n m) ps)))
-
+-- the current edge is marked, and the loop goes on at the next edge, which is open, or ends
+module _ (n : ℕ) (s : Loops) (m : List ℕ) (e : ℕ) (ps : List Node) (ws : List Ring)
+    (st : StandsAt n s m ((opened e ∷ ps) ∷ ws)) (current : AllCurrent (alive (onward [] (ps ++ (marked e ∷ []))) ws)) where
   around : List Node
   around = ps ++ (marked e ∷ [])
 
@@ -232,7 +191,7 @@ module _ (n : ℕ) (s : Loops) (m : List ℕ) (u e : ℕ) (ps : List Node) (ws :
   long₄ = omega (arith, st .long)
 
   after-near : startOr e ps < n
-  after-near = start-trail n m e (ring n s m u e ps ws st .0 .near) ps (ring n s m u e ps ws st .1)
+  after-near = start-trail n m e (ring n s m 0 e ps ws st .0 .near) ps (ring n s m 0 e ps ws st .1)
 
   around-start : (b : ℕ) → startOr b around ≡ startOr e ps
   unfolding around
@@ -240,7 +199,7 @@ module _ (n : ℕ) (s : Loops) (m : List ℕ) (u e : ℕ) (ps : List Node) (ws :
 
   made : EdgesStored n m marking-arcs
   unfolding marking-arcs
-  made = edges-stored n m marking-arcs long₄ (ring n s m u e ps ws st .0 .near, after-near, tt)
+  made = edges-stored n m marking-arcs long₄ (ring n s m 0 e ps ws st .0 .near, after-near, tt)
 
   around-placed : (x : ℕ) → placed x (around ∷ ws) ≡ placed x ((opened e ∷ ps) ∷ ws)
   unfolding around loopsSum ringSum pathSum
@@ -253,27 +212,31 @@ module _ (n : ℕ) (s : Loops) (m : List ℕ) (u e : ℕ) (ps : List Node) (ws :
       (trails-by n marked-memory (around ∷ ws) (λ x h. below n s m ((opened e ∷ ps) ∷ ws) st x (omega (arith, around-placed x)))
       (subst (λ (M : Memory). Holds M (around ∷ ws)) (sym (made .links))
       (do-mark n (linksOf n m) (links-long n m) ws e ps (apart n s m ((opened e ∷ ps) ∷ ws) st)
-      (ring n s m u e ps ws st .0 .near) after-near (st .holds) .holds)) .0)
+      (ring n s m 0 e ps ws st .0 .near) after-near (st .holds) .holds)) .0)
 
-  linked : Relinked n marked-memory (alive (onward [] around) ws) (effectAt Border u n m e ps ws)
-  unfolding marked-memory marking-arcs around stores verticesAfter placesAfter
-  linked = relinked Border n s m u 0 e ps ws st goes-border (λ t. absurd t) marked-memory (made .links) (made .vertices)
+  holds-marked : Holds (linksOf n marked-memory) (alive (onward [] around) ws)
+  unfolding marked-memory marking-arcs around stores placesAfter
+  holds-marked =
+      subst (λ (M : Memory). Holds M (alive (onward [] around) ws)) (sym (made .links))
+      (after.held Border n (linksOf n m) (links-long n m) 0 e ps ws (apart n s m ((opened e ∷ ps) ∷ ws) st) (λ t. absurd t)
+      (below n s m ((opened e ∷ ps) ∷ ws) st) (st .holds) tt .holds)
+
+  same-names : verticesOf n marked-memory ≡ verticesOf n m
+  unfolding marked-memory
+  same-names = made .vertices
 
   around-length : s .size ≡ length around
   unfolding around
   around-length = simp length-append (omega (arith, st .heads .size))
 
-  marked-held : markedHeld n s m
-      ≡ turnedBy (eqb (openOf marked-memory (sought marked-memory (length around) (startOr e ps))) 0) n s marked-memory (sought marked-memory (length around) (startOr e ps))
-  unfolding markedHeld marked-memory marking-arcs
-  marked-held =
-      let at-edge : ℕ → ℕ → ℕ → Held =
-      λ c x k.
-      turnedBy (eqb (openOf (edgesStored (arc c x false ∷ []) m) (sought (edgesStored (arc c x false ∷ []) m) k x)) 0) n s (edgesStored (arc c x false ∷ []) m)
-      (sought (edgesStored (arc c x false ∷ []) m) k x) in
+  turned-held : turnedHeld n s m ≡ turnedBy (eqb (openOf marked-memory (startOr e ps)) 0) n s marked-memory (startOr e ps)
+  unfolding turnedHeld marked-memory marking-arcs
+  turned-held =
+      let at-edge : ℕ → ℕ → Held =
+      λ c x. turnedBy (eqb (openOf (edgesStored (arc c x false ∷ []) m) x) 0) n s (edgesStored (arc c x false ∷ []) m) x in
       let a : s .current ≡ e = st .heads .current in
-      let b : afterOf m e ≡ startOr e ps = ring n s m u e ps ws st .0 .fore in
-      ap (λ (c : ℕ). at-edge c (afterOf m c) (s .size)) a ∙ ap (λ (x : ℕ). at-edge e x (s .size)) b ∙ ap (at-edge e (startOr e ps)) around-length
+      let b : afterOf m e ≡ startOr e ps = ring n s m 0 e ps ws st .0 .fore in
+      ap (λ (c : ℕ). at-edge c (afterOf m c)) a ∙ ap (at-edge e) b
 
   above : (i : ℕ) → 4 * n ≤ i → at marked-memory i ≡ at m i
   unfolding marked-memory
@@ -285,35 +248,32 @@ module _ (n : ℕ) (s : Loops) (m : List ℕ) (u e : ℕ) (ps : List Node) (ws :
 
   goes-on : (v : ℕ) (qs : List Node) → onward [] around ≡ opened v ∷ qs → length (opened v ∷ qs) ≡ length around
       → ((w : Weight) → ringSum w (opened v ∷ qs) ≡ ringSum w around)
-      → Moved n s m (held (s .live) v (s .size) (s .free) marked-memory) (effectAt Border u n m e ps ws)
-  unfolding loopsSum
-  goes-on v qs eo el sums =
-      let l = subst (λ (r : Ring). Relinked n marked-memory (alive r ws) (effectAt Border u n m e ps ws)) eo linked in
-      record {
-        rings = (opened v ∷ qs) ∷ ws;
-        lengths = same-long;
-        rest = λ i h. above i (omega arith);
-        stands = record {
-          long = omega (arith, st .long, same-long);
-          holds = l .holds;
-          each = λ x.
-              omega (
-                arith,
-                st .each x,
-                around-placed x,
-                sums (λ p q o. same x p),
-                stacked-same n x m marked-memory (s .free) (λ i h. above (4 * n + i) (omega arith)),
-              );
-          heads = record {
-            live = st .heads .live;
-            current = refl;
-            size = around-length ∙ sym el;
-            waiting = waits-same n m marked-memory (λ i h. above i (omega arith)) ws (st .heads .waiting);
-          };
-          sound = l .current;
-        };
-        loops = l .loops;
-      }
+      → Left n m (held (s .live) v (s .size) (s .free) marked-memory) ((opened v ∷ qs) ∷ ws)
+  unfolding loopsSum around
+  goes-on v qs eo el sums = record {
+    lengths = same-long;
+    rest = λ i h. above i (omega arith);
+    stands = record {
+      long = omega (arith, st .long, same-long);
+      holds = subst (λ (r : Ring). Holds (linksOf n marked-memory) (alive r ws)) eo holds-marked;
+      each = λ x.
+          omega (
+            arith,
+            st .each x,
+            around-placed x,
+            sums (λ p q o. same x p),
+            stacked-same n x m marked-memory (s .free) (λ i h. above (4 * n + i) (omega arith)),
+          );
+      heads = record {
+        live = st .heads .live;
+        current = refl;
+        size = around-length ∙ sym el;
+        waiting = waits-same n m marked-memory (λ i h. above i (omega arith)) ws (st .heads .waiting);
+      };
+      sound = subst (λ (r : Ring). AllCurrent (alive r ws)) eo current;
+    };
+    vertices = same-names;
+  }
 
   turned-trail : Trail n marked-memory (marked e ∷ ps) e
   unfolding around
@@ -321,45 +281,36 @@ module _ (n : ℕ) (s : Loops) (m : List ℕ) (u e : ℕ) (ps : List Node) (ws :
       let r = trail-append n marked-memory (startOr e ps) ps (marked e ∷ []) around-trail in
       (r .1 .0, r .0)
 
-  goes-off : onward [] around ≡ [] → Moved n s m (endedHeld n s marked-memory) (effectAt Border u n m e ps ws)
-  unfolding pathSum
+  goes-off : onward [] around ≡ [] → Left n m (endedHeld n s marked-memory) ws
+  unfolding pathSum around
   goes-off eo =
-      let l = subst (λ (r : Ring). Relinked n marked-memory (alive r ws) (effectAt Border u n m e ps ws)) eo linked in
       let d =
-      ended n s marked-memory (marked e ∷ ps) e (omega (arith, st .long, same-long)) (ring n s m u e ps ws st .0 .near) turned-trail
-      (st .heads .current) (st .heads .size) (enough n s m u e ps ws st) ws (st .heads .live)
-      (waits-same n m marked-memory (λ i h. above i (omega arith)) ws (st .heads .waiting)) (l .current)
-      (λ x. omega (arith, whole n s m u e ps ws st x, stacked-same n x m marked-memory (s .free) (λ i h. above (4 * n + i) (omega arith)))) (l .holds) in
+      ended n s marked-memory (marked e ∷ ps) e (omega (arith, st .long, same-long)) (ring n s m 0 e ps ws st .0 .near) turned-trail
+      (st .heads .current) (st .heads .size) (enough n s m 0 e ps ws st) ws (st .heads .live)
+      (waits-same n m marked-memory (λ i h. above i (omega arith)) ws (st .heads .waiting)) (subst (λ (r : Ring). AllCurrent (alive r ws)) eo current)
+      (λ x. omega (arith, whole n s m 0 e ps ws st x, stacked-same n x m marked-memory (s .free) (λ i h. above (4 * n + i) (omega arith))))
+      (subst (λ (r : Ring). Holds (linksOf n marked-memory) (alive r ws)) eo holds-marked) in
       record {
-        rings = ws;
         lengths = d .lengths ∙ same-long;
-        rest = λ i h. d .rest i (omega arith) ∙ above i (omega arith);
+        rest = λ i h. d .rest i h ∙ above i (omega arith);
         stands = d .stands;
-        loops =
-            has-same (verticesOf n (endedHeld n s marked-memory .memory)) (verticesOf n marked-memory) ws (effectAt Border u n m e ps ws) (d .vertices) (l .loops);
+        vertices = d .vertices ∙ same-names;
       }
 
-  f-marked : onward [] around ≡ [] → openOf marked-memory (startOr e ps) ≡ 0
-  unfolding around
-  f-marked eo =
-      ap (openOf marked-memory) (sym (around-start (startOr e ps)))
-      ∙ first-marked n marked-memory (startOr e ps) around around-trail eo (simp length-append (omega arith))
+  turns : (t : ℕ) → openOf marked-memory (startOr e ps) ≡ t
+      → Left n m (turnedBy (eqb t 0) n s marked-memory (startOr e ps)) (alive (onward [] around) ws)
+      → Left n m (turnedHeld n s m) (alive (onward [] around) ws)
+  turns t h l =
+      subst (λ (x : Held). Left n m x (alive (onward [] around) ws)) (sym turned-held)
+      (subst (λ (x : ℕ). Left n m (turnedBy (eqb x 0) n s marked-memory (startOr e ps)) (alive (onward [] around) ws)) (sym h) l)
 
-  turned-at : (v : ℕ) → sought marked-memory (length around) (startOr (startOr e ps) around) ≡ v → sought marked-memory (length around) (startOr e ps) ≡ v
-  turned-at v es = ap (sought marked-memory (length around)) (sym (around-start (startOr e ps))) ∙ es
-
-  turns : Way marked-memory (startOr e ps) [] around
-      → Moved n s m (turnedBy (eqb (openOf marked-memory (sought marked-memory (length around) (startOr e ps))) 0) n s marked-memory (sought marked-memory (length around) (startOr e ps)))
-      (effectAt Border u n m e ps ws)
-  turns (on v qs eo es ov el sums) =
-      subst (λ (p : ℕ). Moved n s m (turnedBy (eqb (openOf marked-memory p) 0) n s marked-memory p) (effectAt Border u n m e ps ws)) (sym (turned-at v es))
-      (subst (λ (t : ℕ). Moved n s m (turnedBy (eqb t 0) n s marked-memory v) (effectAt Border u n m e ps ws)) (sym ov)
-      (goes-on v qs eo (omega (arith, el)) sums))
-  turns (off eo es) =
-      subst (λ (p : ℕ). Moved n s m (turnedBy (eqb (openOf marked-memory p) 0) n s marked-memory p) (effectAt Border u n m e ps ws)) (sym (turned-at (startOr e ps) es))
-      (subst (λ (t : ℕ). Moved n s m (turnedBy (eqb t 0) n s marked-memory (startOr e ps)) (effectAt Border u n m e ps ws)) (sym (f-marked eo)) (goes-off eo))
-
-  pub moved-border : Moved n s m (markedHeld n s m) (effectAt Border u n m e ps ws)
-  moved-border =
-      subst (λ (h : Held). Moved n s m h (effectAt Border u n m e ps ws)) (sym marked-held)
-      (turns (way n marked-memory (startOr e ps) [] around around-trail))
+pub turned : (n : ℕ) (s : Loops) (m : List ℕ) (e : ℕ) (ps : List Node) (ws : List Ring) → StandsAt n s m ((opened e ∷ ps) ∷ ws) → OpenNext ps
+    → AllCurrent (alive (onward [] (ps ++ (marked e ∷ []))) ws) → Left n m (turnedHeld n s m) (alive (onward [] (ps ++ (marked e ∷ []))) ws)
+unfolding around onward
+turned n s m e [] ws st o current = turns n s m e [] ws st current 0 (around-trail n s m e [] ws st current .0 .mark) (goes-off n s m e [] ws st current refl)
+turned n s m e (opened v ∷ qs) ws st o current =
+    let rest : List Node = qs ++ (marked e ∷ []) in
+    turns n s m e (opened v ∷ qs) ws st current 1 (around-trail n s m e (opened v ∷ qs) ws st current .0 .mark)
+    (goes-on n s m e (opened v ∷ qs) ws st current v (rest ++ []) refl (ap (λ (l : List Node). suc (length l)) (append-nil rest))
+    (λ w. ap (λ (l : List Node). ringSum w (opened v ∷ l)) (append-nil rest)))
+turned n s m e (marked v ∷ qs) ws st o current = absurd (false≢true o)

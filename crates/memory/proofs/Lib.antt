@@ -3,7 +3,9 @@ pub mod Standing
 pub mod Room
 pub mod Relinked
 pub mod Simple
+pub mod Cut
 pub mod Ended
+pub mod Border
 pub mod Waiting
 pub mod Doubled
 pub mod Split

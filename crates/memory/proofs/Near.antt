@@ -11,7 +11,7 @@ use lib.Dec.{eqb}
 use borrow.Author.Tests.{eqb-true, eqb-false}
 use Rattle.rules.specs.Ring.{Node, opened, marked, Ring, startOr, places, loopAt}
 use Rattle.memory.specs.declared.Loops.{Loops}
-use Rattle.memory.specs.Layout.{at, beforeOf, afterOf, edgeStored, walked, sought}
+use Rattle.memory.specs.Layout.{at, beforeOf, afterOf, edgeStored, walked}
 use Rattle.memory.specs.Stands.{StandsAt}
 use Rattle.memory.specs.Near.{Near, Starts}
 use Rattle.memory.proofs.Standing.{Trail, trails, trail-at, walk-trail, near-trail, last-trail, start-trail, top-free}
@@ -97,16 +97,6 @@ module _ (n : ℕ) (l : Loops) (m : List ℕ) (h : Near n l m) where
   pub near-next : (f c : ℕ) → f ≡ afterOf m (l .current) → c ≡ afterOf m f → c < n
   near-next f c ef ec = subst (λ (x : ℕ). x < n) (sym (ec ∙ ap (afterOf m) ef)) near-g
 
--- where a search for an open edge ends
-sought-walked : (n : ℕ) (m : List ℕ) (k x : ℕ) → ((j : ℕ) → j ≤ k → walked m j x < n) → sought m k x < n
-unfolding walked sought
-sought-walked n m zero x h = h 0 (omega arith)
-sought-walked n m (suc k) x h = go (eqb (at m (4 * x + 3)) 0) (sought-walked n m k (afterOf m x) (λ j l. h (suc j) (omega arith)))
-  where
-    go : (t : Bool) → sought m k (afterOf m x) < n → elim t [ true ↦ sought m k (afterOf m x) | false ↦ x ] < n
-    go true i = i
-    go false i = unfold walked in h 0 (omega arith)
-
 -- the current edge stored again, open or marked: the links stay
 module _ (n : ℕ) (l : Loops) (m m₁ : List ℕ) (f o : ℕ) (h : Near n l m) (ef : f ≡ afterOf m (l .current)) (em : m₁ ≡ edgeStored m (l .current) f o) where
   long-marked : length m₁ ≡ length m
@@ -182,14 +172,6 @@ module _ (n : ℕ) (l : Loops) (m m₁ : List ℕ) (f o : ℕ) (h : Near n l m) 
         (h .waiting w k j (subst (λ (x : ℕ). j < x) (above-marked (5 * n + 2 * w + 1) (omega arith)) i));
     sizes = λ w k. rw (above-marked (5 * n + 2 * w + 1) (omega arith)) (h .sizes w k);
   }
-
-  -- from f on
-  pub near-ahead : (j : ℕ) → j ≤ l .size → walked m₁ j f < n
-  unfolding walked
-  near-ahead j k = rw (same-walk j f, ef) (h .ahead (suc j) (omega (arith, k)))
-
-  pub near-sought : sought m₁ (l .size) f < n
-  near-sought = sought-walked n m₁ (l .size) f near-ahead
 
 starts-at : (n : ℕ) (l : Loops) (m : List ℕ) → n ≤ 1024 → StandsAt n l m [] → 3 ≤ l .free → Starts n l m
 unfolding places

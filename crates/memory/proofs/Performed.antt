@@ -4,7 +4,7 @@ use Prim.Native.Nat.{ℕ, _+_, _-_, _*_, _≤_}
 use native.Mathlib.Omega.{arith}
 use mathlib.Core.Bool.{Bool, true, false}
 use mathlib.Core.List.{List}
-use mathlib.Core.Path.{_≡_, refl, ap, subst}
+use mathlib.Core.Path.{_≡_, refl, ap, _∙_, subst}
 use lib.Dec.{eqb, leb, ltb}
 use borrow.Author.Tests.{leb-true, ltb-true, eqb-true, eqb-false}
 use Rattle.rules.specs.declared.Operation.{Operation}
@@ -13,11 +13,11 @@ use Rattle.memory.specs.declared.Loops.{Loops}
 use Rattle.memory.specs.declared.Front.{Front}
 use Rattle.memory.specs.declared.Plan.{Plan}
 use Rattle.memory.specs.declared.Decided.the-variants.{Builds}
-use Rattle.memory.specs.Layout.{at, afterOf, openOf, edgesStored, sought}
+use Rattle.memory.specs.Layout.{at, beforeOf, afterOf, openOf, edgesStored}
 use Rattle.memory.specs.Stands.{ringsIn}
-use Rattle.memory.specs.Moves.{endedBy, endedHeld, turnedBy, markedHeld, newHeld, forwardHeld, backwardHeld, splitBy, splitHeld, doubled, topFree, unionHeld, startHeld}
+use Rattle.memory.specs.Moves.{endedBy, endedHeld, turnedBy, turnedHeld, cutBy, nextCut, lastCut, bothCut, markedHeld, newHeld, forwardHeld, backwardHeld, splitBy, splitHeld, doubled, topFree, unionHeld, startHeld}
 use Rattle.memory.specs.Decision.{planAt, newPlan, forwardPlan, backwardPlan, borderPlan, splitPlan, closePlan, unionPlan, startPlan, edgeProposed, restProposed, proposedBy, proposed, newEdges, decided, heldAfter}
-use Rattle.memory.specs.Near.{Near, Doubles}
+use Rattle.memory.specs.Near.{Near, Borders, Doubles}
 use Rattle.memory.specs.Keeps.{Ready}
 use Rattle.memory.specs.Performs.{Performs, Counts16}
 use Rattle.memory.proofs.Near.{starts}
@@ -57,24 +57,24 @@ module _ (n : ℕ) (s : Front) (m : List ℕ) (r : Ready n s m) (p : Plan) (room
         small = small-at (s .loops) m _ 1 1 1 0 0 p z (omega arith) (omega arith) (omega arith) (omega arith);
       }
   able-edge Forward h e =
-      let z = same-plan p _ (passed _ _ p (passed _ _ p e .is) .is) in
+      let z = same-plan p _ (passed _ _ p (passed _ _ p (passed _ _ p e .is) .is) .is) in
       record {
         performs = ready-near n s m r h;
         small = small-at (s .loops) m _ 1 0 0 0 0 p z (omega arith) (omega arith) (omega arith) (omega arith);
       }
   able-edge Backward h e =
-      let z = same-plan p _ (passed _ _ p (passed _ _ p e .is) .is) in
+      let z = same-plan p _ (passed _ _ p (passed _ _ p (passed _ _ p e .is) .is) .is) in
       record {
         performs = ready-near n s m r h;
         small = small-at (s .loops) m _ 0 1 0 0 0 p z (omega arith) (omega arith) (omega arith) (omega arith);
       }
   able-edge Border h e = absurd (never-marks _ _ p e)
   able-edge (Split i) h e =
-      let a = passed (leb 2 i) _ p e in
-      let b = passed (leb (i + 3) (s .loops .size)) _ p (a .is) in
-      let z = same-plan p _ (b .is) in
-      let low : 2 ≤ i = leb-true 2 i (a .test) in
-      let high : i + 3 ≤ s .loops .size = leb-true (i + 3) (s .loops .size) (b .test) in
+      let a = passed (leb 1 i) _ p e in
+      let b = passed (leb (i + 2) (s .loops .size)) _ p (a .is) in
+      let z = same-plan p _ (passed _ _ p (passed _ _ p (b .is) .is) .is) in
+      let low : 1 ≤ i = leb-true 1 i (a .test) in
+      let high : i + 2 ≤ s .loops .size = leb-true (i + 2) (s .loops .size) (b .test) in
       let free : 1 ≤ s .loops .free = some-free _ _ _ _ z in
       let d = doubles-split n (s .loops) m free (ringsIn n (s .loops) m) (r .stands) (omega (arith, h)) i low high in
       let live : s .loops .live + 1 ≤ s .stated .loops =
@@ -166,15 +166,19 @@ ended-free n l m = go (leb (l .live) 1)
     go true = refl
     go false = refl
 
-pub marked-free : (n : ℕ) (l : Loops) (m : List ℕ) → Near n l m → markedHeld n l m .loops .free ≤ n
-unfolding markedHeld
-marked-free n l m h =
+turned-free : (n : ℕ) (l : Loops) (m : List ℕ) → Near n l m → turnedHeld n l m .loops .free ≤ n
+unfolding turnedHeld
+turned-free n l m h =
     let m₁ : List ℕ = edgesStored _ m in
-    go (eqb (openOf m₁ (sought m₁ (l .size) (afterOf m (l .current)))) 0) _ _
+    go (eqb (openOf m₁ (afterOf m (l .current))) 0) _ _
   where
     go : (t : Bool) (m₁ : List ℕ) (p : ℕ) → turnedBy t n l m₁ p .loops .free ≤ n
     go true m₁ p = omega (arith, ended-free n l m₁, h .room)
     go false m₁ p = omega (arith, h .room)
+
+pub marked-free : (n : ℕ) (l : Loops) (m : List ℕ) → Borders n l m → markedHeld n l m .loops .free ≤ n
+unfolding markedHeld
+marked-free n l m h = turned-free n (bothCut n l m .loops) (bothCut n l m .memory) (h .last)
 
 after-free : (n : ℕ) (s : Front) (m : List ℕ) (o : Operation) (p : Plan) → s .loops .free ≤ n → Performs n (s .loops) m (s .used) o (p .place) → heldAfter n s m o p .loops .free ≤ n
 unfolding newHeld forwardHeld backwardHeld splitHeld unionHeld startHeld
@@ -208,11 +212,11 @@ counts16 n s m o p r e =
     }
 
 -- marking leaves no more loops
-pub marked-live : (n : ℕ) (l : Loops) (m : List ℕ) → markedHeld n l m .loops .live ≤ l .live
-unfolding markedHeld
-marked-live n l m =
+turned-live : (n : ℕ) (l : Loops) (m : List ℕ) → turnedHeld n l m .loops .live ≤ l .live
+unfolding turnedHeld
+turned-live n l m =
     let m₁ : List ℕ = edgesStored _ m in
-    go (eqb (openOf m₁ (sought m₁ (l .size) (afterOf m (l .current)))) 0) _ _
+    go (eqb (openOf m₁ (afterOf m (l .current))) 0) _ _
   where
     fewer : (t : Bool) (m₁ : List ℕ) → endedBy t n l m₁ .loops .live ≤ l .live
     fewer true m₁ = omega arith
@@ -223,11 +227,11 @@ marked-live n l m =
     go false m₁ p = omega arith
 
 -- and at most one less
-pub marked-less : (n : ℕ) (l : Loops) (m : List ℕ) → l .live ≤ markedHeld n l m .loops .live + 1
-unfolding markedHeld
-marked-less n l m =
+turned-less : (n : ℕ) (l : Loops) (m : List ℕ) → l .live ≤ turnedHeld n l m .loops .live + 1
+unfolding turnedHeld
+turned-less n l m =
     let m₁ : List ℕ = edgesStored _ m in
-    go (eqb (openOf m₁ (sought m₁ (l .size) (afterOf m (l .current)))) 0) _ _
+    go (eqb (openOf m₁ (afterOf m (l .current))) 0) _ _
   where
     one : (t : Bool) (m₁ : List ℕ) → leb (l .live) 1 ≡ t → l .live ≤ endedBy t n l m₁ .loops .live + 1
     one true m₁ e = omega (arith, leb-true (l .live) 1 e)
@@ -236,3 +240,27 @@ marked-less n l m =
     go : (t : Bool) (m₁ : List ℕ) (p : ℕ) → l .live ≤ turnedBy t n l m₁ p .loops .live + 1
     go true m₁ p = unfold endedHeld in one (leb (l .live) 1) m₁ refl
     go false m₁ p = omega arith
+
+-- the places that leave change no loop's number
+cut-live : (n : ℕ) (l : Loops) (m : List ℕ) → bothCut n l m .loops .live ≡ l .live
+unfolding nextCut lastCut
+cut-live n l m = last (nextCut n l m .loops) (nextCut n l m .memory) ∙ next (eqb (openOf m (afterOf m (l .current))) 0)
+  where
+    next : (t : Bool) → cutBy t (forwardHeld n l m) l m .loops .live ≡ l .live
+    next true = unfold forwardHeld in refl
+    next false = refl
+
+    last : (k : Loops) (m₁ : List ℕ) → lastCut n k m₁ .loops .live ≡ k .live
+    last k m₁ = go (eqb (openOf m₁ (beforeOf m₁ (k .current))) 0)
+      where
+        go : (t : Bool) → cutBy t (backwardHeld n k m₁) k m₁ .loops .live ≡ k .live
+        go true = unfold backwardHeld in refl
+        go false = refl
+
+pub marked-live : (n : ℕ) (l : Loops) (m : List ℕ) → markedHeld n l m .loops .live ≤ l .live
+unfolding markedHeld
+marked-live n l m = omega (arith, turned-live n (bothCut n l m .loops) (bothCut n l m .memory), cut-live n l m)
+
+pub marked-less : (n : ℕ) (l : Loops) (m : List ℕ) → l .live ≤ markedHeld n l m .loops .live + 1
+unfolding markedHeld
+marked-less n l m = omega (arith, turned-less n (bothCut n l m .loops) (bothCut n l m .memory), cut-live n l m)

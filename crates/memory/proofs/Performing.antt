@@ -81,7 +81,7 @@ passed false d p e = absurd (never 16 p e)
 
 -- the second place of a split's and a union's third vertex
 module _ (n : ℕ) (l : Loops) (m : List ℕ) (some : 1 ≤ l .free) where
-  pub doubles-split : (rs : List Ring) → StandsAt n l m rs → 1 ≤ l .live → (i : ℕ) → 2 ≤ i → i + 3 ≤ l .size
+  pub doubles-split : (rs : List Ring) → StandsAt n l m rs → 1 ≤ l .live → (i : ℕ) → 1 ≤ i → i + 2 ≤ l .size
       → Doubles n l m (walked m i (afterOf m (l .current)))
   doubles-split [] st h i a b = absurd (omega (arith, h, st .heads))
   doubles-split ([] ∷ ws) st h i a b = absurd (false≢true (st .sound .0))

@@ -1,8 +1,8 @@
 -- What is proposed for close, split, union and start; and for every operation.
 -- Assumes nothing.
-use Prim.Native.Nat.{ℕ, suc, _+_, _-_, _*_, _<_}
+use Prim.Native.Nat.{ℕ, suc, _+_, _-_, _*_, _≤_, _<_}
 use native.Mathlib.Omega.{arith}
-use mathlib.Core.Bool.{Bool, true, false, _&&_, false≢true}
+use mathlib.Core.Bool.{Bool, true, false, _&&_, not, false≢true}
 use mathlib.Core.List.{List, [], _∷_}
 use mathlib.Core.Path.{_≡_, refl, sym, ap, ap₂, _∙_, subst}
 use lib.ListN.{length}
@@ -11,19 +11,19 @@ use borrow.Author.Tests.{leb-true, ltb-true, eqb-true, ne-eqb}
 use Rattle.rules.specs.declared.Operation.{Operation}
 use Rattle.rules.specs.declared.Operation.the-variants.{New, Forward, Backward, Border, Split, Close, Union, Start}
 use Rattle.rules.specs.Triangle.{tri}
-use Rattle.rules.specs.Ring.{Node, opened, marked, Ring, allOpen, startOr, vertexAt, places, loopAt}
+use Rattle.rules.specs.Ring.{Node, opened, marked, Ring, firstOpen, allOpen, startOr, vertexAt, lastOpen, places, loopAt}
 use Rattle.rules.specs.Table.{atEdge, atRest, effect}
 use Rattle.book.proofs.Counting.{and-left, and-right}
 use Rattle.book.proofs.Effects as effects
 use Rattle.links.specs.Memory.{namedRing, namedLoops}
-use Rattle.links.proofs.Named.{named-length, named-at, named-allOpen, named-loopAt, named-lives}
+use Rattle.links.proofs.Named.{named-length, named-at, named-loopAt, named-lives}
 use Rattle.memory.specs.declared.Front.{Front}
 use Rattle.memory.specs.declared.Plan.{Plan}
 use Rattle.memory.specs.declared.Decided.the-variants.{Builds}
-use Rattle.memory.specs.Layout.{at, vertexOf, afterOf, verticesOf, walked}
+use Rattle.memory.specs.Layout.{at, vertexOf, beforeOf, afterOf, verticesOf, walked}
 use Rattle.memory.specs.Stands.{StandsAt}
 use Rattle.memory.specs.Moves.{splitHeld, unionHeld}
-use Rattle.memory.specs.Decision.{isOpenAt, planAt, splitPlan, closePlan, unionPlan, startPlan, proposedBy, proposed, heldAfter}
+use Rattle.memory.specs.Decision.{isOpenAt, planAt, besideNext, besideLast, splitPlan, closePlan, unionPlan, startPlan, proposedBy, proposed, heldAfter}
 use Rattle.memory.proofs.Standing.{Trail, trails, trail-at, walk-trail, near-trail}
 use Rattle.memory.proofs.Room.{room}
 use Rattle.memory.proofs.Relinked.{Goes, Moved, effectAt, law}
@@ -32,19 +32,13 @@ use Rattle.memory.proofs.Waiting.{waits-at}
 use Rattle.memory.proofs.Split.{moved-split}
 use Rattle.memory.proofs.Union.{moved-union}
 use Rattle.memory.proofs.Start.{moved-start}
-use Rattle.memory.proofs.Proposing.{Proposes, allowed-proposes, two-tests, three-tests, and-cong, two-open, start-any, allowed-goes, allowed-moved, allowed-law, ring, name, at-f, at-next, name-next, name-c, size-is, corners, some-free, propose-new, propose-forward, propose-backward, propose-border}
+use Rattle.memory.proofs.Proposing.{Proposes, allowed-proposes, three-tests, four-tests, and-cong, start-any, allowed-goes, allowed-moved, allowed-law, ring, name, at-f, at-next, name-next, name-c, size-is, open-f, open-last, three-open, corners, some-free, propose-new, propose-forward, propose-backward, propose-border}
 
 module _ (n : ℕ) (s : Front) (m : List ℕ) (e : ℕ) (ps : List Node) (ws : List Ring)
     (st : StandsAt n (s .loops) m ((opened e ∷ ps) ∷ ws)) where
   -- the current loop's other places, by their vertices
   abbrev pub others : List Node
   others = namedRing (verticesOf n m) ps
-
-  three-open : eqb (suc (length others)) 3 ≡ true → isOpenAt m (afterOf m (s .loops .current)) && isOpenAt m (afterOf m (afterOf m (s .loops .current))) ≡ allOpen others
-  three-open h =
-      ap (λ (x : ℕ). isOpenAt m x && isOpenAt m (afterOf m x)) (at-f n s m e ps ws st)
-      ∙ two-open n m e ps (ring n s m e ps ws st .1) (omega (arith, eqb-true (suc (length others)) 3 h, named-length (verticesOf n m) ps))
-      ∙ sym (named-allOpen (verticesOf n m) ps)
 
   assoc : (a b c : Bool) → a && b && c ≡ a && (b && c)
   assoc true b c = refl
@@ -61,7 +55,7 @@ module _ (n : ℕ) (s : Front) (m : List ℕ) (e : ℕ) (ps : List Node) (ws : L
       (allowed-proposes n s m Close t t′ (Builds p) _
       (assoc (eqb (s .loops .size) 3) (isOpenAt m x) (isOpenAt m (afterOf m x))
       ∙ and-cong (eqb (s .loops .size) 3) (isOpenAt m x && isOpenAt m (afterOf m x)) (eqb (suc (length others)) 3) (allOpen others)
-      (ap (λ (k : ℕ). eqb k 3) (size-is n s m e ps ws st)) three-open)
+      (ap (λ (k : ℕ). eqb k 3) (size-is n s m e ps ws st)) (three-open n s m e ps ws st))
       (λ h. record {
         plan = p;
         is = refl;
@@ -84,17 +78,30 @@ module _ (n : ℕ) (s : Front) (m : List ℕ) (e : ℕ) (ps : List Node) (ws : L
   lives = named-lives (verticesOf n m) ((opened e ∷ ps) ∷ ws) ∙ sym (st .heads .live)
 
   propose-split : (i : ℕ) → Proposes n s m (Split i) (splitPlan (s .loops) m i) (effectAt (Split i) (s .used) n m e ps ws)
-  unfolding splitPlan atEdge
+  unfolding splitPlan besideNext besideLast atEdge
   propose-split i =
       let c : ℕ = walked m i (afterOf m (s .loops .current)) in
       let p : Plan = planAt (s .loops) m (vertexOf m c) 1 1 0 0 c in
-      let t : Bool = leb 2 i && leb (i + 3) (suc (length others)) in
-      let t′ : Bool = leb 2 i && leb (i + 3) (s .loops .size) in
-      rw (two-tests (leb 2 i) (leb (i + 3) (s .loops .size)) (Builds p))
-      (allowed-proposes n s m (Split i) t t′ (Builds p) _ (ap (λ (k : ℕ). leb 2 i && leb (i + 3) k) (size-is n s m e ps ws st))
+      let k : ℕ = suc (length others) in
+      let x : Bool = isOpenAt m (afterOf m (s .loops .current)) in
+      let y : Bool = isOpenAt m (beforeOf m (s .loops .current)) in
+      let z : ℕ = s .loops .size in
+      let t₃ : Bool = leb 1 i && leb (i + 2) k && not (eqb i 1 && firstOpen others) in
+      let t : Bool = t₃ && not (eqb (i + 2) k && lastOpen others) in
+      let t′ : Bool = leb 1 i && leb (i + 2) z && not (eqb i 1 && x) && not (eqb (i + 2) z && y) in
+      let some : leb 1 i && leb (i + 2) k ≡ true → 1 ≤ length ps =
+      λ h. omega (arith, leb-true (i + 2) k (and-right (leb 1 i) (leb (i + 2) k) h), named-length (verticesOf n m) ps) in
+      rw (four-tests (leb 1 i) (leb (i + 2) z) (not (eqb i 1 && x)) (not (eqb (i + 2) z && y)) (Builds p))
+      (allowed-proposes n s m (Split i) t t′ (Builds p) _
+      (and-cong (leb 1 i && leb (i + 2) z && not (eqb i 1 && x)) (not (eqb (i + 2) z && y)) t₃ (not (eqb (i + 2) k && lastOpen others))
+      (and-cong (leb 1 i && leb (i + 2) z) (not (eqb i 1 && x)) (leb 1 i && leb (i + 2) k) (not (eqb i 1 && firstOpen others))
+      (ap (λ (j : ℕ). leb 1 i && leb (i + 2) j) (size-is n s m e ps ws st)) (λ h. ap (λ (b : Bool). not (eqb i 1 && b)) (open-f n s m e ps ws st (some h))))
+      (λ h.
+      ap₂ (λ (j : ℕ) (b : Bool). not (eqb (i + 2) j && b)) (size-is n s m e ps ws st)
+      (open-last n s m e ps ws st (some (and-left (leb 1 i && leb (i + 2) k) (not (eqb i 1 && firstOpen others)) h)))))
       (λ h.
       let j : i < length ps =
-      omega (arith, leb-true (i + 3) (suc (length others)) (and-right (leb 2 i) _ h), named-length (verticesOf n m) ps) in
+      omega (arith, effects.split-high i k (not (eqb i 1 && firstOpen others)) (not (eqb (i + 2) k && lastOpen others)) h, named-length (verticesOf n m) ps) in
       let w : c ≡ vertexAt ps i =
       at-next n s m e ps ws st i j in
       let goes : Goes (effectAt (Split i) (s .used) n m e ps ws) = allowed-goes t _ h tt in

@@ -2,24 +2,24 @@
 -- Assumes nothing.
 use Prim.Native.Nat.{ℕ, suc, _+_, _*_, _≤_, _<_}
 use native.Mathlib.Omega.{arith}
-use mathlib.Core.Bool.{Bool, true, false, _&&_, false≢true}
+use mathlib.Core.Bool.{Bool, true, false, _&&_, not, false≢true}
 use mathlib.Core.List.{List, [], _∷_, _++_}
 use mathlib.Core.Path.{_≡_, refl, sym, ap, ap₂, _∙_}
 use lib.ListN.{length, getD}
 use lib.Dec.{eqb, leb}
-use borrow.Author.Tests.{leb-true}
+use borrow.Author.Tests.{leb-true, eqb-true}
 use Rattle.rules.specs.declared.Triangle.{Triangle}
 use Rattle.rules.specs.declared.Operation.{Operation}
 use Rattle.rules.specs.declared.Operation.the-variants.{New, Forward, Backward, Border}
 use Rattle.rules.specs.Triangle.{tri, Edge, edge}
 use Rattle.rules.specs.Count.{num}
-use Rattle.rules.specs.Ring.{Node, opened, marked, Ring, isOpen, firstOpen, allOpen, startOr, vertexAt, lastOpen, lastVertex, onward, places}
+use Rattle.rules.specs.Ring.{Node, opened, marked, Ring, isOpen, firstOpen, allOpen, startOr, vertexAt, lastOpen, lastVertex, onward, shown, places}
 use Rattle.rules.specs.Table.{Side, glued, fresh, Effect, not-allowed, builds, marks, allowed, marking, atEdge}
 use Rattle.rules.specs.Machine.{freshSides}
 use Rattle.book.proofs.Counting.{and-left}
 use Rattle.book.proofs.Effects as effects
 use Rattle.links.specs.Memory.{namedRing, namedLoops}
-use Rattle.links.proofs.Named.{named-length, named-start, named-at, named-last, named-lastOpen, named-firstOpen}
+use Rattle.links.proofs.Named.{named-length, named-start, named-at, named-last, named-lastOpen, named-firstOpen, named-allOpen}
 use Rattle.memory.specs.declared.Loops.{Loops}
 use Rattle.memory.specs.declared.Front.{Front}
 use Rattle.memory.specs.declared.Plan.{Plan}
@@ -28,13 +28,13 @@ use Rattle.memory.specs.declared.Decided.the-variants.{Refused, Builds, 
 use Rattle.memory.specs.Layout.{at, vertexOf, beforeOf, afterOf, openOf, verticesOf, walked}
 use Rattle.memory.specs.Stands.{StandsAt}
 use Rattle.memory.specs.Moves.{Held, markedHeld}
-use Rattle.memory.specs.Decision.{isOpenAt, allowedIf, planAt, newPlan, forwardPlan, backwardPlan, borderPlan, heldAfter}
+use Rattle.memory.specs.Decision.{isOpenAt, isThree, allowedIf, planAt, newPlan, forwardPlan, backwardPlan, borderPlan, heldAfter}
 use Rattle.memory.proofs.Columns.{column-at}
 use Rattle.memory.proofs.Standing.{Trail, trails, walk-trail, near-trail, last-trail, start-trail}
 use Rattle.memory.proofs.Room.{room}
 use Rattle.memory.proofs.Relinked.{Goes, Moved, effectAt, law}
 use Rattle.memory.proofs.Simple.{moved-new, moved-forward, moved-backward}
-use Rattle.memory.proofs.Ended.{moved-border}
+use Rattle.memory.proofs.Border.{moved-border}
 use Rattle.memory.proofs.Counts.{places-named, places-after}
 
 -- a plan's numbers are an effect's
@@ -69,11 +69,6 @@ unfolding allowed allowedIf
 allowed-proposes n s m o true t′ d E e f = rw e (f refl)
 allowed-proposes n s m o false t′ d E e f = rw e
 
-pub two-tests : (a b : Bool) (d : Decided) → allowedIf a (allowedIf b d) ≡ allowedIf (a && b) d
-unfolding allowedIf
-two-tests true b d = refl
-two-tests false b d = refl
-
 pub allowed-moved : (n : ℕ) (l : Loops) (m : List ℕ) (h : Held) (t : Bool) (B : Effect) → t ≡ true → Goes B → (Goes (allowed t B) → Moved n l m h (allowed t B))
     → Moved n l m h B
 unfolding allowed
@@ -92,6 +87,38 @@ one-open false = refl
 pub and-cong : (a b a′ b′ : Bool) → a ≡ a′ → (a′ ≡ true → b ≡ b′) → a && b ≡ a′ && b′
 and-cong a b true b′ e f = ap₂ _&&_ e (f refl)
 and-cong a b false b′ e f = rw e
+
+pub three-tests : (a b c : Bool) (d : Decided) → allowedIf a (allowedIf b (allowedIf c d)) ≡ allowedIf (a && b && c) d
+unfolding allowedIf
+three-tests true true c d = refl
+three-tests true false c d = refl
+three-tests false b c d = refl
+
+pub four-tests : (a b c e : Bool) (d : Decided) → allowedIf a (allowedIf b (allowedIf c (allowedIf e d))) ≡ allowedIf (a && b && c && e) d
+unfolding allowedIf
+four-tests true true true e d = refl
+four-tests true true false e d = refl
+four-tests true false c e d = refl
+four-tests false b c e d = refl
+
+assoc : (a b c : Bool) → a && b && c ≡ a && (b && c)
+assoc true b c = refl
+assoc false b c = refl
+
+both-open : (f g : Node) → isOpen f && isOpen g ≡ allOpen (f ∷ (g ∷ []))
+unfolding allOpen
+both-open (opened x) (opened y) = refl
+both-open (opened x) (marked y) = refl
+both-open (marked x) g = refl
+
+pub two-open : (n : ℕ) (m : List ℕ) (b : ℕ) (ps : List Node) → Trail n m ps b → length ps ≡ 2
+    → isOpenAt m (startOr b ps) && isOpenAt m (afterOf m (startOr b ps)) ≡ allOpen ps
+two-open n m b [] t h = absurd (omega (arith, h))
+two-open n m b (f ∷ []) t h = absurd (omega (arith, h))
+two-open n m b (f ∷ (g ∷ (p ∷ ps))) t h = absurd (omega (arith, h))
+two-open n m b (f ∷ (g ∷ [])) t h =
+    ap₂ _&&_ (ap (λ (x : ℕ). eqb x 1) (t .0 .mark) ∙ one-open (isOpen f))
+    (ap (isOpenAt m) (t .0 .fore) ∙ ap (λ (x : ℕ). eqb x 1) (t .1 .0 .mark) ∙ one-open (isOpen g)) ∙ both-open f g
 
 -- the first mark of a run
 first-mark : (n : ℕ) (m : List ℕ) (b : ℕ) (ps : List Node) → Trail n m ps b → 1 ≤ length ps → openOf m (startOr b ps) ≡ num (firstOpen ps)
@@ -159,7 +186,7 @@ module _ (n : ℕ) (s : Front) (m : List ℕ) (e : ℕ) (ps : List Node) (ws : L
         moved-new n (s .loops) m (s .used) e ps ws st tt (some-free (s .used) _ _ 1 0 0 (law New n (s .loops) m (s .used) 0 e ps ws st tt) h);
   }
 
-  open-f : 1 ≤ length ps → isOpenAt m (afterOf m (s .loops .current)) ≡ firstOpen (namedRing (verticesOf n m) ps)
+  pub open-f : 1 ≤ length ps → isOpenAt m (afterOf m (s .loops .current)) ≡ firstOpen (namedRing (verticesOf n m) ps)
   open-f h =
       ap (isOpenAt m) at-f ∙ ap (λ (x : ℕ). eqb x 1) (first-mark n m e ps (ring .1) h) ∙ one-open (firstOpen ps)
       ∙ sym (named-firstOpen (verticesOf n m) ps)
@@ -168,31 +195,57 @@ module _ (n : ℕ) (s : Front) (m : List ℕ) (e : ℕ) (ps : List Node) (ws : L
   unfolding walked
   name-c h = name-next 1 h
 
-  four : leb 4 (suc (length (namedRing (verticesOf n m) ps))) ≡ true → 3 ≤ length ps
-  four h = omega (arith, leb-true 4 (suc (length (namedRing (verticesOf n m) ps))) h, named-length (verticesOf n m) ps)
+  pub three-open : eqb (suc (length (namedRing (verticesOf n m) ps))) 3 ≡ true
+      → isOpenAt m (afterOf m (s .loops .current)) && isOpenAt m (afterOf m (afterOf m (s .loops .current))) ≡ allOpen (namedRing (verticesOf n m) ps)
+  three-open h =
+      ap (λ (x : ℕ). isOpenAt m x && isOpenAt m (afterOf m x)) at-f
+      ∙ two-open n m e ps (ring .1) (omega (arith, eqb-true (suc (length (namedRing (verticesOf n m) ps))) 3 h, named-length (verticesOf n m) ps))
+      ∙ sym (named-allOpen (verticesOf n m) ps)
+
+  three-same : isThree (s .loops) m ≡ eqb (suc (length (namedRing (verticesOf n m) ps))) 3 && allOpen (namedRing (verticesOf n m) ps)
+  unfolding isThree
+  three-same =
+      let x : ℕ = afterOf m (s .loops .current) in
+      assoc (eqb (s .loops .size) 3) (isOpenAt m x) (isOpenAt m (afterOf m x))
+      ∙ and-cong (eqb (s .loops .size) 3) (isOpenAt m x && isOpenAt m (afterOf m x)) (eqb (suc (length (namedRing (verticesOf n m) ps))) 3)
+      (allOpen (namedRing (verticesOf n m) ps)) (ap (λ (k : ℕ). eqb k 3) size-is) three-open
+
+  three : leb 3 (suc (length (namedRing (verticesOf n m) ps))) ≡ true → 2 ≤ length ps
+  three h = omega (arith, leb-true 3 (suc (length (namedRing (verticesOf n m) ps))) h, named-length (verticesOf n m) ps)
+
+  -- the tests of forward and of backward, where a is the memory's, b the table's word on the glued edge
+  near-tests : (a b : Bool) → (2 ≤ length ps → a ≡ b)
+      → leb 3 (s .loops .size) && a && not (isThree (s .loops) m)
+      ≡ leb 3 (suc (length (namedRing (verticesOf n m) ps))) && b
+      && not (eqb (suc (length (namedRing (verticesOf n m) ps))) 3 && allOpen (namedRing (verticesOf n m) ps))
+  near-tests a b f =
+      let k : ℕ = suc (length (namedRing (verticesOf n m) ps)) in
+      and-cong (leb 3 (s .loops .size) && a) (not (isThree (s .loops) m)) (leb 3 k && b) (not (eqb k 3 && allOpen (namedRing (verticesOf n m) ps)))
+      (and-cong (leb 3 (s .loops .size)) a (leb 3 k) b (ap (leb 3) size-is) (λ h. f (three h))) (λ h. ap not three-same)
 
   pub propose-forward : Proposes n s m Forward (forwardPlan (s .loops) m) (effectAt Forward (s .used) n m e ps ws)
   unfolding forwardPlan atEdge
   propose-forward =
       let p : Plan = planAt (s .loops) m (vertexOf m (afterOf m (afterOf m (s .loops .current)))) 1 0 0 0 0 in
-      let t : Bool = leb 4 (suc (length (namedRing (verticesOf n m) ps))) && firstOpen (namedRing (verticesOf n m) ps) in
-      let t′ : Bool = leb 4 (s .loops .size) && isOpenAt m (afterOf m (s .loops .current)) in
-      rw (two-tests (leb 4 (s .loops .size)) (isOpenAt m (afterOf m (s .loops .current))) (Builds p))
-      (allowed-proposes n s m Forward t t′ (Builds p) _
-      (and-cong (leb 4 (s .loops .size)) (isOpenAt m (afterOf m (s .loops .current))) (leb 4 (suc (length (namedRing (verticesOf n m) ps)))) _
-      (ap (leb 4) size-is) (λ h. open-f (omega (arith, four h))))
+      let k : ℕ = suc (length (namedRing (verticesOf n m) ps)) in
+      let x : Bool = isOpenAt m (afterOf m (s .loops .current)) in
+      let y : Bool = firstOpen (namedRing (verticesOf n m) ps) in
+      let t : Bool = leb 3 k && y && not (eqb k 3 && allOpen (namedRing (verticesOf n m) ps)) in
+      let t′ : Bool = leb 3 (s .loops .size) && x && not (isThree (s .loops) m) in
+      rw (three-tests (leb 3 (s .loops .size)) x (not (isThree (s .loops) m)) (Builds p))
+      (allowed-proposes n s m Forward t t′ (Builds p) _ (near-tests x y (λ h. open-f (omega (arith, h))))
       (λ h. record {
         plan = p;
         is = refl;
-        same = record { triangle = corners _ _ (name-c (omega (arith, four (and-left (leb 4 (suc (length (namedRing (verticesOf n m) ps)))) _ h)))); pq = refl; qr = refl; rp = refl; vertices = refl; starts = refl; unions = refl };
-        moves = λ i k.
+        same = record { triangle = corners _ _ (name-c (omega (arith, three (and-left (leb 3 k) y (and-left (leb 3 k && y) _ h))))); pq = refl; qr = refl; rp = refl; vertices = refl; starts = refl; unions = refl };
+        moves = λ i j.
             allowed-moved n (s .loops) m (heldAfter n s m Forward p) t _ h tt (moved-forward n (s .loops) m (s .used) e ps ws st);
       }))
 
   at-last : 1 ≤ length ps → beforeOf m (s .loops .current) ≡ lastVertex ps
   at-last h = ap (beforeOf m) at-e ∙ last-trail n m e ps (ring .1) h .back
 
-  open-last : 1 ≤ length ps → isOpenAt m (beforeOf m (s .loops .current)) ≡ lastOpen (namedRing (verticesOf n m) ps)
+  pub open-last : 1 ≤ length ps → isOpenAt m (beforeOf m (s .loops .current)) ≡ lastOpen (namedRing (verticesOf n m) ps)
   open-last h =
       ap (isOpenAt m) (at-last h) ∙ ap (λ (x : ℕ). eqb x 1) (last-trail n m e ps (ring .1) h .mark) ∙ one-open (lastOpen ps)
       ∙ sym (named-lastOpen (verticesOf n m) ps)
@@ -205,17 +258,18 @@ module _ (n : ℕ) (s : Front) (m : List ℕ) (e : ℕ) (ps : List Node) (ws : L
   unfolding backwardPlan atEdge
   propose-backward =
       let p : Plan = planAt (s .loops) m (vertexOf m (beforeOf m (s .loops .current))) 0 1 0 0 0 in
-      let t : Bool = leb 4 (suc (length (namedRing (verticesOf n m) ps))) && lastOpen (namedRing (verticesOf n m) ps) in
-      let t′ : Bool = leb 4 (s .loops .size) && isOpenAt m (beforeOf m (s .loops .current)) in
-      rw (two-tests (leb 4 (s .loops .size)) (isOpenAt m (beforeOf m (s .loops .current))) (Builds p))
-      (allowed-proposes n s m Backward t t′ (Builds p) _
-      (and-cong (leb 4 (s .loops .size)) (isOpenAt m (beforeOf m (s .loops .current))) (leb 4 (suc (length (namedRing (verticesOf n m) ps)))) _
-      (ap (leb 4) size-is) (λ h. open-last (omega (arith, four h))))
+      let k : ℕ = suc (length (namedRing (verticesOf n m) ps)) in
+      let x : Bool = isOpenAt m (beforeOf m (s .loops .current)) in
+      let y : Bool = lastOpen (namedRing (verticesOf n m) ps) in
+      let t : Bool = leb 3 k && y && not (eqb k 3 && allOpen (namedRing (verticesOf n m) ps)) in
+      let t′ : Bool = leb 3 (s .loops .size) && x && not (isThree (s .loops) m) in
+      rw (three-tests (leb 3 (s .loops .size)) x (not (isThree (s .loops) m)) (Builds p))
+      (allowed-proposes n s m Backward t t′ (Builds p) _ (near-tests x y (λ h. open-last (omega (arith, h))))
       (λ h. record {
         plan = p;
         is = refl;
-        same = record { triangle = corners _ _ (name-last (omega (arith, four (and-left (leb 4 (suc (length (namedRing (verticesOf n m) ps)))) _ h)))); pq = refl; qr = refl; rp = refl; vertices = refl; starts = refl; unions = refl };
-        moves = λ i k.
+        same = record { triangle = corners _ _ (name-last (omega (arith, three (and-left (leb 3 k) y (and-left (leb 3 k && y) _ h))))); pq = refl; qr = refl; rp = refl; vertices = refl; starts = refl; unions = refl };
+        moves = λ i j.
             allowed-moved n (s .loops) m (heldAfter n s m Backward p) t _ h tt (moved-backward n (s .loops) m (s .used) e ps ws st);
       }))
 
@@ -227,31 +281,10 @@ module _ (n : ℕ) (s : Front) (m : List ℕ) (e : ℕ) (ps : List Node) (ws : L
   pub propose-border : Proposes n s m Border (borderPlan (s .loops) m) (effectAt Border (s .used) n m e ps ws)
   unfolding borderPlan atEdge
   propose-border =
-      marking-proposes (onward [] (namedRing (verticesOf n m) ps ++ (marked (getD (verticesOf n m) e 0) ∷ []))) (namedLoops (verticesOf n m) ws)
+      marking-proposes (shown (onward [] (namedRing (verticesOf n m) ps ++ (marked (getD (verticesOf n m) e 0) ∷ [])))) (namedLoops (verticesOf n m) ws)
       (edge (getD (verticesOf n m) e 0) (startOr (getD (verticesOf n m) e 0) (namedRing (verticesOf n m) ps)))
       (Marks (vertexOf m (s .loops .current)) (vertexOf m (afterOf m (s .loops .current)))) (ap₂ Marks name-a name-b)
       (moved-border n (s .loops) m (s .used) e ps ws st)
-
-pub three-tests : (a b c : Bool) (d : Decided) → allowedIf a (allowedIf b (allowedIf c d)) ≡ allowedIf (a && b && c) d
-unfolding allowedIf
-three-tests true true c d = refl
-three-tests true false c d = refl
-three-tests false b c d = refl
-
-both-open : (f g : Node) → isOpen f && isOpen g ≡ allOpen (f ∷ (g ∷ []))
-unfolding allOpen
-both-open (opened x) (opened y) = refl
-both-open (opened x) (marked y) = refl
-both-open (marked x) g = refl
-
-pub two-open : (n : ℕ) (m : List ℕ) (b : ℕ) (ps : List Node) → Trail n m ps b → length ps ≡ 2
-    → isOpenAt m (startOr b ps) && isOpenAt m (afterOf m (startOr b ps)) ≡ allOpen ps
-two-open n m b [] t h = absurd (omega (arith, h))
-two-open n m b (f ∷ []) t h = absurd (omega (arith, h))
-two-open n m b (f ∷ (g ∷ (p ∷ ps))) t h = absurd (omega (arith, h))
-two-open n m b (f ∷ (g ∷ [])) t h =
-    ap₂ _&&_ (ap (λ (x : ℕ). eqb x 1) (t .0 .mark) ∙ one-open (isOpen f))
-    (ap (isOpenAt m) (t .0 .fore) ∙ ap (λ (x : ℕ). eqb x 1) (t .1 .0 .mark) ∙ one-open (isOpen g)) ∙ both-open f g
 
 pub start-any : (b c : ℕ) (w : Ring) → 1 ≤ length w → startOr b w ≡ startOr c w
 start-any b c [] h = absurd (omega arith)

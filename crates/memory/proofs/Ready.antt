@@ -2,27 +2,51 @@
 -- Assumes nothing.
 use Prim.Native.Nat.{ℕ, _≤_}
 use native.Mathlib.Omega.{arith}
-use mathlib.Core.Bool.{true, _&&_}
-use mathlib.Core.List.{List}
-use mathlib.Core.Path.{_≡_, ap}
+use mathlib.Core.Bool.{Bool, true, _&&_, false≢true}
+use mathlib.Core.List.{List, [], _∷_}
+use mathlib.Core.Path.{_≡_, refl, ap}
 use lib.ListN.{length}
 use lib.Dec.{leb}
 use borrow.Author.Tests.{leb-true}
 use Rattle.rules.specs.declared.Counts.{Counts}
 use Rattle.rules.specs.Limits.{inRange, vertexRange, between, minVertices, maxVertices, minPlaces, maxPlaces, maxTriangles, maxLoops}
+use Rattle.rules.specs.Ring.{opened, marked, Ring, lastOpen}
 use Rattle.rules.specs.Machine.{Machine}
 use Rattle.book.specs.Consistent.{Ranges}
 use Rattle.book.proofs.Counting.{and-left, and-right}
+use Rattle.links.specs.Stores.{cutNext}
+use Rattle.memory.specs.declared.Loops.{Loops}
 use Rattle.memory.specs.declared.Front.{Front}
-use Rattle.memory.specs.Stands.{ringsIn}
-use Rattle.memory.specs.Near.{Near}
+use Rattle.memory.specs.Stands.{ringsIn, StandsAt}
+use Rattle.memory.specs.Near.{Near, Borders}
+use Rattle.memory.specs.Moves.{nextCut, bothCut}
 use Rattle.memory.specs.Keeps.{Keeps, Ready}
 use Rattle.memory.specs.Performs.{Proposable}
 use Rattle.memory.proofs.Room.{room}
+use Rattle.memory.proofs.Cut.{cutLast}
+use Rattle.memory.proofs.Border.{next, both}
 use Rattle.memory.proofs.Near.{near}
 
 pub ready-near : (n : ℕ) (s : Front) (m : List ℕ) → Ready n s m → (s .loops .live ≡ 0 → ⊥) → Near n (s .loops) m
 ready-near n s m r h = near n (s .loops) m (r .roomy .few) (ringsIn n (s .loops) m) (r .stands) (omega (arith, h))
+
+-- an edge that can be marked
+borders : (n : ℕ) (l : Loops) (m : List ℕ) → n ≤ 1024 → (rs : List Ring) → StandsAt n l m rs → 1 ≤ l .live → Borders n l m
+borders n l m few [] st h = absurd (omega (arith, h, st .heads))
+borders n l m few ([] ∷ ws) st h = absurd (false≢true (st .sound .0))
+borders n l m few ((marked e ∷ ps) ∷ ws) st h = absurd (false≢true (st .sound .0))
+borders n l m few ((opened e ∷ ps) ∷ ws) st h =
+    let a = next n l m 0 e ps ws st in
+    let t : Bool = lastOpen (opened e ∷ cutNext ps) in
+    let b = both n l m 0 e ps ws st t refl in
+    record {
+      near = near n l m few ((opened e ∷ ps) ∷ ws) st h;
+      next = near n (nextCut n l m .loops) (nextCut n l m .memory) few ((opened e ∷ cutNext ps) ∷ ws) (a .stands) (omega (arith, a .stands .heads .live));
+      last = near n (bothCut n l m .loops) (bothCut n l m .memory) few (cutLast t e (cutNext ps) ∷ ws) (b .stands) (omega (arith, b .stands .heads .live));
+    }
+
+pub ready-borders : (n : ℕ) (s : Front) (m : List ℕ) → Ready n s m → (s .loops .live ≡ 0 → ⊥) → Borders n (s .loops) m
+ready-borders n s m r h = borders n (s .loops) m (r .roomy .few) (ringsIn n (s .loops) m) (r .stands) (omega (arith, h))
 
 pub ready-proposes : (n : ℕ) (s : Front) (m : List ℕ) → Ready n s m → Proposable n (s .loops) m (s .used)
 ready-proposes n s m r = (ready-near n s m r, r .used)

@@ -3,6 +3,7 @@
 use Prim.Native.Nat.{ℕ, zero, suc, _+_, _-_, _*_, _≤_, _<_}
 use native.Mathlib.Omega.{arith}
 use native.Mathlib.Numerals.{add-one}
+use mathlib.Core.Bool.{false}
 use mathlib.Core.List.{List, [], _∷_}
 use mathlib.Core.Path.{_≡_, refl, sym, ap, _∙_, subst}
 use lib.ListN.{length, getD}
@@ -14,11 +15,11 @@ use Rattle.rules.specs.Table.{Effect, not-allowed, builds, marks, atEdge, effec
 use Rattle.book.specs.Consistent.{AllCurrent}
 use Rattle.book.proofs.Effects.{Law, effect-law}
 use Rattle.links.specs.Memory.{Memory, Holds, placed, stored, namedRing, namedLoops}
-use Rattle.links.specs.Stores.{placesAfter, stores, verticesAfter, HasLoops, Takes, Fits}
+use Rattle.links.specs.Stores.{placesAfter, stores, verticesAfter, HasLoops, Takes, Whole, Fits}
 use Rattle.links.proofs.Stored.{held}
 use Rattle.links.proofs.Loops.{has-loops}
 use Rattle.links.proofs.After.{Unless, fits}
-use Rattle.links.proofs.Named.{named-firstOpen}
+use Rattle.links.proofs.Named.{named-firstOpen, named-spaced, spaced-named}
 use Rattle.memory.specs.declared.Loops.{Loops}
 use Rattle.memory.specs.Layout.{at, verticesOf, linksOf, stacked, freed}
 use Rattle.memory.specs.Stands.{Waits, StandsAt}
@@ -37,7 +38,7 @@ goes-so P not-allowed h g = absurd g
 goes-so P (builds ls t pq qr rp n s k) h g = h
 goes-so P (marks ls d rim) h g = h
 
-current-has : (u : ℕ) (before ls : List Ring) (E : Effect) → HasLoops ls E → Law u before E → Goes E → AllCurrent ls
+pub current-has : (u : ℕ) (before ls : List Ring) (E : Effect) → HasLoops ls E → Law u before E → Goes E → AllCurrent ls
 current-has u before ls not-allowed h l g = absurd g
 current-has u before ls (builds r t pq qr rp n s k) h l g = subst AllCurrent (sym h) (l .current)
 current-has u before ls (marks r d rim) h l g = subst AllCurrent (sym h) (l .current)
@@ -45,12 +46,12 @@ current-has u before ls (marks r d rim) h l g = subst AllCurrent (sym h) (l .cur
 pub current-places : (vs : List ℕ) (rs : List Ring) → AllCurrent (namedLoops vs rs) → AllCurrent rs
 unfolding namedLoops
 current-places vs [] h = tt
-current-places vs (l ∷ ls) h = (sym (named-firstOpen vs l) ∙ h .0, current-places vs ls (h .1))
+current-places vs (l ∷ ls) h = (sym (named-firstOpen vs l) ∙ h .0, current-places vs ls (h .1), spaced-named vs l false (h .2))
 
 pub current-names : (vs : List ℕ) (rs : List Ring) → AllCurrent rs → AllCurrent (namedLoops vs rs)
 unfolding namedLoops
 current-names vs [] h = tt
-current-names vs (l ∷ ls) h = (named-firstOpen vs l ∙ h .0, current-names vs ls (h .1))
+current-names vs (l ∷ ls) h = (named-firstOpen vs l ∙ h .0, current-names vs ls (h .1), named-spaced vs l false (h .2))
 
 -- the loops of an effect stand in the memory
 pub record Moved (n : ℕ) (s : Loops) (m : List ℕ) (h : Held) (E : Effect) : Type 0 where
@@ -84,16 +85,16 @@ module _ (o : Operation) (n : ℕ) (s : Loops) (m : List ℕ) (u q e : ℕ) (ps 
       effect-law o u (namedLoops (verticesOf n m) ((opened e ∷ ps) ∷ ws))
       (current-names (verticesOf n m) ((opened e ∷ ps) ∷ ws) (st .sound))
 
-  pub relinked : (Takes o → (placed q ((opened e ∷ ps) ∷ ws) ≡ 0) × (q < n)) → (m₁ : List ℕ)
+  pub relinked : Whole o → (Takes o → (placed q ((opened e ∷ ps) ∷ ws) ≡ 0) × (q < n)) → (m₁ : List ℕ)
       → linksOf n m₁ ≡ stored (stores o q e ps ws) (linksOf n m)
       → verticesOf n m₁ ≡ verticesAfter o u q (verticesOf n m) ps ws
       → Relinked n m₁ (placesAfter o q e ps ws) (effectAt o u n m e ps ws)
-  relinked free m₁ el ev =
+  relinked whole free m₁ el ev =
       let rs : List Ring = (opened e ∷ ps) ∷ ws in
       let d = held o n (linksOf n m) (links-long n m) q e ps ws (apart n s m rs st) free (below n s m rs st) (st .holds) fit in
       let has : HasLoops (namedLoops (verticesOf n m₁) (placesAfter o q e ps ws)) (effectAt o u n m e ps ws) =
       rw ev
-      (has-loops o (verticesOf n m) u q e ps ws (λ t. (free t .0, rw (column-length m 0 n) (free t .1)))) in
+      (has-loops o whole (verticesOf n m) u q e ps ws (λ t. (free t .0, rw (column-length m 0 n) (free t .1)))) in
       record {
         holds = subst (λ (M : Memory). Holds M (placesAfter o q e ps ws)) (sym el) (d .holds);
         current = current-places (verticesOf n m₁) (placesAfter o q e ps ws)

@@ -14,7 +14,7 @@ use Rattle.rules.specs.Ring.{Node, opened, Ring, startOr, vertexAt, lastOpen, l
 use Rattle.book.specs.Sums.{pathSum, ringSum, loopsSum}
 use Rattle.book.proofs.Sums.{sum-append, front-last}
 use Rattle.links.specs.Memory.{Arc, arc, placed, stored}
-use Rattle.links.specs.Stores.{placesAfter, stores, verticesAfter, Takes}
+use Rattle.links.specs.Stores.{placesAfter, stores, verticesAfter, Takes, Whole}
 use Rattle.memory.specs.declared.Loops.{Loops}
 use Rattle.memory.specs.Layout.{at, beforeOf, afterOf, verticesOf, edgesStored, freed, walked}
 use Rattle.memory.specs.Stands.{StandsAt}
@@ -116,7 +116,7 @@ module _ (n : ℕ) (s : Loops) (m : List ℕ) (u e : ℕ) (ps : List Node) (ws :
     linked : Relinked n after (placesAfter New q e ps ws) (effectAt New u n m e ps ws)
     unfolding after arcs stores verticesAfter
     linked =
-        relinked New n s m u q e ps ws st goes (λ t. free) after (made .links ∙ ap (stored arcs) (named-links n m q u long (free .1)))
+        relinked New n s m u q e ps ws st goes tt (λ t. free) after (made .links ∙ ap (stored arcs) (named-links n m q u long (free .1)))
         (made .vertices ∙ named-vertices n m q u long (free .1))
 
     stands : StandsAt n (record { live = s .live; current = q; size = s .size + 1; free = s .free - 1 }) after (placesAfter New q e ps ws)
@@ -165,7 +165,7 @@ module _ (n : ℕ) (s : Loops) (m : List ℕ) (u e : ℕ) (ps : List Node) (ws :
   used-some = omega (arith, room n s m ((opened e ∷ ps) ∷ ws) st)
 
   -- an operation that frees the place x and takes none
-  module _ (o : Operation) (takes : Takes o → ⊥) (goes : Goes (effectAt o u n m e ps ws)) (l : Ring) (x : ℕ)
+  module _ (o : Operation) (takes : Takes o → ⊥) (whole : Whole o) (goes : Goes (effectAt o u n m e ps ws)) (l : Ring) (x : ℕ)
       (near : Near n (stores o 0 e ps ws)) (vertices : verticesAfter o u 0 (verticesOf n m) ps ws ≡ verticesOf n m)
       (rings : placesAfter o 0 e ps ws ≡ l ∷ ws)
       (fewer : (y : ℕ) → placed y (placesAfter o 0 e ps ws) + same y x ≡ placed y ((opened e ∷ ps) ∷ ws)) where
@@ -189,7 +189,7 @@ module _ (n : ℕ) (s : Loops) (m : List ℕ) (u e : ℕ) (ps : List Node) (ws :
     again : Relinked n left (placesAfter o 0 e ps ws) (effectAt o u n m e ps ws)
     unfolding links-done
     again =
-        relinked o n s m u 0 e ps ws st goes (λ t. absurd (takes t)) left (same-links n links-done left records ∙ links-made .links)
+        relinked o n s m u 0 e ps ws st goes whole (λ t. absurd (takes t)) left (same-links n links-done left records ∙ links-made .links)
         (same-vertices n links-done left records ∙ links-made .vertices ∙ sym vertices)
 
     pub freeing : (c k : ℕ) → c ≡ startOr 0 l → k ≡ length l
@@ -225,9 +225,9 @@ module _ (n : ℕ) (s : Loops) (m : List ℕ) (u e : ℕ) (ps : List Node) (ws :
   pub moved-forward : Goes (effectAt Forward u n m e ps ws) → Moved n s m (forwardHeld n s m) (effectAt Forward u n m e ps ws)
   unfolding stores verticesAfter placesAfter
   moved-forward goes =
-      let k : 3 ≤ length ps = fit Forward n s m u 0 e ps ws st goes in
+      let k : 2 ≤ length ps = fit Forward n s m u 0 e ps ws st goes in
       subst (λ (h : Held). Moved n s m h (effectAt Forward u n m e ps ws)) (sym (forward-stores (omega (arith, k))))
-      (freeing Forward (λ t. t) goes (opened e ∷ drop 1 ps) (startOr e ps)
+      (freeing Forward (λ t. t) tt goes (opened e ∷ drop 1 ps) (startOr e ps)
       (ring .0 .near, near-trail n m e ps 1 (ring .1) (omega (arith, k)), tt) refl refl
       (λ y. placed-forward 0 y (omega (arith, k))) (s .current) (s .size - 1) (st .heads .current)
       (omega (arith, k, st .heads .size, length-drop 1 ps)))
@@ -239,5 +239,5 @@ module _ (n : ℕ) (s : Loops) (m : List ℕ) (u e : ℕ) (ps : List Node) (ws :
       let l : ℕ = lastVertex ps in
       let k : suc (length (front ps)) ≡ length ps = front-length ps o in
       subst (λ (h : Held). Moved n s m h (effectAt Backward u n m e ps ws)) (sym (backward-stores (omega (arith, k))))
-      (freeing Backward (λ t. t) goes (opened l ∷ front ps) e (last-trail n m e ps (ring .1) (omega (arith, k)) .near, after-near, tt) refl refl
+      (freeing Backward (λ t. t) tt goes (opened l ∷ front ps) e (last-trail n m e ps (ring .1) (omega (arith, k)) .near, after-near, tt) refl refl
       (λ y. placed-backward 0 y o) l (s .size - 1) refl (omega (arith, st .heads .size, k)))

@@ -82,7 +82,7 @@ module _ (n : ℕ) (s : Loops) (m : List ℕ) (u e : ℕ) (ps : List Node) (ws :
         → Relinked n m₂ (placesAfter (Split i) second e ps ws) (effectAt (Split i) u n m e ps ws)
     unfolding memory₁ stores verticesAfter low third second arcs
     any m₂ h =
-        relinked (Split i) n s m u second e ps ws st goes (λ t. free n s m e ps ws st some) m₂
+        relinked (Split i) n s m u second e ps ws st goes tt (λ t. free n s m e ps ws st some) m₂
         (same-links n memory₁ m₂ h ∙ doubled-links n s m e ps ws st some (lastVertex low) third (lastOpen low) hop near)
         (same-vertices n memory₁ m₂ h ∙ doubled-vertices n s m e ps ws st some (lastVertex low) third (lastOpen low) hop near)
 

@@ -160,7 +160,7 @@ module _ (n : ℕ) (s : Loops) (m : List ℕ) (st : StandsAt n s m []) (some : 3
             stacked-same n x m (edgesStored arcs m₃) (s .free - 3) (λ i h. made .above (4 * n + i) (omega arith) ∙ above₃ (4 * n + i) (omega arith)),
           );
       heads = record { live = refl; current = refl; size = refl; waiting = tt };
-      sound = (refl, tt);
+      sound = (refl, tt, tt);
     }
 
     pub moved-start : Moved n s m (startHeld n s m u) (atRest Start u)

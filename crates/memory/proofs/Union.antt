@@ -110,7 +110,7 @@ module _ (n : ℕ) (s : Loops) (m : List ℕ) (u e : ℕ) (ps : List Node) (ws :
     unfolding memory₁ stores verticesAfter spliced joined meet doubles arcs
     linked =
         let h : (x : ℕ) → x < 4 * n → at memory₂ x ≡ at memory₁ x = λ x y. down .before x (omega (arith, y)) in
-        relinked (Union p j) n s m u doubles e ps ws st goes (λ t. free n s m e ps ws st some) memory₂
+        relinked (Union p j) n s m u doubles e ps ws st goes tt (λ t. free n s m e ps ws st some) memory₂
         (same-links n memory₁ memory₂ h ∙ doubled-links n s m e ps ws st some (lastVertex spliced) meet (lastOpen spliced) hop₂ near₂)
         (same-vertices n memory₁ memory₂ h ∙ doubled-vertices n s m e ps ws st some (lastVertex spliced) meet (lastOpen spliced) hop₂ near₂)
 

@@ -1,7 +1,7 @@
 -- What an operation would do, read off the state and the memory; and the state after it. Each definition mirrors the function that computes it.
 -- Assumes nothing.
 use Prim.Native.Nat.{ℕ, zero, suc, _+_, _-_, _*_, max}
-use mathlib.Core.Bool.{Bool, true, false, _&&_}
+use mathlib.Core.Bool.{Bool, true, false, _&&_, not}
 use mathlib.Core.List.{List}
 use lib.Dec.{eqb, leb, ltb}
 use Rattle.rules.specs.declared.Peaks.{Peaks}
@@ -38,26 +38,43 @@ planAt l m c qr rp v k p = record {
   place = p;
 }
 
+-- the current loop has three places, all edges open
+unfoldable pub isThree : Loops → List ℕ → Bool
+isThree l m =
+    let f = afterOf m (l .current) in
+    eqb (l .size) 3 && isOpenAt m f && isOpenAt m (afterOf m f)
+
 unfoldable pub newPlan : Loops → List ℕ → ℕ → Decided
 newPlan l m u = Builds (planAt l m u 1 1 1 0 0)
 
 unfoldable pub forwardPlan : Loops → List ℕ → Decided
 forwardPlan l m =
     let f = afterOf m (l .current) in
-    allowedIf (leb 4 (l .size)) (allowedIf (isOpenAt m f) (Builds (planAt l m (vertexOf m (afterOf m f)) 1 0 0 0 0)))
+    allowedIf (leb 3 (l .size))
+    (allowedIf (isOpenAt m f) (allowedIf (not (isThree l m)) (Builds (planAt l m (vertexOf m (afterOf m f)) 1 0 0 0 0))))
 
 unfoldable pub backwardPlan : Loops → List ℕ → Decided
 backwardPlan l m =
     let c = beforeOf m (l .current) in
-    allowedIf (leb 4 (l .size)) (allowedIf (isOpenAt m c) (Builds (planAt l m (vertexOf m c) 0 1 0 0 0)))
+    allowedIf (leb 3 (l .size)) (allowedIf (isOpenAt m c) (allowedIf (not (isThree l m)) (Builds (planAt l m (vertexOf m c) 0 1 0 0 0))))
 
 unfoldable pub borderPlan : Loops → List ℕ → Decided
 borderPlan l m = Marks (vertexOf m (l .current)) (vertexOf m (afterOf m (l .current)))
 
+-- place i after f is beyond an open edge next to the current one: forward and backward are for that
+unfoldable pub besideNext : Loops → List ℕ → ℕ → Bool
+besideNext l m i = eqb i 1 && isOpenAt m (afterOf m (l .current))
+
+unfoldable pub besideLast : Loops → List ℕ → ℕ → Bool
+besideLast l m i = eqb (i + 2) (l .size) && isOpenAt m (beforeOf m (l .current))
+
 unfoldable pub splitPlan : Loops → List ℕ → ℕ → Decided
 splitPlan l m i =
     let c = walked m i (afterOf m (l .current)) in
-    allowedIf (leb 2 i) (allowedIf (leb (i + 3) (l .size)) (Builds (planAt l m (vertexOf m c) 1 1 0 0 c)))
+    allowedIf (leb 1 i)
+    (allowedIf (leb (i + 2) (l .size))
+    (allowedIf (not (besideNext l m i))
+    (allowedIf (not (besideLast l m i)) (Builds (planAt l m (vertexOf m c) 1 1 0 0 c)))))
 
 unfoldable pub closePlan : Loops → List ℕ → Decided
 closePlan l m =

@@ -65,11 +65,6 @@ unfoldable pub walked : List ℕ → ℕ → ℕ → ℕ
 walked m zero p = p
 walked m (suc i) p = walked m i (afterOf m p)
 
--- the first place from p on whose edge is open, or else the place i places after p
-unfoldable pub sought : List ℕ → ℕ → ℕ → ℕ
-sought m zero p = p
-sought m (suc i) p = elim (eqb (openOf m p) 0) [ true ↦ sought m i (afterOf m p) | false ↦ p ]
-
 -- a waiting loop put at l; and k of them moved down by one, to l and on
 abbrev pub waits : ℕ → List ℕ → ℕ → ℕ → ℕ → List ℕ
 waits n m l p k = set (set m (5 * n + 2 * l) p) (5 * n + 2 * l + 1) k

@@ -7,7 +7,7 @@ use lib.ListN.{set}
 use lib.Dec.{eqb, leb}
 use Rattle.links.specs.Memory.{arc}
 use Rattle.memory.specs.declared.Loops.{Loops}
-use Rattle.memory.specs.Layout.{at, vertexOf, beforeOf, afterOf, openOf, edgeStored, edgesStored, freed, released, sought, waits, movedDown}
+use Rattle.memory.specs.Layout.{at, vertexOf, beforeOf, afterOf, openOf, edgeStored, edgesStored, freed, released, waits, movedDown}
 
 -- the state of the loops and the memory
 pub record Held : Type 0 where
@@ -49,17 +49,34 @@ endedBy false n s m =
 unfoldable pub endedHeld : ℕ → Loops → List ℕ → Held
 endedHeld n s m = endedBy (leb (s .live) 1) n s m
 
--- the edge is marked, and the loop goes on at its next open edge, the place p, or has ended
+-- the edge is marked, and the loop goes on at the next place p if its edge is open; else it has ended
 abbrev pub turnedBy : Bool → ℕ → Loops → List ℕ → ℕ → Held
 turnedBy true n s m p = endedHeld n s m
 turnedBy false n s m p = held (s .live) p (s .size) (s .free) m
 
-unfoldable pub markedHeld : ℕ → Loops → List ℕ → Held
-markedHeld n s m =
+unfoldable pub turnedHeld : ℕ → Loops → List ℕ → Held
+turnedHeld n s m =
     let f = afterOf m (s .current) in
     let m₁ = edgesStored (arc (s .current) f false ∷ []) m in
-    let p = sought m₁ (s .size) f in
-    turnedBy (eqb (openOf m₁ p) 0) n s m₁ p
+    turnedBy (eqb (openOf m₁ f) 0) n s m₁ f
+
+-- At a border the next place leaves if its edge is marked, and the current one if the edge before it is: the current edge, which lies
+-- between, is marked too. They leave before it is marked, as at a forward and a backward.
+abbrev pub cutBy : Bool → Held → Loops → List ℕ → Held
+cutBy true h s m = h
+cutBy false h s m = record { loops = s; memory = m }
+
+unfoldable pub nextCut : ℕ → Loops → List ℕ → Held
+nextCut n s m = cutBy (eqb (openOf m (afterOf m (s .current))) 0) (forwardHeld n s m) s m
+
+unfoldable pub lastCut : ℕ → Loops → List ℕ → Held
+lastCut n s m = cutBy (eqb (openOf m (beforeOf m (s .current))) 0) (backwardHeld n s m) s m
+
+abbrev pub bothCut : ℕ → Loops → List ℕ → Held
+bothCut n s m = lastCut n (nextCut n s m .loops) (nextCut n s m .memory)
+
+unfoldable pub markedHeld : ℕ → Loops → List ℕ → Held
+markedHeld n s m = turnedHeld n (bothCut n s m .loops) (bothCut n s m .memory)
 
 -- the place of c gets a second one, before f; the current edge leads to the first
 unfoldable pub doubled : ℕ → Loops → List ℕ → ℕ → List ℕ

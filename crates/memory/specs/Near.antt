@@ -5,7 +5,7 @@ use mathlib.Core.List.{List}
 use lib.ListN.{length}
 use Rattle.memory.specs.declared.Loops.{Loops}
 use Rattle.memory.specs.Layout.{at, beforeOf, walked}
-use Rattle.memory.specs.Moves.{topFree}
+use Rattle.memory.specs.Moves.{topFree, nextCut, bothCut}
 
 -- a loop is live, and the places along its links and those of the waiting loops are below n
 pub record Near (n : ℕ) (l : Loops) (m : List ℕ) : Type 0 where
@@ -20,6 +20,12 @@ pub record Near (n : ℕ) (l : Loops) (m : List ℕ) : Type 0 where
   -- the loop that waits at w
   pub waiting : (w : ℕ) → w + 2 ≤ l .live → (j : ℕ) → j < at m (5 * n + 2 * w + 1) → walked m j (at m (5 * n + 2 * w)) < n
   pub sizes : (w : ℕ) → w + 2 ≤ l .live → at m (5 * n + 2 * w + 1) ≤ n
+
+-- an edge that can be marked: also after one place or two have left
+pub record Borders (n : ℕ) (l : Loops) (m : List ℕ) : Type 0 where
+  pub near : Near n l m
+  pub next : Near n (nextCut n l m .loops) (nextCut n l m .memory)
+  pub last : Near n (bothCut n l m .loops) (bothCut n l m .memory)
 
 -- a place c that can get a second one
 pub record Doubles (n : ℕ) (l : Loops) (m : List ℕ) (c : ℕ) : Type 0 where

@@ -9,7 +9,7 @@ use Rattle.rules.specs.declared.Operation.the-variants.{New, Forward, Backward,
 use Rattle.memory.specs.declared.Loops.{Loops}
 use Rattle.memory.specs.declared.Front.{Front}
 use Rattle.memory.specs.declared.Plan.{Plan}
-use Rattle.memory.specs.Near.{Near, Doubles, Starts}
+use Rattle.memory.specs.Near.{Near, Borders, Doubles, Starts}
 
 -- an operation can be decided, where u is the next unused number
 abbrev pub Proposable : ℕ → Loops → List ℕ → ℕ → Type 0
@@ -20,8 +20,8 @@ abbrev pub Performs : ℕ → Loops → List ℕ → ℕ → Operation → ℕ �
 Performs n l m u New c = Near n l m × (1 ≤ l .free)
 Performs n l m u Forward c = Near n l m
 Performs n l m u Backward c = Near n l m
-Performs n l m u Border c = Near n l m
-Performs n l m u (Split i) c = (Near n l m × Doubles n l m c) × ((i + 3 ≤ l .size) × (l .live < 65535) × (5 * n + 2 * (l .live + 1) ≤ length m))
+Performs n l m u Border c = Borders n l m
+Performs n l m u (Split i) c = (Near n l m × Doubles n l m c) × ((i + 2 ≤ l .size) × (l .live < 65535) × (5 * n + 2 * (l .live + 1) ≤ length m))
 Performs n l m u Close c = Near n l m
 Performs n l m u (Union k j) c = (Near n l m × Doubles n l m c) × ((1 ≤ k) × (k + 1 ≤ l .live))
 Performs n l m u Start c = Starts n l m × (u ≤ 4096)

@@ -51,7 +51,7 @@ pub record StandsAt (n : ℕ) (s : Loops) (m : List ℕ) (rs : List Ring) : Type
   -- each place below n is in one loop, once, or on the stack of free places, once; no other number is
   pub each : (x : ℕ) → placed x rs + stacked n m (s .free) x ≡ num (ltb x n)
   pub heads : Named n s m rs
-  -- a loop may have one place or two
+  -- a loop may have one place; none has a place between two marked edges
   pub sound : AllCurrent rs
 
 abbrev pub Stands : ℕ → Loops → List ℕ → Type 0

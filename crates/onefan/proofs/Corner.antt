@@ -17,11 +17,11 @@ use Rattle.rules.specs.Machine.{freshSides}
 use Rattle.fans.specs.Chain.{Chained}
 use Rattle.fans.specs.Corner.{Different}
 use Rattle.fans.proofs.Counting.{same-yes, same-no, same-is, hit-from, hit-to, hit-swap}
-use Rattle.book.specs.Sums.{Weight, loopsSum}
+use Rattle.book.specs.Sums.{Weight, loopsSum, openHit, openEdges}
 use Rattle.book.proofs.Counting.{ifFresh, ifGlued, if-fresh-le, if-glued-le}
-use Rattle.onefan.specs.Fanned.{placesOf, stands, Leads, OneChain, Unnumbered}
-use Rattle.onefan.proofs.Places.{leaves-place, comes-place, one-leaves, one-comes, some-leaves, some-comes}
-use Rattle.onefan.proofs.Leading.{leads-chained, leads-one, leads-before, leads-after}
+use Rattle.onefan.specs.Fanned.{inHit, outHit, comesTo, leavesFrom, Leads, OneChain, Unnumbered}
+use Rattle.onefan.proofs.Places.{leaves-one, comes-one, out-places, in-places, one-leaves, one-comes}
+use Rattle.onefan.proofs.Leading.{leads-chained, chained-leads, leads-one, leads-before, leads-after}
 
 -- the loops after the triangle v a b, from those before it: a side v→a, a→b or b→v is a new edge, or it glues its opposite
 abbrev pub Gains : (v a b : ℕ) (va ab bv : Side) (ls ls′ : List Ring) → Type 0
@@ -29,11 +29,12 @@ Gains v a b va ab bv ls ls′ = (w : Weight)
     → loopsSum w ls′ + (ifGlued va (w a v true) + (ifGlued ab (w b a true) + ifGlued bv (w v b true)))
     ≡ loopsSum w ls + (ifFresh va (w v a true) + (ifFresh ab (w a b true) + ifFresh bv (w b v true)))
 
--- of these the edges at v
+-- of these the open edges at v
 record AtCorner (v a b : ℕ) (va bv : Side) (ls ls′ : List Ring) : Type 0 where
-  comes : (x : ℕ) → stands x v ls′ + ifGlued va (same x a) ≡ stands x v ls + ifFresh bv (same x b)
-  leaves : (y : ℕ) → stands v y ls′ + ifGlued bv (same y b) ≡ stands v y ls + ifFresh va (same y a)
-  places : placesOf v ls′ + ifGlued bv 1 ≡ placesOf v ls + ifFresh va 1
+  comes : (x : ℕ) → openEdges x v ls′ + ifGlued va (same x a) ≡ openEdges x v ls + ifFresh bv (same x b)
+  leaves : (y : ℕ) → openEdges v y ls′ + ifGlued bv (same y b) ≡ openEdges v y ls + ifFresh va (same y a)
+  ins : comesTo v ls′ + ifGlued va 1 ≡ comesTo v ls + ifFresh bv 1
+  outs : leavesFrom v ls′ + ifGlued bv 1 ≡ leavesFrom v ls + ifFresh va 1
 
 hit-leaving : (v x y : ℕ) → hit v x v y ≡ same x y
 unfolding hit same
@@ -50,7 +51,7 @@ at-corner v a b va ab bv ls ls′ d g =
       comes = λ x.
           omega (
             arith,
-            g (λ p q o. hit x v p q),
+            g (openHit x v),
             ap (ifGlued va) (hit-coming x v a),
             ap (ifFresh bv) (hit-coming x v b),
             if-glued-le ab (hit x v b a),
@@ -65,7 +66,7 @@ at-corner v a b va ab bv ls ls′ d g =
       leaves = λ y.
           omega (
             arith,
-            g (λ p q o. hit v y p q),
+            g (openHit v y),
             ap (ifGlued bv) (hit-leaving v y b),
             ap (ifFresh va) (hit-leaving v y a),
             if-glued-le va (hit v y a v),
@@ -77,10 +78,21 @@ at-corner v a b va ab bv ls ls′ d g =
             if-fresh-le bv (hit v y b v),
             hit-from v y b v,
           );
-      places =
+      ins =
           omega (
             arith,
-            g (λ p q o. same v p),
+            g (inHit v),
+            ap (ifGlued va) (same-yes v),
+            ap (ifFresh bv) (same-yes v),
+            if-glued-le ab (same v a),
+            if-glued-le bv (same v b),
+            if-fresh-le va (same v a),
+            if-fresh-le ab (same v b),
+          );
+      outs =
+          omega (
+            arith,
+            g (outHit v),
             ap (ifGlued bv) (same-yes v),
             ap (ifFresh va) (same-yes v),
             if-glued-le va (same v a),
@@ -101,56 +113,59 @@ module _ (v a b : ℕ) (ls ls′ : List Ring) (ts ts′ : List Triangle) (d : Di
   leads : (s t : ℕ) → Leads s t (edge a b ∷ about v ts) → Leads s t (about v ts′)
   leads s t l = subst (Leads s t) (sym more) l
 
-  chains : (s t : ℕ) → Leads s t (edge a b ∷ about v ts) → Chained (about v ts′)
+  abbrev chains : (s t : ℕ) → Leads s t (edge a b ∷ about v ts) → Chained (about v ts′)
   chains s t l = leads-chained s t (about v ts′) (leads s t l)
 
   one-chain : (va bv : Side) → AtCorner v a b va bv ls ls′ → OneChain v ls ts → (freshSides va + freshSides bv ≤ 1) ⊎ Unnumbered v ls ts
       → OneChain v ls′ ts′
-  -- the place of v between a and b is gone
+  -- the edges a→v and v→b are glued: the chain comes round
   one-chain glued glued g c n =
-      let l = c .between a b (omega (arith, g .comes a, same-yes a)) (omega (arith, g .leaves b, same-yes b)) in
+      let i : a ≡ c .chained .finish = c .finish a (omega (arith, g .comes a, same-yes a)) in
+      let j : b ≡ c .chained .start = c .start b (omega (arith, g .leaves b, same-yes b)) in
+      let l : Leads b a (about v ts) = rw (i, j) (chained-leads (about v ts) (c .chained)) in
       record {
-        once = omega (arith, g .places, c .once);
+        one-in = omega (arith, g .ins, c .one-in);
+        one-out = omega (arith, g .outs, c .one-out);
         chained = chains a a (leads-before a b a (about v ts) l);
-        between = λ x y h k. absurd (omega (arith, h, comes-place x v ls′, g .places, c .once));
+        finish = λ x h. absurd (omega (arith, h, comes-one x v ls′, g .ins, c .one-in));
+        start = λ y h. absurd (omega (arith, h, leaves-one v y ls′, g .outs, c .one-out));
       }
   -- a→v gave way to b→v
   one-chain glued fresh g c n =
-      let i : 1 ≤ stands a v ls = omega (arith, g .comes a, a-b, same-yes a) in
-      let s = some-leaves v ls (omega (arith, i, comes-place a v ls)) in
-      let o : placesOf v ls′ ≤ 1 = omega (arith, g .places, c .once) in
+      let s : ℕ = c .chained .start in
+      let i : a ≡ c .chained .finish = c .finish a (omega (arith, g .comes a, a-b, same-yes a)) in
+      let l : Leads s a (about v ts) = subst (λ (x : ℕ). Leads s x (about v ts)) (sym i) (chained-leads (about v ts) (c .chained)) in
+      let o : comesTo v ls′ ≤ 1 = omega (arith, g .ins, c .one-in) in
       record {
-        once = o;
-        chained = chains (s .0) b (leads-after (s .0) a b (about v ts) (c .between a (s .0) i (s .1)));
-        between = λ x y j k.
-            let e : b ≡ x = one-comes v b x ls′ o (omega (arith, g .comes b, b-a, same-yes b)) j in
-            subst (λ (z : ℕ). Leads y z (about v ts′)) e
-            (leads y b (leads-after y a b (about v ts) (c .between a y i (omega (arith, k, g .leaves y)))));
+        one-in = o;
+        one-out = omega (arith, g .outs, c .one-out);
+        chained = chains s b (leads-after s a b (about v ts) l);
+        finish = λ x h. one-comes v x b ls′ o h (omega (arith, g .comes b, b-a, same-yes b));
+        start = λ y h. c .start y (omega (arith, h, g .leaves y));
       }
   -- v→b gave way to v→a
   one-chain fresh glued g c n =
-      let i : 1 ≤ stands v b ls = omega (arith, g .leaves b, b-a, same-yes b) in
-      let s = some-comes v ls (omega (arith, i, leaves-place v b ls)) in
-      let o : placesOf v ls′ ≤ 1 = omega (arith, g .places, c .once) in
+      let t : ℕ = c .chained .finish in
+      let i : b ≡ c .chained .start = c .start b (omega (arith, g .leaves b, b-a, same-yes b)) in
+      let l : Leads b t (about v ts) = subst (λ (x : ℕ). Leads x t (about v ts)) (sym i) (chained-leads (about v ts) (c .chained)) in
+      let o : leavesFrom v ls′ ≤ 1 = omega (arith, g .outs, c .one-out) in
       record {
-        once = o;
-        chained = chains a (s .0) (leads-before a b (s .0) (about v ts) (c .between (s .0) b (s .1) i));
-        between = λ x y j k.
-            let e : a ≡ y = one-leaves v a y ls′ o (omega (arith, g .leaves a, a-b, same-yes a)) k in
-            subst (λ (z : ℕ). Leads z x (about v ts′)) e
-            (leads a x (leads-before a b x (about v ts) (c .between x b (omega (arith, j, g .comes x)) i)));
+        one-in = omega (arith, g .ins, c .one-in);
+        one-out = o;
+        chained = chains a t (leads-before a b t (about v ts) l);
+        finish = λ x h. c .finish x (omega (arith, h, g .comes x));
+        start = λ y h. one-leaves v y a ls′ o h (omega (arith, g .leaves a, a-b, same-yes a));
       }
-  -- the first place of v
+  -- the first triangle about v
   one-chain fresh fresh g c (inl n) = absurd (omega arith)
   one-chain fresh fresh g c (inr n) =
       let l : Leads a b (edge a b ∷ about v ts) = subst (λ (ds : List Edge). Leads a b (edge a b ∷ ds)) (sym (n .no-triangle)) (leads-one a b) in
       record {
-        once = omega (arith, g .places, n .no-place);
+        one-in = omega (arith, g .ins, in-places v ls, n .no-place);
+        one-out = omega (arith, g .outs, out-places v ls, n .no-place);
         chained = chains a b l;
-        between = λ x y j k.
-            let e : x ≡ b = same-is x b (omega (arith, j, g .comes x, comes-place x v ls, n .no-place)) in
-            let f : y ≡ a = same-is y a (omega (arith, k, g .leaves y, leaves-place v y ls, n .no-place)) in
-            subst (λ (z : ℕ). Leads z x (about v ts′)) (sym f) (subst (λ (z : ℕ). Leads a z (about v ts′)) (sym e) (leads a b l));
+        finish = λ x h. same-is x b (omega (arith, h, g .comes x, comes-one x v ls, in-places v ls, n .no-place));
+        start = λ y h. same-is y a (omega (arith, h, g .leaves y, leaves-one v y ls, out-places v ls, n .no-place));
       }
 
 pub chain-grows : (v a b : ℕ) (va ab bv : Side) (ls ls′ : List Ring) (ts ts′ : List Triangle) → Different v a b → Gains v a b va ab bv ls ls′

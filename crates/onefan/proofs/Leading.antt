@@ -8,8 +8,11 @@ use Rattle.rules.specs.Triangle.{Edge, edge}
 use Rattle.fans.specs.Chain.{total, Chain, Chained}
 use Rattle.onefan.specs.Fanned.{Leads}
 
-pub leads-chained : (s t : ℕ) (ds : List Edge) → Leads s t ds → Chained ds
+abbrev pub leads-chained : (s t : ℕ) (ds : List Edge) → Leads s t ds → Chained ds
 leads-chained s t ds l = record { start = s; finish = t; path = l .path; chain = l .chain; sum = l .sum }
+
+pub chained-leads : (ds : List Edge) (c : Chained ds) → Leads (c .start) (c .finish) ds
+chained-leads ds c = record { path = c .path; chain = c .chain; sum = c .sum }
 
 -- no edge
 pub none-chained : Chained []

@@ -12,7 +12,7 @@ use Rattle.rules.specs.declared.Triangle.{Triangle}
 use Rattle.rules.specs.declared.Operation.{Operation}
 use Rattle.rules.specs.declared.Operation.the-variants.{New, Forward, Backward, Border, Split, Close, Union, Start}
 use Rattle.rules.specs.Triangle.{Edge, edge}
-use Rattle.rules.specs.Ring.{Node, marked, Ring, vertex, startOr, onward}
+use Rattle.rules.specs.Ring.{Node, marked, Ring, vertex, startOr, onward, shown}
 use Rattle.rules.specs.Table.{Side, glued, fresh, Effect, not-allowed, builds, marks, allowed, marking, atEdge, atRest, effect}
 use Rattle.rules.specs.Machine.{freshSides}
 use Rattle.onefan.specs.Met.{metBy}
@@ -58,7 +58,7 @@ unfolding Meeting atEdge
 at-edge New u a ps ws = glues New u _ fresh fresh (inr (inl (omega arith)))
 at-edge Forward u a ps ws = if-allowed Forward u _ _ (glues Forward u _ fresh glued (inl (omega arith)))
 at-edge Backward u a ps ws = if-allowed Backward u _ _ (glues Backward u _ glued fresh (inl (omega arith)))
-at-edge Border u a ps ws = by-marking u (onward [] (ps ++ (marked a ∷ []))) ws (edge a (startOr a ps))
+at-edge Border u a ps ws = by-marking u (shown (onward [] (ps ++ (marked a ∷ [])))) ws (edge a (startOr a ps))
 at-edge (Split i) u a ps ws = if-allowed (Split i) u _ _ (glues (Split i) u _ fresh fresh (inr (met-itself u _)))
 at-edge Close u a ps ws = if-allowed Close u _ _ (glues Close u _ glued glued (inl (omega arith)))
 at-edge (Union n j) u a ps ws = if-allowed (Union n j) u _ _ (glues (Union n j) u _ fresh fresh (inr (met-itself u _)))

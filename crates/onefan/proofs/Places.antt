@@ -4,15 +4,14 @@ use Prim.Native.Nat.{ℕ, zero, suc, _+_, _≤_}
 use native.Mathlib.Omega.{arith}
 use mathlib.Core.Bool.{Bool, true, false}
 use mathlib.Core.List.{List, [], _∷_}
-use mathlib.Core.Path.{_≡_, refl, sym, subst, _∙_}
+use mathlib.Core.Path.{_≡_, refl, sym, _∙_}
 use lib.Dec.{eqb}
 use borrow.Author.Tests.{eqb-true, eqb-false}
 use Rattle.rules.specs.Count.{same, hit}
 use Rattle.rules.specs.Ring.{Node, Ring, vertex, isOpen, startOr}
-use Rattle.fans.proofs.Counting.{same-is, hit-from, hit-to, hit-is, hit-swap}
-use Rattle.book.specs.Sums.{Weight, pathSum, ringSum, loopsSum, openHit, markHit}
-use Rattle.book.proofs.Kept.{found}
-use Rattle.onefan.specs.Fanned.{placesOf, stands}
+use Rattle.fans.proofs.Counting.{hit-from, hit-to, hit-is, hit-swap}
+use Rattle.book.specs.Sums.{Weight, pathSum, ringSum, loopsSum, openHit, openEdges}
+use Rattle.onefan.specs.Fanned.{placesOf, inHit, outHit, comesTo, leavesFrom}
 
 -- two weights that together are no more than a third: so are their sums
 module _ (u w z : Weight) (h : (x y : ℕ) (o : Bool) → u x y o + w x y o ≤ z x y o) where
@@ -46,20 +45,36 @@ unfolding loopsSum
 ends-places v [] = refl
 ends-places v (l ∷ ls) = omega (arith, ring-ends v l, ends-places v ls)
 
--- an edge that leaves v, or comes to it, has a place of v
-pub leaves-place : (v y : ℕ) (ls : List Ring) → stands v y ls ≤ placesOf v ls
-leaves-place v y ls =
-    omega (arith, sum-two (λ p q o. 0) (λ p q o. hit v y p q) (λ p q o. same v p) (λ p q o. omega (arith, hit-from v y p q)) ls)
+-- an open edge that leaves v, or comes to it, is counted; and v has a place then
+pub leaves-one : (v y : ℕ) (ls : List Ring) → openEdges v y ls ≤ leavesFrom v ls
+leaves-one v y ls = omega (arith, sum-two (λ p q o. 0) (openHit v y) (outHit v) within ls)
+  where
+    within : (p q : ℕ) (o : Bool) → 0 + openHit v y p q o ≤ outHit v p q o
+    within p q true = omega (arith, hit-from v y p q)
+    within p q false = omega arith
 
-pub comes-place : (x v : ℕ) (ls : List Ring) → stands x v ls ≤ placesOf v ls
-comes-place x v ls =
-    omega (
-      arith,
-      ends-places v ls,
-      sum-two (λ p q o. 0) (λ p q o. hit x v p q) (λ p q o. same v q) (λ p q o. omega (arith, hit-to x v p q)) ls,
-    )
+pub comes-one : (x v : ℕ) (ls : List Ring) → openEdges x v ls ≤ comesTo v ls
+comes-one x v ls = omega (arith, sum-two (λ p q o. 0) (openHit x v) (inHit v) within ls)
+  where
+    within : (p q : ℕ) (o : Bool) → 0 + openHit x v p q o ≤ inHit v p q o
+    within p q true = omega (arith, hit-to x v p q)
+    within p q false = omega arith
 
--- if v has one place, one edge leaves it and one comes to it
+pub out-places : (v : ℕ) (ls : List Ring) → leavesFrom v ls ≤ placesOf v ls
+out-places v ls = omega (arith, sum-two (λ p q o. 0) (outHit v) (λ p q o. same v p) within ls)
+  where
+    within : (p q : ℕ) (o : Bool) → 0 + outHit v p q o ≤ same v p
+    within p q true = omega arith
+    within p q false = omega arith
+
+pub in-places : (v : ℕ) (ls : List Ring) → comesTo v ls ≤ placesOf v ls
+in-places v ls = omega (arith, ends-places v ls, sum-two (λ p q o. 0) (inHit v) (λ p q o. same v q) within ls)
+  where
+    within : (p q : ℕ) (o : Bool) → 0 + inHit v p q o ≤ same v q
+    within p q true = omega arith
+    within p q false = omega arith
+
+-- if one open edge leaves v, or one comes to it, there is no other
 two-apart : (v x y p q : ℕ) → (x ≡ y → ⊥) → hit v x p q + hit v y p q ≤ same v p
 two-apart v x y p q d = go (hit v x p q) refl (hit v y p q) refl
   where
@@ -75,39 +90,20 @@ equal-or x y P h k = go (eqb x y) refl
     go true e = h (eqb-true x y e)
     go false e = k (eqb-false x y e)
 
-pub one-leaves : (v x y : ℕ) (ls : List Ring) → placesOf v ls ≤ 1 → 1 ≤ stands v x ls → 1 ≤ stands v y ls → x ≡ y
+leave-apart : (v x y : ℕ) → (x ≡ y → ⊥) → (p q : ℕ) (o : Bool) → openHit v x p q o + openHit v y p q o ≤ outHit v p q o
+leave-apart v x y d p q true = two-apart v x y p q d
+leave-apart v x y d p q false = omega arith
+
+come-apart : (v x y : ℕ) → (x ≡ y → ⊥) → (p q : ℕ) (o : Bool) → openHit x v p q o + openHit y v p q o ≤ inHit v p q o
+come-apart v x y d p q true = omega (arith, hit-swap x v p q, hit-swap y v p q, two-apart v x y q p d)
+come-apart v x y d p q false = omega arith
+
+pub one-leaves : (v x y : ℕ) (ls : List Ring) → leavesFrom v ls ≤ 1 → 1 ≤ openEdges v x ls → 1 ≤ openEdges v y ls → x ≡ y
 one-leaves v x y ls o h k =
     equal-or x y (x ≡ y) (λ e. e)
-    (λ d. absurd (omega (arith, sum-two (λ p q o. hit v x p q) (λ p q o. hit v y p q) (λ p q o. same v p) (λ p q o. two-apart v x y p q d) ls)))
+    (λ d. absurd (omega (arith, sum-two (openHit v x) (openHit v y) (outHit v) (leave-apart v x y d) ls)))
 
-pub one-comes : (v x y : ℕ) (ls : List Ring) → placesOf v ls ≤ 1 → 1 ≤ stands x v ls → 1 ≤ stands y v ls → x ≡ y
+pub one-comes : (v x y : ℕ) (ls : List Ring) → comesTo v ls ≤ 1 → 1 ≤ openEdges x v ls → 1 ≤ openEdges y v ls → x ≡ y
 one-comes v x y ls o h k =
     equal-or x y (x ≡ y) (λ e. e)
-    (λ d.
-    absurd
-    (omega (
-      arith,
-      ends-places v ls,
-      sum-two (λ p q o. hit x v p q) (λ p q o. hit y v p q) (λ p q o. same v q)
-          (λ p q o. omega (arith, hit-swap x v p q, hit-swap y v p q, two-apart v x y q p d)) ls,
-    )))
-
--- if it has a place, there are such edges
-open-or-marked : (x y p q : ℕ) (o : Bool) → openHit x y p q o + markHit x y p q o ≤ hit x y p q
-open-or-marked x y p q true = omega arith
-open-or-marked x y p q false = omega arith
-
-stands-found : (x y : ℕ) (ls : List Ring) → loopsSum (openHit x y) ls + loopsSum (markHit x y) ls ≤ stands x y ls
-stands-found x y ls = sum-two (openHit x y) (markHit x y) (λ p q o. hit x y p q) (open-or-marked x y) ls
-
-pub some-leaves : (v : ℕ) (ls : List Ring) → 1 ≤ placesOf v ls → (y : ℕ) × (1 ≤ stands v y ls)
-some-leaves v ls h =
-    let f = found (λ x y o. same v x) ls h in
-    let e : v ≡ f .x = same-is v (f .x) (f .weighs) in
-    (f .y, subst (λ (u : ℕ). 1 ≤ stands u (f .y) ls) (sym e) (omega (arith, f .there, stands-found (f .x) (f .y) ls)))
-
-pub some-comes : (v : ℕ) (ls : List Ring) → 1 ≤ placesOf v ls → (x : ℕ) × (1 ≤ stands x v ls)
-some-comes v ls h =
-    let f = found (λ x y o. same v y) ls (omega (arith, h, ends-places v ls)) in
-    let e : v ≡ f .y = same-is v (f .y) (f .weighs) in
-    (f .x, subst (λ (u : ℕ). 1 ≤ stands (f .x) u ls) (sym e) (omega (arith, f .there, stands-found (f .x) (f .y) ls)))
+    (λ d. absurd (omega (arith, sum-two (openHit x v) (openHit y v) (inHit v) (come-apart v x y d) ls)))

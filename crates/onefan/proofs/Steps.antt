@@ -34,7 +34,7 @@ unfolding loopsSum about
 fanned-empty c met = record {
   current = tt;
   unnumbered = λ v h. record { no-place = refl; no-triangle = refl };
-  unmet = λ v h. record { once = omega arith; chained = none-chained; between = λ x y j k. absurd (omega arith) };
+  unmet = λ v h. record { one-in = omega arith; one-out = omega arith; chained = none-chained; finish = λ x j. absurd (omega arith); start = λ y j. absurd (omega arith) };
 }
 
 -- more vertices are said to be met

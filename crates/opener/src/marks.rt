@@ -26,7 +26,7 @@ fn place_at(m: &Memory, i: u16) -> Place
     record_at(m, i as usize)
 }
 
-// Whether the link back from the next place agrees, and the vertex of place i is below v.
+// Whether the link back from the next place agrees, the vertex of place i is below v, and the next place has an open edge.
 fn place_fits(m: &Memory, v: u16, i: u16) -> bool
     ensures { λ r. ⌜ r ≡ placeFits (records maxPlaces (now (m .entry))) v i ⌝ }
 {
@@ -35,7 +35,13 @@ fn place_fits(m: &Memory, v: u16, i: u16) -> bool
     if next.before != i {
         return false;
     }
-    p.vertex < v
+    if v <= p.vertex {
+        return false;
+    }
+    if p.open {
+        return true;
+    }
+    next.open
 }
 
 // Marks place i, unless there is no such place, it is marked already, or it does not fit.

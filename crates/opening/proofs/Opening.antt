@@ -18,6 +18,7 @@ use Rattle.rules.specs.Buffer.{lengths}
 use Rattle.rules.specs.Build.{viewed}
 use Rattle.rules.specs.View.{placesOf, loopsOf, trianglesBuilt, view}
 use Rattle.rules.specs.Test21.{countsFit, sumsFit, linksFit, trianglesFit, sound}
+use Rattle.book.specs.Consistent.{AllCurrent}
 use Rattle.book.proofs.Counting.{and-left, and-right}
 use Rattle.links.specs.Memory.{Memory, Holds, placed, namedLoops}
 use Rattle.places.specs.Memory.{records}
@@ -29,14 +30,16 @@ use Rattle.memory.specs.Stands.{ringsIn, loopsIn, Waits, Named, StandsAt, Stand
 use Rattle.memory.specs.Keeps.{Roomy, Keeps, Ready}
 use Rattle.memory.proofs.Columns.{column-same}
 use Rattle.memory.proofs.Standing.{rings-read}
+use Rattle.memory.proofs.Relinked.{current-places}
 use Rattle.reading.specs.Reading.{lent, SameRecords, Passes}
+use Rattle.reading.proofs.Current.{current-loops}
 use Rattle.opening.specs.Marks.{numbersFit, loopsMark, allFlagged, Marked}
 use Rattle.opening.specs.Front.{Freed, Waited, topOf, frontOf}
 use Rattle.opening.proofs.Tests.{and-yes, CountsFit, counts-fit, SumsFit, sums-fit}
 use Rattle.opening.proofs.Writing.{stacked-same}
 use Rattle.opening.proofs.Marking.{no-flags, AllFit, marked-fit, flags-are, LoopsFit, loops-fit, marked-links, links-marked}
 use Rattle.opening.proofs.Rings.{ringsOf, rings-length, below-none, each-returns, ring-start, ring-length}
-use Rattle.opening.proofs.Rings.{rings-placed, rings-current, rings-hold, rings-named}
+use Rattle.opening.proofs.Rings.{rings-placed, rings-hold, rings-named}
 
 -- a test that would make another pass
 not-so : (a b : Bool) → (a ≡ true → b ≡ true) → b ≡ false → a ≡ false
@@ -230,7 +233,9 @@ module _ (b : Builder) (xs m s : List ℕ) (k : ℕ) (m₁ m₂ : List ℕ) (one
         (rings-hold m b ones (b .used) (b .live) (fit .fits) (all-fit .fit));
     each = each;
     heads = heads-by (b .live) (omega arith) loops refl refl refl;
-    sound = rings-current m b (b .live) (fit .fits);
+    sound =
+        current-places (verticesOf maxPlaces m) (ringsOf b m (b .live))
+        (subst AllCurrent (rings-named m b ones (b .live) (all-fit .below)) (current-loops ps b (b .used) (b .live) (all-fit .fit) (fit .fits)));
   }
 
   rings-in : ringsIn maxPlaces loops m₂ ≡ ringsOf b m (b .live)

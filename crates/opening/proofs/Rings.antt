@@ -26,6 +26,7 @@ use Rattle.memory.specs.Layout.{openOf, column, verticesOf, linksOf}
 use Rattle.memory.proofs.Columns.{column-at, column-length}
 use Rattle.reading.proofs.Records.{records-at}
 use Rattle.reading.proofs.Walks.{walk-below, nodes-read}
+use Rattle.reading.proofs.Current.{fit-parts}
 use Rattle.opening.proofs.Walking.{place-none}
 
 -- the rings of the first n loops, the last of them first
@@ -54,10 +55,6 @@ mark-from zero x h = refl
 mark-from (suc zero) x h = refl
 mark-from (suc (suc f)) x h = absurd (omega (arith, h))
 
-open-from : (f x : ℕ) → isOne f ≡ true → isOpen (nodeFrom f x) ≡ true
-open-from zero x h = absurd (false≢true h)
-open-from (suc f) x h = refl
-
 -- a list that ends before position i
 past : (xs : List ℕ) (i : ℕ) → length xs ≤ i → getD xs i 0 ≡ 0
 past [] i h = refl
@@ -71,14 +68,6 @@ below-append v [] js h = (refl, h)
 below-append v (i ∷ is) js h =
     let r = below-append v is js (and-right (ltb i v) _ h) in
     (ap (λ (t : Bool). t && allBelow v is) (and-left (ltb i v) _ h) ∙ r .0, r .1)
-
-fit-append : (ps : List Place) (v : ℕ) (is js : List ℕ) → placesFit ps v (is ++ js) ≡ true
-    → (placesFit ps v is ≡ true) × (placesFit ps v js ≡ true)
-unfolding placesFit
-fit-append ps v [] js h = (refl, h)
-fit-append ps v (i ∷ is) js h =
-    let r = fit-append ps v is js (and-right (placeFits ps v i) _ h) in
-    (ap (λ (t : Bool). t && placesFit ps v is) (and-left (placeFits ps v i) _ h) ∙ r .0, r .1)
 
 pub occurs-append : (x : ℕ) (is js : List ℕ) → occurs x (is ++ js) ≡ occurs x is + occurs x js
 unfolding occurs
@@ -186,11 +175,6 @@ module _ (m : List ℕ) where
   read-start zero e h = absurd (omega (arith, h))
   read-start (suc k) e h = vertex-from (mark e) e
 
-  read-open : (k e : ℕ) → 1 ≤ k → placeAt ps e .«open» ≡ true → firstOpen (read links k e) ≡ true
-  unfolding read
-  read-open zero e h o = absurd (omega (arith, h))
-  read-open (suc k) e h o = open-from (mark e) e (open-any e ∙ o)
-
   -- what a loop's test says
   module _ (b : Builder) where
     abbrev size : ℕ → ℕ
@@ -238,13 +222,6 @@ module _ (m : List ℕ) where
         (rings-placed x n (and-right (loopFits b ps n) _ h))
         ∙ sym (occurs-append x (loopPlaces b ps n) (placesOf b ps n))
 
-    pub rings-current : (n : ℕ) → loopsFit b ps n ≡ true → AllCurrent (ringsOf b m n)
-    unfolding ringsOf loopsFit
-    rings-current zero h = tt
-    rings-current (suc n) h =
-        let r = returns-by n (and-left (loopFits b ps n) _ h) in
-        (read-open (size n) (start n) (r .some) (r .opens), rings-current n (and-right (loopFits b ps n) _ h))
-
     module _ (ones : (p : ℕ) → p < maxPlaces → openOf m p ≤ 1) where
       mark-le : (i : ℕ) (t : Bool) → ltb i maxPlaces ≡ t → mark i ≤ 1
       mark-le i true e = omega (arith, column-at m 3 maxPlaces i (ltb-true i maxPlaces e), ones i (ltb-true i maxPlaces e))
@@ -256,7 +233,8 @@ module _ (m : List ℕ) where
         fore = after-any e;
         back =
             before-any (placeAt ps e .after)
-            ∙ eqb-true (placeAt ps (placeAt ps e .after) .before) e (and-left (eqb (placeAt ps (placeAt ps e .after) .before) e) _ h);
+            ∙ eqb-true (placeAt ps (placeAt ps e .after) .before) e
+            (and-left (eqb (placeAt ps (placeAt ps e .after) .before) e) _ (and-left (eqb (placeAt ps (placeAt ps e .after) .before) e && ltb (placeAt ps e .vertex) v) _ h));
         mark = mark-from (mark e) e (mark-le e (ltb e maxPlaces) refl);
       }
 
@@ -286,7 +264,7 @@ module _ (m : List ℕ) where
       rings-hold v zero h f x y o i = absurd (omega (arith, i))
       rings-hold v (suc n) h f x y o i =
           let r = returns-by n (and-left (loopFits b ps n) _ h) in
-          let g = fit-append ps v (loopPlaces b ps n) (placesOf b ps n) f in
+          let g = fit-parts ps v (loopPlaces b ps n) (placesOf b ps n) f in
           either (ringSum (arcHit x y o) (read links (size n) (start n))) (loopsSum (arcHit x y o) (ringsOf b m n)) i
           (λ j. path-links v (size n) (start n) (g .0) x y o (omega (arith, j, ring-sum (arcHit x y o) (size n) (start n) (r .some) (r .back))))
           (rings-hold v n (and-right (loopFits b ps n) _ h) (g .1) x y o)

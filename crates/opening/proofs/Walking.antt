@@ -2,7 +2,7 @@
 -- Assumes nothing.
 use Prim.Native.Nat.{ℕ, zero, suc, _-_, _≤_, _<_}
 use native.Mathlib.Omega.{arith}
-use mathlib.Core.Bool.{Bool, true, false, _&&_, false≢true}
+use mathlib.Core.Bool.{Bool, true, false, _&&_, _||_, false≢true}
 use mathlib.Core.List.{List, [], _∷_}
 use mathlib.Core.Path.{_≡_, refl, sym, ap, _∙_}
 use lib.Dec.{eqb, ltb, leb}
@@ -33,19 +33,31 @@ pub place-none : (m : List ℕ) (i : ℕ) → maxPlaces ≤ i → freePlace ≡ 
 place-none m i h = past-end (records maxPlaces m) i (omega (arith, h, length-records maxPlaces m))
 
 module _ (ps : List Place) (v i : ℕ) (p q : Place) (ep : p ≡ placeAt ps i) (eq : q ≡ placeAt ps (p .after)) where
-  next-is : q .before ≡ placeAt ps (placeAt ps i .after) .before
-  next-is = ap (λ (r : Place). r .before) eq ∙ ap (λ (r : Place). placeAt ps (r .after) .before) ep
+  fits-as : placeFits ps v i ≡ eqb (q .before) i && ltb (p .vertex) v && (p .«open» || q .«open»)
+  fits-as =
+      ap (λ (r : Place). eqb (placeAt ps (r .after) .before) i && ltb (r .vertex) v && (r .«open» || placeAt ps (r .after) .«open»)) (sym ep)
+      ∙ ap (λ (r : Place). eqb (r .before) i && ltb (p .vertex) v && (p .«open» || r .«open»)) (sym eq)
 
   pub fits-not : (q .before ≡ i → ⊥) → false ≡ placeFits ps v i
-  fits-not d =
-      sym (no-and (eqb (placeAt ps (placeAt ps i .after) .before) i) (ltb (placeAt ps i .vertex) v)
-      (ne-eqb (placeAt ps (placeAt ps i .after) .before) i (λ e. d (next-is ∙ e))))
+  fits-not d = sym (fits-as ∙ ap (λ (t : Bool). t && ltb (p .vertex) v && (p .«open» || q .«open»)) (ne-eqb (q .before) i d))
 
-  pub fits-vertex : q .before ≡ i → ltb (p .vertex) v ≡ placeFits ps v i
-  fits-vertex e =
-      ap (λ (r : Place). ltb (r .vertex) v) ep
-      ∙ sym (yes-and (eqb (placeAt ps (placeAt ps i .after) .before) i) (ltb (placeAt ps i .vertex) v)
-      (eq-eqb (placeAt ps (placeAt ps i .after) .before) i (sym next-is ∙ e)))
+  module _ (e : q .before ≡ i) where
+    pub fits-above : v ≤ p .vertex → false ≡ placeFits ps v i
+    fits-above h =
+        sym (fits-as ∙ no-and (eqb (q .before) i && ltb (p .vertex) v) _ (and-no (eqb (q .before) i) (ltb (p .vertex) v) (le-ltb (p .vertex) v h)))
+
+    module _ (h : p .vertex < v) where
+      edges-fit : placeFits ps v i ≡ p .«open» || q .«open»
+      edges-fit =
+          fits-as
+          ∙ yes-and (eqb (q .before) i && ltb (p .vertex) v) (p .«open» || q .«open»)
+          (and-yes (eqb (q .before) i) (ltb (p .vertex) v) (eq-eqb (q .before) i e) (lt-ltb (p .vertex) v h))
+
+      pub fits-here : p .«open» ≡ true → true ≡ placeFits ps v i
+      fits-here o = sym (edges-fit ∙ ap (λ (t : Bool). t || q .«open») o)
+
+      pub fits-next : p .«open» ≡ false → q .«open» ≡ placeFits ps v i
+      fits-next o = sym (edges-fit ∙ ap (λ (t : Bool). t || q .«open») o)
 
 -- a test that fails, whatever the flags then
 pub marked-not : (t : Bool) (s s′ : List ℕ) → t ≡ false → Marked t s false s′

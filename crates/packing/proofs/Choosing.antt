@@ -2,7 +2,7 @@
 -- Assumes nothing.
 use Prim.Native.Nat.{ℕ, _≤_, _<_}
 use native.Mathlib.Omega.{arith}
-use mathlib.Core.Bool.{Bool, true, false}
+use mathlib.Core.Bool.{Bool, true, false, not}
 use mathlib.Core.List.{List, [], _∷_}
 use mathlib.Core.Path.{_≡_, refl, sym, ap, _∙_, subst}
 use mathlib.Core.Logic.{_⊎_, inl, inr}
@@ -16,24 +16,27 @@ use Rattle.rules.specs.declared.Across.the-variants.{Found, Nothing}
 use Rattle.rules.specs.Limits.{maxPlaces, maxTriangles, minVertices, maxVertices}
 use Rattle.rules.specs.Triangle.{trianglesOf}
 use Rattle.rules.specs.Across.{across}
-use Rattle.rules.specs.Ring.{Node, Ring, vertex}
+use Rattle.rules.specs.Ring.{Node, Ring, vertex, isOpen, reached}
 use Rattle.rules.specs.Choice.{Packing}
 use Rattle.fans.specs.Corner.{In, Once}
 use Rattle.fans.proofs.Corners.{in-next}
+use Rattle.shown.specs.Shown.{shownAll, Live}
+use Rattle.shown.proofs.Shown.{reached-first}
 use Rattle.gap.specs.Turn.{Unused}
 use Rattle.gap.specs.Spots.{OpenAt, Unique}
 use Rattle.gap.proofs.Bools.{and-true}
 use Rattle.gap.proofs.Turning.{across-some, across-none, look}
 use Rattle.gap.proofs.Standing.{legal-used}
 use Rattle.gap.proofs.Steps.{Keeps, packs}
-use Rattle.gap.proofs.Canonical.{open-used}
+use Rattle.gap.proofs.Canonical.{shown-used}
+use Rattle.gap.proofs.Showing.{unique-shown}
 use Rattle.gap.proofs.Packing.{Packs}
 use Rattle.gap.proofs.Taking.{corners}
-use Rattle.gap.proofs.Progress.{AllGood}
+use Rattle.gap.proofs.Progress.{AllGood, good-live}
 use Rattle.gap.proofs.Accepted.{Packable, accepted-packable}
 use Rattle.chains.specs.Chains.{Linked}
 use Rattle.roundtrip.proofs.Fitting.{accepted-count}
-use Rattle.memory.specs.Stands.{ringsIn}
+use Rattle.memory.specs.Stands.{ringsIn, loopsIn}
 use Rattle.packing.specs.declared.Course.{Course}
 use Rattle.packing.specs.Numbers.{entries}
 use Rattle.packing.specs.Course.{Holds, startOf, endOf, isNumbered, placedBy, moveBy, moveOf, FoundNear, Chooses}
@@ -41,20 +44,19 @@ use Rattle.packing.proofs.Numbers.{entries-length}
 use Rattle.packing.proofs.Flags.{found-below}
 use Rattle.packing.proofs.Reading.{EdgeRead, edge-read, none-live}
 
--- the current loop has three places or more
+-- the current full ring
 record Shape (ls : List Ring) : Type 0 where
   e : Node
   f : Node
   ps : List Node
   ws : List Ring
   is : ls ≡ (e ∷ (f ∷ ps)) ∷ ws
-  three : 1 ≤ length ps
 
 shape : (ls : List Ring) → AllGood ls → (ls ≡ [] → ⊥) → Shape ls
 shape [] g n = absurd (n refl)
 shape ([] ∷ ws) g n = absurd (g .0)
 shape ((e ∷ []) ∷ ws) g n = absurd (omega (arith, g .0 .1))
-shape ((e ∷ (f ∷ ps)) ∷ ws) g n = record { e = e; f = f; ps = ps; ws = ws; is = refl; three = omega (arith, g .0 .1) }
+shape ((e ∷ (f ∷ ps)) ∷ ws) g n = record { e = e; f = f; ps = ps; ws = ws; is = refl }
 
 no-found : (n k z : ℕ) → Nothing ≡ Found n k z → ⊥
 no-found n k z e = let q : _≡_ {A = ℕ} 0 1 = cc in omega arith
@@ -101,15 +103,18 @@ module _ (v : ℕ) (xs : List ℕ) (s : Packing) (t : Course) (fs ns rest m : Li
       go (Found n k c) q = placed-below (isNumbered ns c) (set fs n 1) (startOf (t .front .loops) m) (endOf (t .front .loops) m) c (below n k c q)
 
   module _ (cs : List ℕ) (linked : Linked xs cs) (live : t .front .loops .live ≡ 0 → ⊥) where
-    shaped : Shape (s .loops)
+    shaped : Shape (h .fits .full)
     shaped =
-        shape (s .loops) (h .fits .good)
-        (λ e. live (none-live maxPlaces (t .front .loops) m (ringsIn maxPlaces (t .front .loops) m) (h .standing .stands) (sym (h .standing .loops) ∙ e)))
+        shape (h .fits .full) (h .fits .good)
+        (λ e. live (none-live maxPlaces (t .front .loops) m (ringsIn maxPlaces (t .front .loops) m) (h .standing .stands) (sym (h .standing .loops) ∙ (h .fits .shows ∙ ap shownAll e))))
 
-    read : EdgeRead maxPlaces (t .front .loops) m (shaped .e) (shaped .f) (shaped .ps) (shaped .ws)
+    looks : s .loops ≡ (shaped .e ∷ (shaped .f ∷ reached (shaped .ps) (not (isOpen (shaped .f))))) ∷ shownAll (shaped .ws)
+    looks = h .fits .shows ∙ (ap shownAll (shaped .is) ∙ ap (λ (r : List Node). (shaped .e ∷ r) ∷ shownAll (shaped .ws)) (reached-first (shaped .f) (shaped .ps)))
+
+    read : EdgeRead maxPlaces (t .front .loops) m (shaped .e) (shaped .f) (reached (shaped .ps) (not (isOpen (shaped .f)))) (shownAll (shaped .ws))
     read =
-        edge-read maxPlaces (t .front .loops) m (ringsIn maxPlaces (t .front .loops) m) (h .standing .stands) (shaped .e) (shaped .f) (shaped .ps) (shaped .ws)
-        (sym (h .standing .loops) ∙ shaped .is)
+        edge-read maxPlaces (t .front .loops) m (ringsIn maxPlaces (t .front .loops) m) (h .standing .stands) (shaped .e) (shaped .f)
+        (reached (shaped .ps) (not (isOpen (shaped .f)))) (shownAll (shaped .ws)) (sym (h .standing .loops) ∙ looks)
 
     before : Keeps (s .mesh) (s .left) (h .built) ((shaped .e ∷ (shaped .f ∷ shaped .ps)) ∷ shaped .ws) (h .rims)
     before = subst (λ (ls : List Ring). Keeps (s .mesh) (s .left) (h .built) ls (h .rims)) (shaped .is) (h .fits .keeps)
@@ -119,8 +124,14 @@ module _ (v : ℕ) (xs : List ℕ) (s : Packing) (t : Course) (fs ns rest m : Li
         let u = legal-used (h .built) ((shaped .e ∷ (shaped .f ∷ shaped .ps)) ∷ shaped .ws) (h .rims) (before .legal) .0 .0 .1 in
         corners (s .mesh) (h .fits .keeps .subB _ _ _ (u .1)) (h .fits .keeps .onceM) .0 (sym q)
 
-    packs-now : Packs (s .mesh) (s .left) (h .built) (s .loops)
-    packs-now = packs (s .mesh) (s .left) (h .built) (s .loops) (h .rims) (h .fits .keeps)
+    packs-now : Packs (s .mesh) (s .left) (h .built) (h .fits .full)
+    packs-now = packs (s .mesh) (s .left) (h .built) (h .fits .full) (h .rims) (h .fits .keeps)
+
+    shows : shownAll (h .fits .full) ≡ loopsIn maxPlaces (t .front .loops) m
+    shows = sym (h .fits .shows) ∙ h .standing .loops
+
+    opens : Live (h .fits .full)
+    opens = good-live (h .fits .full) (h .fits .good)
 
     near-found : (n k c : ℕ) → across (endOf (t .front .loops) m) (startOf (t .front .loops) m) (trianglesOf xs) ≡ Found n k c → FoundNear xs cs fs ns m (t .front .loops) n c
     near-found n k c q =
@@ -134,11 +145,11 @@ module _ (v : ℕ) (xs : List ℕ) (s : Packing) (t : Course) (fs ns rest m : Li
                 linked = linked;
                 stands = h .standing .stands;
                 live = omega (arith, live);
-                three = omega (arith, read .size, shaped .three);
-                unique = subst Unique (h .standing .loops) (packs-now .state .unique);
+                two = omega (arith, read .size);
+                unique = subst Unique shows (unique-shown (h .fits .full) opens (packs-now .state .unique));
                 edges = λ x y w i o u.
                     (let r =
-                    open-used (s .mesh) (s .left) (h .built) (s .loops) (packs-now .state) x y w i (subst (λ (ls : List Ring). OpenAt ls w i x y) (sym (h .standing .loops)) o) in
+                    shown-used (s .mesh) (s .left) (h .built) (h .fits .full) (packs-now .state) opens x y w i (subst (λ (ls : List Ring). OpenAt ls w i x y) (sym shows) o) in
                     u (r .0) (subst (In x y (r .0)) (h .mesh) (r .1)));
                 number = n;
                 corner = k;

@@ -158,8 +158,8 @@ all-numbered : (v : ℕ) (xs : List ℕ) (os : List Operation) (s : Packing) →
     → (x : ℕ) → x < v → has x (s .numbered) ≡ true
 unfolding whole.Ends
 all-numbered v xs os s a e x l =
-    let c : Complete (nothingBuilt most (trianglesOf xs)) [] [] os s =
-    subst (whole.Ends (nothingBuilt most (trianglesOf xs)) [] []) e (accepted-packs most v xs a) in
+    let c : Complete (nothingBuilt most (trianglesOf xs)) [] [] [] os s =
+    subst (whole.Ends (nothingBuilt most (trianglesOf xs)) [] [] []) e (accepted-packs most v xs a) in
     let q = accepted-packable v xs a .met x l in
     c .fits .numbers .numbered x (q .0, q .1, complete-all most (trianglesOf xs) os s c x (q .0) (q .1) (q .2))
 

@@ -2,9 +2,9 @@
 -- Assumes nothing.
 use Prim.Native.Nat.{ℕ, suc, _+_, _≤_, _<_}
 use native.Mathlib.Omega.{arith}
-use mathlib.Core.Bool.{Bool, true, false}
+use mathlib.Core.Bool.{Bool, true, false, not}
 use mathlib.Core.List.{List, [], _∷_, _++_}
-use mathlib.Core.Path.{_≡_, refl, ap, _∙_}
+use mathlib.Core.Path.{_≡_, refl, ap, _∙_, subst}
 use mathlib.Core.Logic.{_⊎_, inl, inr}
 use lib.ListN.{length, length-append}
 use lib.Dec.{eqb, leb}
@@ -12,13 +12,15 @@ use borrow.Author.Tests.{eqb-true, eqb-false, leb-true, leb-false, le-leb, lt-le
 use Rattle.rules.specs.declared.Operation.{Operation}
 use Rattle.rules.specs.declared.Operation.the-variants.{New, Forward, Backward, Split, Close, Union}
 use Rattle.rules.specs.Limits.{maxPlaces, maxLoops}
-use Rattle.rules.specs.Ring.{Node, opened, marked, Ring, vertex, places}
+use Rattle.rules.specs.Ring.{Node, opened, marked, Ring, vertex, isOpen, onward, reached, shown, places}
 use Rattle.rules.specs.Table.{inOrder, shorterFirst}
 use Rattle.rules.specs.Choice.{Packing, refuses, limited}
+use Rattle.shown.specs.Shown.{shownAll, Live}
+use Rattle.shown.proofs.Shown.{border-shown, backward-shown, reached-first, all-shown-append, live-split, waiting-shown, fewer-shown}
 use Rattle.gap.specs.Surgery.{Surgery, on-new, on-forward, on-backward, on-close, on-split, on-union}
 use Rattle.gap.specs.Trace.{afterBorder, withRing}
 use Rattle.gap.proofs.Onward.{turned-ring}
-use Rattle.gap.proofs.Bordering.{rimOf}
+use Rattle.gap.proofs.Effects.{shown-forward, shown-backward, shown-cut, shown-halves, shown-union}
 use Rattle.packing.specs.Doing.{refusalAt}
 
 -- no more places and loops than before, or one place more
@@ -38,51 +40,95 @@ places-shorter a b ws = go (leb (length a) (length b))
     go true = omega arith
     go false = omega arith
 
-pub surgery-grows : (e f : Node) (ps : List Node) (ws ls : List Ring) (c : ℕ) (o : Operation) → Surgery e f ps ws ls c o → Grows ((e ∷ (f ∷ ps)) ∷ ws) ls
+-- of the rings shown
+pub surgery-grows : (e f : Node) (ps : List Node) (ws ls : List Ring) (c : ℕ) (o : Operation) → Live ws → Surgery e f ps ws ls c o
+    → Grows (shownAll ((e ∷ (f ∷ ps)) ∷ ws)) (shownAll ls)
 unfolding places
-surgery-grows e f ps ws ls c New (on-new q) = inr (ap places q ∙ omega (arith, length-append ps (opened (vertex e) ∷ [])))
-surgery-grows e f ps ws ls c Forward (on-forward p q qs sh k op l) =
-    inl (omega (arith, ap places l, ap length sh), omega (arith, ap length l))
-surgery-grows e f ps ws ls c Backward (on-backward q qs p sh k op l) =
-    inl (omega (arith, ap places l, ap length sh, length-append (q ∷ qs) (p ∷ [])), omega (arith, ap length l))
-surgery-grows e f ps ws ls c Close (on-close p sh k op op′ l) = inl (omega (arith, ap places l), omega (arith, ap length l))
-surgery-grows e f ps ws ls c (Split i) (on-split us p vs sh n lu lv k l) =
+surgery-grows e f ps ws ls c New g (on-new q) =
     inr
-    (ap places l ∙ places-shorter (opened (vertex p) ∷ (f ∷ us)) (opened (vertex e) ∷ (p ∷ vs)) ws
-    ∙ omega (arith, ap length sh, length-append us (p ∷ vs)))
-surgery-grows e f ps ws ls c (Union w j) (on-union before us p vs behind sh n i k l) =
+    (ap (λ (l : List Ring). places (shownAll l)) q
+    ∙ omega (arith, ap length (backward-shown (f ∷ ps) (vertex e)), length-append (reached (f ∷ ps) false) (opened (vertex e) ∷ [])))
+surgery-grows e f ps ws ls c Forward g (on-forward p q qs sh k op l) =
+    let z = ap length (ap (λ (r : List Node). reached (f ∷ r) false) sh ∙ shown-forward e f p q qs op) in
+    inl (
+      omega (arith, ap (λ (k : List Ring). places (shownAll k)) l, z, ap length (reached-first p (q ∷ qs))),
+      omega (arith, ap (λ (k : List Ring). length (shownAll k)) l),
+    )
+surgery-grows e f ps ws ls c Backward g (on-backward q qs p sh k op l) =
+    let z = ap length (ap (λ (r : List Node). reached (f ∷ r) false) sh ∙ shown-backward e f (q ∷ qs) p op) in
+    inl (
+      omega (
+        arith,
+        ap (λ (k : List Ring). places (shownAll k)) l,
+        z,
+        length-append (reached (q ∷ qs) (not (isOpen f))) (p ∷ []),
+        ap length (reached-first f (q ∷ qs)),
+      ),
+      omega (arith, ap (λ (k : List Ring). length (shownAll k)) l),
+    )
+surgery-grows e f ps ws ls c Close g (on-close p sh k op op′ l) =
+    inl (omega (arith, ap (λ (k : List Ring). places (shownAll k)) l), omega (arith, ap (λ (k : List Ring). length (shownAll k)) l))
+surgery-grows e f ps ws ls c (Split i) g (on-split us p vs sh n lu lv k l) =
+    let U = reached us (not (isOpen f)) in
+    let W = reached vs (not (isOpen p)) in
+    let z = ap length (ap (λ (r : List Node). reached (f ∷ r) false) sh ∙ shown-cut e f us p vs (n .1)) in
     inr
-    (ap places l
+    (ap (λ (k : List Ring). places (shownAll k)) l
+    ∙ (ap places (shown-halves e f us p vs ws)
+    ∙ (places-shorter (opened (vertex p) ∷ (f ∷ U)) (opened (vertex e) ∷ (p ∷ W)) (shownAll ws) ∙ omega (arith, z, length-append U (p ∷ W)))))
+surgery-grows e f ps ws ls c (Union w j) g (on-union before us p vs behind sh n i k l) =
+    let U = reached us false in
+    let W = reached vs (not (isOpen p)) in
+    let P = reached ps (not (isOpen f)) in
+    let live = live-split before ((us ++ (p ∷ vs)) ∷ behind) (subst Live sh g) .1 in
+    let all : shownAll ws ≡ shownAll before ++ ((U ++ (p ∷ W)) ∷ shownAll behind) =
+    ap shownAll sh ∙ (all-shown-append before ((us ++ (p ∷ vs)) ∷ behind) ∙ ap (λ (r : List Node). shownAll before ++ (r ∷ shownAll behind)) (waiting-shown us p vs behind live (i .1))) in
+    inr
+    (ap (λ (k : List Ring). places (shownAll k)) l
     ∙ omega (
       arith,
-      ap places sh,
-      places-append before ((us ++ (p ∷ vs)) ∷ behind),
-      places-append before behind,
-      length-append ps (opened (vertex e) ∷ (p ∷ (vs ++ us))),
-      length-append vs us,
-      length-append us (p ∷ vs),
+      ap places all,
+      ap places (all-shown-append before behind),
+      ap length (shown-union e f ps us p vs behind live),
+      ap length (reached-first f ps),
+      places-append (shownAll before) ((U ++ (p ∷ W)) ∷ shownAll behind),
+      places-append (shownAll before) (shownAll behind),
+      length-append P (opened (vertex e) ∷ (p ∷ (W ++ U))),
+      length-append W U,
+      length-append U (p ∷ W),
     ))
 
 -- marking an edge adds none
-pub border-shrinks : (e f : Node) (ps : List Node) (ws : List Ring)
-    → (places (withRing (afterBorder e f ps) ws) ≤ places ((e ∷ (f ∷ ps)) ∷ ws)) × (length (withRing (afterBorder e f ps) ws) ≤ length ((e ∷ (f ∷ ps)) ∷ ws))
+with-places : (r : List Node) (ws : List Ring)
+    → (places (shownAll (withRing r ws)) ≤ length (shown r) + places (shownAll ws)) × (length (shownAll (withRing r ws)) ≤ suc (length (shownAll ws)))
 unfolding places
-border-shrinks e f ps ws = go (afterBorder e f ps) refl
-  where
-    go : (r : List Node) → afterBorder e f ps ≡ r → (places (withRing r ws) ≤ places ((e ∷ (f ∷ ps)) ∷ ws)) × (length (withRing r ws) ≤ suc (length ws))
-    go [] q = (omega arith, omega arith)
-    go (p ∷ r) q =
-        let t = turned-ring (rimOf e f ps) p r q in (
-          omega (
-            arith,
-            ap length (t .whole),
-            ap length (t .turned),
-            length-append (t .us) (opened (t .v) ∷ t .vs),
-            length-append (opened (t .v) ∷ t .vs) (t .us),
-            length-append ps (marked (vertex e) ∷ []),
-          ),
-          omega arith,
-        )
+with-places [] ws = (omega arith, omega arith)
+with-places (p ∷ r) ws = (omega arith, omega arith)
+
+turned-length : (ps r : List Node) → onward [] ps ≡ r → length r ≤ length ps
+turned-length ps [] h = omega arith
+turned-length ps (p ∷ r) h =
+    let t = turned-ring ps p r h in
+    omega (arith, ap length (t .whole), ap length (t .turned), length-append (t .us) (opened (t .v) ∷ t .vs), length-append (opened (t .v) ∷ t .vs) (t .us))
+
+pub border-shrinks : (e f : Node) (ps : List Node) (ws : List Ring)
+    → (places (shownAll (withRing (afterBorder e f ps) ws)) ≤ places (shownAll ((e ∷ (f ∷ ps)) ∷ ws)))
+    × (length (shownAll (withRing (afterBorder e f ps) ws)) ≤ length (shownAll ((e ∷ (f ∷ ps)) ∷ ws)))
+unfolding places
+border-shrinks e f ps ws =
+    let F = reached (f ∷ ps) false in
+    let w = with-places (afterBorder e f ps) ws in
+    let r = onward [] (F ++ (marked (vertex e) ∷ [])) in (
+      omega (
+        arith,
+        w .0,
+        ap length (border-shown (f ∷ ps) (vertex e)),
+        fewer-shown r,
+        turned-length (F ++ (marked (vertex e) ∷ [])) r refl,
+        length-append F (marked (vertex e) ∷ []),
+      ),
+      w .1,
+    )
 
 -- ---- 9 and 10
 

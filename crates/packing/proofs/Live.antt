@@ -2,7 +2,7 @@
 -- Assumes nothing.
 use Prim.Native.Nat.{ℕ, _+_, _*_, _≤_, _<_}
 use native.Mathlib.Omega.{arith}
-use mathlib.Core.Bool.{Bool, true, false, false≢true}
+use mathlib.Core.Bool.{Bool, true, false, not, false≢true}
 use mathlib.Core.List.{List, [], _∷_, _++_}
 use mathlib.Core.Path.{_≡_, refl, sym, ap, ap₂, _∙_, subst}
 use mathlib.Core.Logic.{_⊎_, inl, inr}
@@ -18,12 +18,14 @@ use Rattle.rules.specs.declared.Operation.the-variants.{New, Border}
 use Rattle.rules.specs.Limits.{maxPlaces, maxTriangles}
 use Rattle.rules.specs.Triangle.{edge, trianglesOf}
 use Rattle.rules.specs.Across.{across}
-use Rattle.rules.specs.Ring.{Node, Ring, vertex, places}
+use Rattle.rules.specs.Ring.{Node, Ring, vertex, isOpen, reached, places}
 use Rattle.rules.specs.Table.{atEdge, effect}
 use Rattle.rules.specs.Choice.{Packing, has, dropTriangle, choosePlace, refuses, packingAfter, limited, choose}
 use Rattle.fans.specs.Corner.{In}
 use Rattle.fans.specs.Neighbours.{Neighbours}
 use Rattle.fans.proofs.Corners.{in-next}
+use Rattle.shown.specs.Shown.{shownAll, Live}
+use Rattle.shown.proofs.Shown.{reached-first}
 use Rattle.gap.specs.Turn.{Unused}
 use Rattle.gap.specs.Trace.{triangleAt, afterBorder, withRing}
 use Rattle.gap.specs.Tally.{newNumbers}
@@ -33,7 +35,7 @@ use Rattle.gap.proofs.Standing.{legal-used}
 use Rattle.gap.proofs.Steps.{Keeps, Packed}
 use Rattle.gap.proofs.Taking.{corners}
 use Rattle.gap.proofs.Bordering.{withRim, rimOf, border-free}
-use Rattle.gap.proofs.Progress.{AllGood, Goes, by-start, by-build, by-border, progress}
+use Rattle.gap.proofs.Progress.{AllGood, good-live, Goes, by-start, by-build, by-border, progress}
 use Rattle.gap.proofs.Choosing.{Fits, choose-border, choose-new, choose-old, no-new}
 use Rattle.gap.proofs.Numbering.{Met, not-met, numbered-old, numbered-new}
 use Rattle.gap.proofs.Distinct.{distinct-new}
@@ -147,9 +149,24 @@ module _ (v : ℕ) (xs : List ℕ) (s : Packing) (t : Course) (fs ns rest m : Li
   concludes-as mv mv′ fs′ fs″ e f c = subst (λ (w : Move). Concludes w fs″) (sym e) (subst (Concludes mv) (sym f) c)
 
   -- the current edge and the triangle across it
-  module _ (e f : Node) (ps : List Node) (ws : List Ring) (sh : s .loops ≡ (e ∷ (f ∷ ps)) ∷ ws) where
-    read : EdgeRead maxPlaces (t .front .loops) m e f ps ws
-    read = edge-read maxPlaces (t .front .loops) m (ringsIn maxPlaces (t .front .loops) m) (h .standing .stands) e f ps ws (sym (h .standing .loops) ∙ sh)
+  module _ (e f : Node) (ps : List Node) (ws : List Ring) (sh : h .fits .full ≡ (e ∷ (f ∷ ps)) ∷ ws) where
+    -- the packing's loops
+    first : shownAll ((e ∷ (f ∷ ps)) ∷ ws) ≡ (e ∷ (f ∷ reached ps (not (isOpen f)))) ∷ shownAll ws
+    first = ap (λ (r : List Node). (e ∷ r) ∷ shownAll ws) (reached-first f ps)
+
+    shows : s .loops ≡ shownAll ((e ∷ (f ∷ ps)) ∷ ws)
+    shows = h .fits .shows ∙ ap shownAll sh
+
+    looks : s .loops ≡ (e ∷ (f ∷ reached ps (not (isOpen f)))) ∷ shownAll ws
+    looks = shows ∙ first
+
+    opens : Live ((e ∷ (f ∷ ps)) ∷ ws)
+    opens = good-live ((e ∷ (f ∷ ps)) ∷ ws) (subst AllGood sh (h .fits .good))
+
+    read : EdgeRead maxPlaces (t .front .loops) m e f (reached ps (not (isOpen f))) (shownAll ws)
+    read =
+        edge-read maxPlaces (t .front .loops) m (ringsIn maxPlaces (t .front .loops) m) (h .standing .stands) e f (reached ps (not (isOpen f))) (shownAll ws)
+        (sym (h .standing .loops) ∙ looks)
 
     across-as : (r : Across) → across (vertex f) (vertex e) (s .mesh) ≡ r → across (endOf (t .front .loops) m) (startOf (t .front .loops) m) (trianglesOf xs) ≡ r
     across-as r q =
@@ -175,23 +192,27 @@ module _ (v : ℕ) (xs : List ℕ) (s : Packing) (t : Course) (fs ns rest m : Li
     at-border u k gd live =
         let none : across (vertex f) (vertex e) (s .mesh) ≡ Nothing =
         across-none (vertex f) (vertex e) (s .mesh) (border-free (s .mesh) (s .left) (h .built) e f ps ws (h .rims) before u) in
-        let ls = withRing (afterBorder e f ps) ws in
+        let full = withRing (afterBorder e f ps) ws in
+        let ls = shownAll full in
         let mk = effects.border-marks 0 e f ps ws in
+        let mk1 = ap (λ (r : List Node). atEdge Border 0 (vertex e) r (shownAll ws)) (sym (reached-first f ps)) ∙ mk .1 in
         let ch : choose s ≡ limited Border (packingAfter s (s .left) (s .numbered) ls) =
-        choose-border s e f ps ws ls (edge (vertex e) (vertex f)) (mk .0) sh none (mk .1) in
+        choose-border s e f (reached ps (not (isOpen f))) (shownAll ws) ls (edge (vertex e) (vertex f)) (mk .0) looks none mk1 in
         concludes-as (moveBy xs fs ns m (t .front .loops) Nothing) _ fs _ (move-as Nothing none) (flags-as Nothing none)
         (lives Border 0 false 0 ls fs (h .built) (withRim (afterBorder e f ps) (rimOf e f ps) (h .rims))
         (ch ∙ ap (λ (R : List Triangle). limited Border (packingAfter s R (s .numbered) ls)) (h .left))
         (record {
-          keeps = subst (λ (R : List Triangle). Keeps (s .mesh) R (h .built) ls (withRim (afterBorder e f ps) (rimOf e f ps) (h .rims))) (h .left) k;
+          full = full;
+          shows = refl;
+          keeps = subst (λ (R : List Triangle). Keeps (s .mesh) R (h .built) full (withRim (afterBorder e f ps) (rimOf e f ps) (h .rims))) (h .left) k;
           good = gd;
           numbers = h .fits .numbers;
           distinct = h .fits .distinct;
         })
-        (inl (subst (λ (l : List Ring). (places ls ≤ places l) × (length ls ≤ length l)) (sym sh) (border-shrinks e f ps ws)))
+        (inl (subst (λ (l : List Ring). (places ls ≤ places l) × (length ls ≤ length l)) (sym shows) (border-shrinks e f ps ws)))
         (omega (arith, ap length (h .left))) (omega (arith, ap length (h .left))) refl (λ j z. z) (λ z. absurd (false≢true z)) (doneOf (readied (t .front) 0) m Border) (memoryOf (readied (t .front) 0) m Border)
         (border-outcome v (length (trianglesOf xs)) (t .front) m (s .loops) (s .mostPlaces) (s .mostLoops) (h .standing) live ls (edge (vertex e) (vertex f)) (mk .0)
-        (ap (effect Border 0) sh ∙ mk .1)))
+        (ap (effect Border 0) shows ∙ mk .1)))
 
     -- a triangle that is left
     module _ (c : ℕ) (i : In (vertex f) (vertex e) c (s .left)) (p : Packed (s .mesh) (others i) (h .built) e f ps ws (h .rims) c) (gd : AllGood (p .ls)) where
@@ -229,8 +250,8 @@ module _ (v : ℕ) (xs : List ℕ) (s : Packing) (t : Course) (fs ns rest m : Li
       less : 1 + length (unbuiltOf flagged xs) ≡ length (s .left)
       less = omega (arith, others-length i, ap length same-left)
 
-      does : atEdge (p .o) c (vertex e) (f ∷ ps) ws ≡ effects.built (p .o) e f (p .ls) c
-      does = effects.allows (p .o) e f ps ws (p .ls) c (p .does)
+      does : atEdge (p .o) c (vertex e) (f ∷ reached ps (not (isOpen f))) (shownAll ws) ≡ effects.built (p .o) e f (shownAll (p .ls)) c
+      does = ap (λ (r : List Node). atEdge (p .o) c (vertex e) r (shownAll ws)) (sym (reached-first f ps)) ∙ effects.allows (p .o) e f ps ws (p .ls) c (opens .1) (p .does)
 
       edge-used : (z : ℕ) × In (vertex e) (vertex f) z (h .built)
       edge-used = legal-used (h .built) ((e ∷ (f ∷ ps)) ∷ ws) (h .rims) (before .legal) .0 .0 .1
@@ -256,12 +277,12 @@ module _ (v : ℕ) (xs : List ℕ) (s : Packing) (t : Course) (fs ns rest m : Li
           go false q = sym (getD-set-other fs number j 1 0 (eqb-false j number q)) ∙ z
 
       outcome : c + newNumbers (p .o) ≤ v
-          → Outcome v (length (trianglesOf xs)) (t .front) (p .ls) (s .mostPlaces) (s .mostLoops) 1 (doneOf (readied (t .front) c) m (p .o)) (memoryOf (readied (t .front) c) m (p .o))
+          → Outcome v (length (trianglesOf xs)) (t .front) (shownAll (p .ls)) (s .mostPlaces) (s .mostLoops) 1 (doneOf (readied (t .front) c) m (p .o)) (memoryOf (readied (t .front) c) m (p .o))
       unfolding effect
       outcome room =
           let d = corners (s .left) i (h .fits .keeps .once) in
-          built-outcome v (length (trianglesOf xs)) (t .front) m (s .loops) (s .mostPlaces) (s .mostLoops) (h .standing) c (omega (arith, below)) (p .o) (p .ls) (triangleAt e f c) _ _ _ _ _ _
-          (ap (effect (p .o) c) sh ∙ does) (d .0) (d .1) (d .2) room (omega (arith, less, h .count))
+          built-outcome v (length (trianglesOf xs)) (t .front) m (s .loops) (s .mostPlaces) (s .mostLoops) (h .standing) c (omega (arith, below)) (p .o) (shownAll (p .ls)) (triangleAt e f c) _ _ _ _ _ _
+          (ap (effect (p .o) c) looks ∙ does) (d .0) (d .1) (d .2) room (omega (arith, less, h .count))
 
       -- c has no number yet: new
       at-new : ((x y : ℕ) → In c x y (h .built) → ⊥) → p .o ≡ New → Concludes (moveOf xs fs ns m (t .front .loops)) (flagsOf xs fs m (t .front .loops))
@@ -274,25 +295,27 @@ module _ (v : ℕ) (xs : List ℕ) (s : Packing) (t : Course) (fs ns rest m : Li
           let mv : moveOf xs fs ns m (t .front .loops) ≡ record { operation = New; vertex = c; fresh = true } =
           move-as (Found (found .number) (found .corner) c) (found .found)
           ∙ ap (λ (b : Bool). placedBy b xs (set fs (found .number) 1) m (t .front .loops) (startOf (t .front .loops) m) (endOf (t .front .loops) m) c) z in
-          let ch : choose s ≡ limited New (packingAfter s (unbuiltOf flagged xs) (s .numbered ++ (c ∷ [])) (p .ls)) =
-          choose-new s e f ps ws (p .ls) (unbuiltOf flagged xs) c (found .number) (found .corner) sh (found .found) dropped no
-          (subst (λ (k : Operation). atEdge k c (vertex e) (f ∷ ps) ws ≡ effects.built k e f (p .ls) c) q does) in
+          let ch : choose s ≡ limited New (packingAfter s (unbuiltOf flagged xs) (s .numbered ++ (c ∷ [])) (shownAll (p .ls))) =
+          choose-new s e f (reached ps (not (isOpen f))) (shownAll ws) (shownAll (p .ls)) (unbuiltOf flagged xs) c (found .number) (found .corner) looks (found .found) dropped no
+          (subst (λ (k : Operation). atEdge k c (vertex e) (f ∷ reached ps (not (isOpen f))) (shownAll ws) ≡ effects.built k e f (shownAll (p .ls)) c) q does) in
           concludes-as (record { operation = New; vertex = c; fresh = true }) _ flagged _ mv (flags-as (Found (found .number) (found .corner) c) (found .found))
-          (lives New c true 1 (p .ls) flagged (triangleAt e f c ∷ h .built) (h .rims) ch
+          (lives New c true 1 (shownAll (p .ls)) flagged (triangleAt e f c ∷ h .built) (h .rims) ch
           (record {
+            full = p .ls;
+            shows = refl;
             keeps = kept;
             good = gd;
             numbers = numbered-new (s .numbered) (h .built) (triangleAt e f c) (h .fits .numbers) met-f met-e;
             distinct = distinct-new (s .numbered) c (h .fits .distinct) no;
           })
-          (subst (λ (l : List Ring). Grows l (p .ls)) (sym sh) (surgery-grows e f ps ws (p .ls) c (p .o) (p .does)))
+          (subst (λ (l : List Ring). Grows l (shownAll (p .ls))) (sym shows) (surgery-grows e f ps ws (p .ls) c (p .o) (opens .1) (p .does)))
           less (omega (arith, less, length-append (s .numbered) (c ∷ []))) (length-set fs (found .number) 1) stays (λ w. (below, no))
           (doneOf (readied (t .front) c) m New) (memoryOf (readied (t .front) c) m New)
-          (subst (λ (k : Operation). Outcome v (length (trianglesOf xs)) (t .front) (p .ls) (s .mostPlaces) (s .mostLoops) 1 (doneOf (readied (t .front) c) m k) (memoryOf (readied (t .front) c) m k)) q
+          (subst (λ (k : Operation). Outcome v (length (trianglesOf xs)) (t .front) (shownAll (p .ls)) (s .mostPlaces) (s .mostLoops) 1 (doneOf (readied (t .front) c) m k) (memoryOf (readied (t .front) c) m k)) q
           (outcome (omega (arith, below, ap newNumbers q)))))
 
       -- it has one: the place is chosen
-      at-old : (x : ℕ) (y : ℕ) → In c x y (h .built) → choosePlace (vertex e) (vertex f) c (others i) ((e ∷ (f ∷ ps)) ∷ ws) ≡ p .o
+      at-old : (x : ℕ) (y : ℕ) → In c x y (h .built) → choosePlace (vertex e) (vertex f) c (others i) (shownAll ((e ∷ (f ∷ ps)) ∷ ws)) ≡ p .o
           → Concludes (moveOf xs fs ns m (t .front .loops)) (flagsOf xs fs m (t .front .loops))
       unfolding flagged number
       at-old x y j q =
@@ -301,39 +324,42 @@ module _ (v : ℕ) (xs : List ℕ) (s : Packing) (t : Course) (fs ns rest m : Li
           omega (arith, entry-read v (s .numbered) rest ns c (h .numbers) below, entry-some c (s .numbered) yes, index-below c (s .numbered) yes, numbers-few) in
           let z : isNumbered ns c ≡ true =
           ap (λ (b : Bool). elim b [ true ↦ false | false ↦ true ]) (ne-eqb (getD ns c 0) unnumbered (λ w. omega (arith, en, w))) in
-          let q′ : choosePlace (vertex e) (vertex f) c (unbuiltOf flagged xs) ((e ∷ (f ∷ ps)) ∷ ws) ≡ p .o =
-          ap (λ (R : List Triangle). choosePlace (vertex e) (vertex f) c R ((e ∷ (f ∷ ps)) ∷ ws)) (sym same-left) ∙ q in
+          let q′ : choosePlace (vertex e) (vertex f) c (unbuiltOf flagged xs) (shownAll ((e ∷ (f ∷ ps)) ∷ ws)) ≡ p .o =
+          ap (λ (R : List Triangle). choosePlace (vertex e) (vertex f) c R (shownAll ((e ∷ (f ∷ ps)) ∷ ws))) (sym same-left) ∙ q in
           let pl : choosePlace (startOf (t .front .loops) m) (endOf (t .front .loops) m) c (unbuiltOf flagged xs) (loopsIn maxPlaces (t .front .loops) m) ≡ p .o =
           ap₂ (λ (k l : ℕ). choosePlace k l c (unbuiltOf flagged xs) (loopsIn maxPlaces (t .front .loops) m)) (read .start) (read .end)
-          ∙ ap (choosePlace (vertex e) (vertex f) c (unbuiltOf flagged xs)) (sym (h .standing .loops) ∙ sh) ∙ q′ in
+          ∙ ap (choosePlace (vertex e) (vertex f) c (unbuiltOf flagged xs)) (sym (h .standing .loops) ∙ shows) ∙ q′ in
           let mv : moveOf xs fs ns m (t .front .loops) ≡ record { operation = p .o; vertex = c; fresh = false } =
           move-as (Found (found .number) (found .corner) c) (found .found)
           ∙ ap (λ (b : Bool). placedBy b xs (set fs (found .number) 1) m (t .front .loops) (startOf (t .front .loops) m) (endOf (t .front .loops) m) c) z
           ∙ ap (λ (k : Operation). record { operation = k; vertex = c; fresh = false }) pl in
-          let ch : choose s ≡ limited (p .o) (packingAfter s (unbuiltOf flagged xs) (s .numbered) (p .ls)) =
-          choose-old s e f ps ws (p .ls) (unbuiltOf flagged xs) (p .o) c (found .number) (found .corner) sh (found .found) dropped yes q′ does in
-          let nn : newNumbers (p .o) ≡ 0 = ap newNumbers (sym q) ∙ no-new (vertex e) (vertex f) c (others i) ((e ∷ (f ∷ ps)) ∷ ws) in
+          let ch : choose s ≡ limited (p .o) (packingAfter s (unbuiltOf flagged xs) (s .numbered) (shownAll (p .ls))) =
+          choose-old s e f (reached ps (not (isOpen f))) (shownAll ws) (shownAll (p .ls)) (unbuiltOf flagged xs) (p .o) c (found .number) (found .corner) looks (found .found) dropped yes
+          (ap (choosePlace (vertex e) (vertex f) c (unbuiltOf flagged xs)) (sym first) ∙ q′) does in
+          let nn : newNumbers (p .o) ≡ 0 = ap newNumbers (sym q) ∙ no-new (vertex e) (vertex f) c (others i) (shownAll ((e ∷ (f ∷ ps)) ∷ ws)) in
           concludes-as (record { operation = p .o; vertex = c; fresh = false }) _ flagged _ mv (flags-as (Found (found .number) (found .corner) c) (found .found))
-          (lives (p .o) c false 1 (p .ls) flagged (triangleAt e f c ∷ h .built) (h .rims) ch
+          (lives (p .o) c false 1 (shownAll (p .ls)) flagged (triangleAt e f c ∷ h .built) (h .rims) ch
           (record {
+            full = p .ls;
+            shows = refl;
             keeps = kept;
             good = gd;
             numbers = numbered-old (s .numbered) (h .built) (triangleAt e f c) (h .fits .numbers) met-f met-e (x, y, j);
             distinct = h .fits .distinct;
           })
-          (subst (λ (l : List Ring). Grows l (p .ls)) (sym sh) (surgery-grows e f ps ws (p .ls) c (p .o) (p .does)))
+          (subst (λ (l : List Ring). Grows l (shownAll (p .ls))) (sym shows) (surgery-grows e f ps ws (p .ls) c (p .o) (opens .1) (p .does)))
           less (omega (arith, less)) (length-set fs (found .number) 1) stays (λ w. absurd (false≢true w))
           (doneOf (readied (t .front) c) m (p .o)) (memoryOf (readied (t .front) c) m (p .o))
           (outcome (omega (arith, below, nn))))
 
   -- the step at a live loop
   pub live-concludes : (t .front .loops .live ≡ 0 → ⊥) → Concludes (moveOf xs fs ns m (t .front .loops)) (flagsOf xs fs m (t .front .loops))
-  live-concludes live = go (progress (s .mesh) (s .left) (h .built) (s .loops) (h .rims) (h .fits .keeps) (h .fits .good) fan)
+  live-concludes live = go (progress (s .mesh) (s .left) (h .built) (h .fits .full) (h .rims) (h .fits .keeps) (h .fits .good) fan)
     where
-      none : s .loops ≡ [] → ⊥
-      none e = live (none-live maxPlaces (t .front .loops) m (ringsIn maxPlaces (t .front .loops) m) (h .standing .stands) (sym (h .standing .loops) ∙ e))
+      none : h .fits .full ≡ [] → ⊥
+      none e = live (none-live maxPlaces (t .front .loops) m (ringsIn maxPlaces (t .front .loops) m) (h .standing .stands) (sym (h .standing .loops) ∙ (h .fits .shows ∙ ap shownAll e)))
 
-      go : ((s .loops ≡ []) × (s .left ≡ [])) ⊎ Goes (s .mesh) (s .left) (h .built) (s .loops) (h .rims)
+      go : ((h .fits .full ≡ []) × (s .left ≡ [])) ⊎ Goes (s .mesh) (s .left) (h .built) (h .fits .full) (h .rims)
           → Concludes (moveOf xs fs ns m (t .front .loops)) (flagsOf xs fs m (t .front .loops))
       go (inl e) = absurd (none (e .0))
       go (inr (by-start x R q sh k gd)) = absurd (none sh)

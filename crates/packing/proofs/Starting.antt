@@ -11,12 +11,13 @@ use Rattle.rules.specs.declared.Counts.{Counts}
 use Rattle.rules.specs.declared.Operation.the-variants.{Start}
 use Rattle.rules.specs.Limits.{maxPlaces, maxTriangles}
 use Rattle.rules.specs.Triangle.{tri, trianglesOf}
-use Rattle.rules.specs.Ring.{opened, Ring, places}
+use Rattle.rules.specs.Ring.{opened, Ring, reached, places}
 use Rattle.rules.specs.Table.{fresh, atRest, effect}
 use Rattle.rules.specs.Choice.{Packing, has, packingAfter, limited, choose}
 use Rattle.fans.specs.Corner.{at-p, at-q, at-r, Rot, In, here}
 use Rattle.fans.specs.Neighbours.{Neighbours}
 use Rattle.chains.specs.Corner.{triangleAt}
+use Rattle.gap.proofs.Working.{none-shown}
 use Rattle.gap.proofs.Steps.{Keeps}
 use Rattle.gap.proofs.Starting.{all-built, keeps-start}
 use Rattle.gap.proofs.Choosing.{Fits, choose-start}
@@ -91,8 +92,8 @@ module _ (v : ℕ) (xs : List ℕ) (s : Packing) (t : Course) (fs ns rest m : Li
 
     before : Keeps (s .mesh) (tri p q r ∷ R) (h .built) [] (h .rims)
     before =
-        subst (λ (ls : List Ring). Keeps (s .mesh) (tri p q r ∷ R) (h .built) ls (h .rims)) no-loop
-        (subst (λ (ts : List Triangle). Keeps (s .mesh) ts (h .built) (s .loops) (h .rims)) first (h .fits .keeps))
+        subst (λ (ls : List Ring). Keeps (s .mesh) (tri p q r ∷ R) (h .built) ls (h .rims)) (none-shown (h .fits .full) (sym (h .fits .shows) ∙ no-loop))
+        (subst (λ (ts : List Triangle). Keeps (s .mesh) ts (h .built) (h .fits .full) (h .rims)) first (h .fits .keeps))
 
     none : (x y z : ℕ) → Rot (tri p q r) x y z → has x (s .numbered) ≡ false
     none x y z w =
@@ -125,8 +126,10 @@ module _ (v : ℕ) (xs : List ℕ) (s : Packing) (t : Course) (fs ns rest m : Li
     chooses = choose-start s (tri p q r) R no-loop first
 
     fits : Fits after (tri p q r ∷ h .built) (h .rims)
-    unfolding after ring
+    unfolding after ring reached
     fits = record {
+      full = ring;
+      shows = refl;
       keeps = keeps-start (s .mesh) R (h .built) (h .rims) p q r before fan;
       good = ((refl, omega arith), tt);
       numbers = numbered-start (s .numbered) (h .built) (tri p q r) (h .fits .numbers);

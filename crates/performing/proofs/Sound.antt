@@ -21,6 +21,7 @@ use Rattle.rules.specs.Build.{viewed}
 use Rattle.book.specs.Consistent.{AllCurrent, Ranges}
 use Rattle.book.specs.Numbers.{NodesBelow, LoopsBelow}
 use Rattle.book.proofs.Counting.{and-left, and-right}
+use Rattle.reading.proofs.Current.{fit-parts, current-loops}
 
 -- the five parts of 21
 pub record Parts (b : Builder) (r : Buffers) : Type 0 where
@@ -144,34 +145,26 @@ sound-ranges b r h =
     }
 
 -- the places' vertices are below the count so far
-below-left : (ps : List Place) (u : ℕ) (is js : List ℕ) → placesFit ps u (is ++ js) ≡ true → (placesFit ps u is ≡ true) × (placesFit ps u js ≡ true)
-unfolding placesFit
-below-left ps u [] js h = (refl, h)
-below-left ps u (i ∷ is) js h =
-    let k = below-left ps u is js (and-right (placeFits ps u i) _ h) in
-    (ap₂ _&&_ (and-left (placeFits ps u i) _ h) (k .0), k .1)
-
 node-vertex : (o : Bool) (v : ℕ) → vertex (elim o [ true ↦ opened v | false ↦ marked v ]) ≡ v
 node-vertex true v = refl
 node-vertex false v = refl
-
-node-open : (o : Bool) (v : ℕ) → isOpen (elim o [ true ↦ opened v | false ↦ marked v ]) ≡ o
-node-open true v = refl
-node-open false v = refl
 
 below-nodes : (ps : List Place) (u : ℕ) (is : List ℕ) → placesFit ps u is ≡ true → NodesBelow u (nodes ps is)
 unfolding placesFit nodes
 below-nodes ps u [] h = tt
 below-nodes ps u (i ∷ is) h =
     let p : Place = placeAt ps i in
-    let k = ltb-true (p .vertex) u (and-right (eqb (placeAt ps (p .after) .before) i) (ltb (p .vertex) u) (and-left (placeFits ps u i) (placesFit ps u is) h)) in
+    let x = eqb (placeAt ps (p .after) .before) i in
+    let k =
+    ltb-true (p .vertex) u
+    (and-right x (ltb (p .vertex) u) (and-left (x && ltb (p .vertex) u) _ (and-left (placeFits ps u i) (placesFit ps u is) h))) in
     (omega (arith, k, node-vertex (p .«open») (p .vertex)), below-nodes ps u is (and-right (placeFits ps u i) (placesFit ps u is) h))
 
 below-loops : (b : Builder) (ps : List Place) (u n : ℕ) → placesFit ps u (placesOf b ps n) ≡ true → LoopsBelow u (loopsOf b ps n)
 unfolding placesOf loopsOf
 below-loops b ps u zero h = tt
 below-loops b ps u (suc n) h =
-    let k = below-left ps u (loopPlaces b ps n) (placesOf b ps n) h in
+    let k = fit-parts ps u (loopPlaces b ps n) (placesOf b ps n) h in
     (below-nodes ps u (loopPlaces b ps n) (k .0), below-loops b ps u n (k .1))
 
 pub sound-below : (b : Builder) (r : Buffers) → sound b r ≡ true → LoopsBelow (viewed b r .used) (viewed b r .loops)
@@ -184,28 +177,14 @@ sound-below b r h =
     (and-right (allBelow maxPlaces is && apart is) (placesFit ps (b .used) is)
     (and-left (allBelow maxPlaces is && apart is && placesFit ps (b .used) is) (loopsFit b ps (b .live)) l))
 
--- the current edges are open
-current-node : (ps : List Place) (k e : ℕ) → 1 ≤ k → placeAt ps e .«open» ≡ true → firstOpen (nodes ps (follow ps k e)) ≡ true
-unfolding nodes follow
-current-node ps zero e l h = absurd (omega arith)
-current-node ps (suc k) e l h = node-open (placeAt ps e .«open») (placeAt ps e .vertex) ∙ h
-
-current-loops : (b : Builder) (ps : List Place) (n : ℕ) → loopsFit b ps n ≡ true → AllCurrent (loopsOf b ps n)
-unfolding loopsFit loopsOf
-current-loops b ps zero h = tt
-current-loops b ps (suc n) h =
-    let e = getD (b .current) n 0 in
-    let k = getD (b .sizes) n 0 in
-    let l = and-left (loopFits b ps n) (loopsFit b ps n) h in
-    let x = leb 1 k && eqb (followed ps k e) e in (
-      current-node ps k e (leb-true 1 k (and-left (leb 1 k) (eqb (followed ps k e) e) (and-left x (placeAt ps e .«open») l))) (and-right x (placeAt ps e .«open») l),
-      current-loops b ps n (and-right (loopFits b ps n) (loopsFit b ps n) h),
-    )
-
+-- the current edges are open, and no place has both edges marked
 pub sound-current : (b : Builder) (r : Buffers) → sound b r ≡ true → AllCurrent (viewed b r .loops)
 unfolding linksFit view
 sound-current b r h =
     let ps = r .places in
     let is = placesOf b ps (b .live) in
-    current-loops b ps (b .live)
-    (and-right (allBelow maxPlaces is && apart is && placesFit ps (b .used) is) (loopsFit b ps (b .live)) (parts b r h .links))
+    let x = allBelow maxPlaces is && apart is in
+    let l = parts b r h .links in
+    current-loops ps b (b .used) (b .live)
+    (and-right x (placesFit ps (b .used) is) (and-left (x && placesFit ps (b .used) is) (loopsFit b ps (b .live)) l))
+    (and-right (x && placesFit ps (b .used) is) (loopsFit b ps (b .live)) l)

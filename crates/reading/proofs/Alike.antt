@@ -1,7 +1,7 @@
 -- Two lists of records with the same first 1,024: the test of 21 says the same of both, and a state that passes is read as the same machine.
 -- Assumes nothing.
 use Prim.Native.Nat.{ℕ, zero, suc, _*_, _<_}
-use mathlib.Core.Bool.{Bool, true, false, _&&_, false≢true}
+use mathlib.Core.Bool.{Bool, true, false, _&&_, false≢true, _||_}
 use mathlib.Core.List.{List, [], _∷_, _++_}
 use mathlib.Core.Path.{_≡_, refl, sym, ap, ap₂, _∙_, subst}
 use lib.Dec.{eqb, ltb, leb}
@@ -92,9 +92,8 @@ module _ (n : ℕ) (ps qs : List Place) (a : Alike n ps qs) where
 
   place-alike : (u i : ℕ) → i < n → placeAt ps i .after < n → placeFits ps u i ≡ true → placeFits qs u i ≡ true
   place-alike u i h g f =
-      ap₂ (λ (y x : ℕ). eqb y i && ltb x u)
-      (ap (λ (y : ℕ). placeAt qs y .before) (after-alike i h) ∙ ap (λ (p : Place). p .before) (a (placeAt ps i .after) g))
-      (ap (λ (p : Place). p .vertex) (a i h))
+      ap₂ (λ (q p : Place). eqb (q .before) i && ltb (p .vertex) u && (p .«open» || q .«open»))
+      (ap (placeAt qs) (after-alike i h) ∙ a (placeAt ps i .after) g) (a i h)
       ∙ f
 
   fit-alike : (u k e : ℕ) → allBelow n (follow ps k e) ≡ true → followed ps k e < n → placesFit ps u (follow ps k e) ≡ true

@@ -158,7 +158,7 @@ links-fit b m rs live has t a c u =
     both _ _
     (both _ _
     (both _ _ (ap (allBelow maxPlaces) e ∙ rings-below maxPlaces m rs t) (ap apart e ∙ rings-apart rs a))
-    (ap (placesFit (records maxPlaces m) (b .used)) e ∙ rings-fit maxPlaces m (b .used) rs t u))
+    (ap (placesFit (records maxPlaces m) (b .used)) e ∙ rings-fit maxPlaces m (b .used) rs t u c))
     (ap (loopsFit b (records maxPlaces m)) live ∙ fits-has b maxPlaces m rs has t c)
 
 module _ (f : Front) (m xs : List ℕ) (M : Machine) (k : Keeps maxPlaces f m M) (few : f .loops .live ≤ maxLoops)

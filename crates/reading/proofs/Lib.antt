@@ -6,3 +6,4 @@ pub mod Flags
 pub mod Alike
 pub mod Lifting
 pub mod Sound
+pub mod Current

@@ -2,7 +2,7 @@
 -- Assumes nothing.
 use Prim.Native.Nat.{ℕ, suc, _+_, _*_, _≤_, _<_}
 use native.Mathlib.Omega.{arith}
-use mathlib.Core.Bool.{Bool, true, false, _&&_, false≢true}
+use mathlib.Core.Bool.{Bool, true, false, _&&_, _||_, not, false≢true}
 use mathlib.Core.List.{List, [], _∷_, _++_}
 use mathlib.Core.Path.{_≡_, refl, sym, ap, ap₂, _∙_, subst}
 use lib.Dec.{eqb, ltb, leb}
@@ -16,16 +16,35 @@ use Rattle.rules.specs.View.{placeAt, follow, followed, nodeOf, nodes}
 use Rattle.rules.specs.Test21.{apart, placeFits, placesFit}
 use Rattle.book.specs.Sums.{pathSum, ringSum, loopsSum}
 use Rattle.book.specs.Numbers.{NodesBelow, LoopsBelow}
+use Rattle.shown.specs.Spaced.{Spaced}
+use Rattle.book.specs.Consistent.{AllCurrent}
 use Rattle.book.proofs.Counting.{and-left, and-right, same-yes}
 use Rattle.links.specs.Memory.{nodeFrom, named, namedRing, namedLoops, placed, Apart}
 use Rattle.links.proofs.Named.{named-vertex}
 use Rattle.places.specs.Memory.{isOne, records}
-use Rattle.memory.specs.Layout.{at, verticesOf}
+use Rattle.memory.specs.Layout.{at, openOf, verticesOf}
 use Rattle.memory.proofs.Columns.{column-at}
 use Rattle.memory.proofs.Standing.{Hop, Trail, Trails}
 use Rattle.reading.specs.Walks.{Walk, ringPlaces, ringsPlaces}
 use Rattle.reading.proofs.Records.{records-at}
 use Rattle.reading.proofs.Walks.{after-at, node-at}
+
+-- of two neighbours one edge is open
+abbrev openOr : List Node → Bool
+openOr [] = true
+openOr (p ∷ ps) = isOpen p
+
+one-open : (p : Node) (ps : List Node) (k : Bool) → Spaced (p ∷ ps) k → isOpen p || openOr ps ≡ true
+one-open (opened v) ps k s = refl
+one-open (marked v) [] k s = refl
+one-open (marked v) (opened w ∷ ps) k s = refl
+one-open (marked v) (marked w ∷ ps) true s = absurd s
+one-open (marked v) (marked w ∷ ps) false s = absurd s
+
+spaced-rest : (p : Node) (ps : List Node) (k : Bool) → Spaced (p ∷ ps) k → Spaced ps (not (isOpen p))
+spaced-rest (opened v) ps k s = s
+spaced-rest (marked v) ps true s = absurd s
+spaced-rest (marked v) ps false s = s
 
 pub both : (a b : Bool) → a ≡ true → b ≡ true → a && b ≡ true
 both a b h g = ap₂ _&&_ h g
@@ -94,22 +113,38 @@ module _ (n : ℕ) (m : List ℕ) where
       plus : 4 * vertex p ≡ 4 * vertex p + 0
       plus = omega arith
 
-  hop-fits : (u : ℕ) (p : Node) (y : ℕ) → y < n → Hop n m (vertex p) y (isOpen p) → vertex (named (verticesOf n m) p) < u
-      → placeFits (records n m) u (vertex p) ≡ true
-  hop-fits u p y l h g =
-      both _ _ (eq-eqb _ _ back) (lt-ltb _ _ (subst (λ (x : ℕ). x < u) (sym (vertex-at p (h .near))) g))
+  flag-at : (x : ℕ) (o : Bool) → x < n → openOf m x ≡ num o → placeAt (records n m) x .«open» ≡ o
+  flag-at x o h e = ap (λ (r : Place). r .«open») (records-at n m x h) ∙ ap isOne e ∙ one-is o
+    where
+      one-is : (t : Bool) → isOne (num t) ≡ t
+      one-is true = refl
+      one-is false = refl
+
+  hop-fits : (u : ℕ) (p : Node) (y : ℕ) (o : Bool) → y < n → Hop n m (vertex p) y (isOpen p) → vertex (named (verticesOf n m) p) < u → openOf m y ≡ num o
+      → isOpen p || o ≡ true → placeFits (records n m) u (vertex p) ≡ true
+  hop-fits u p y o l h g q w =
+      both _ _ (both _ _ (eq-eqb _ _ back) (lt-ltb _ _ (subst (λ (x : ℕ). x < u) (sym (vertex-at p (h .near))) g)))
+      (ap₂ _||_ (flag-at (vertex p) (isOpen p) (h .near) (h .mark))
+      (ap (λ (x : ℕ). placeAt (records n m) x .«open») (hop-after (vertex p) y (isOpen p) h) ∙ flag-at y o l q) ∙ w)
     where
       back : placeAt (records n m) (placeAt (records n m) (vertex p) .after) .before ≡ vertex p
       back =
           ap (λ (x : ℕ). placeAt (records n m) x .before) (hop-after (vertex p) y (isOpen p) h)
           ∙ ap (λ (r : Place). r .before) (records-at n m y l) ∙ h .back
 
-  trail-fits : (u : ℕ) (ps : List Node) (b : ℕ) → b < n → Trail n m ps b → NodesBelow u (namedRing (verticesOf n m) ps)
-      → placesFit (records n m) u (ringPlaces ps) ≡ true
+  -- whether the edge after a run's first place is open; the run leads to a place whose edge is
+  start-mark : (ps : List Node) (b : ℕ) → openOf m b ≡ 1 → Trail n m ps b → openOf m (startOr b ps) ≡ num (openOr ps)
+  start-mark [] b h t = h
+  start-mark (p ∷ ps) b h t = t .0 .mark
+
+  trail-fits : (u : ℕ) (ps : List Node) (b : ℕ) (k : Bool) → b < n → Trail n m ps b → NodesBelow u (namedRing (verticesOf n m) ps) → openOf m b ≡ 1
+      → Spaced ps k → placesFit (records n m) u (ringPlaces ps) ≡ true
   unfolding placesFit ringPlaces namedRing
-  trail-fits u [] b l t g = refl
-  trail-fits u (p ∷ ps) b l t g =
-      both _ _ (hop-fits u p (startOr b ps) (start-trail ps b l (t .1)) (t .0) (g .0)) (trail-fits u ps b l (t .1) (g .1))
+  trail-fits u [] b k l t g h s = refl
+  trail-fits u (p ∷ ps) b k l t g h s =
+      both _ _
+      (hop-fits u p (startOr b ps) (openOr ps) (start-trail ps b l (t .1)) (t .0) (g .0) (start-mark ps b h (t .1)) (one-open p ps k s))
+      (trail-fits u ps b (not (isOpen p)) l (t .1) (g .1) h (spaced-rest p ps k s))
 
   -- a loop whose first edge is open
   pub loop-fits : (l : Ring) → firstOpen l ≡ true → Trail n m l (startOr 0 l)
@@ -168,15 +203,15 @@ module _ (n : ℕ) (m : List ℕ) where
   rings-below [] t = refl
   rings-below (l ∷ ls) t = below-append n (ringPlaces l) (ringsPlaces ls) (trail-below n m l (startOr 0 l) (t .0)) (rings-below ls (t .1))
 
-  ring-fits : (u : ℕ) (l : Ring) → Trail n m l (startOr 0 l) → NodesBelow u (namedRing (verticesOf n m) l)
+  ring-fits : (u : ℕ) (l : Ring) → Trail n m l (startOr 0 l) → NodesBelow u (namedRing (verticesOf n m) l) → firstOpen l ≡ true → Spaced l false
       → placesFit (records n m) u (ringPlaces l) ≡ true
   unfolding placesFit ringPlaces
-  ring-fits u [] t g = refl
-  ring-fits u (p ∷ ps) t g = trail-fits n m u (p ∷ ps) (vertex p) (t .0 .near) t g
+  ring-fits u [] t g o s = refl
+  ring-fits u (p ∷ ps) t g o s = trail-fits n m u (p ∷ ps) (vertex p) false (t .0 .near) t g (t .0 .mark ∙ ap num o) s
 
-  pub rings-fit : (u : ℕ) (rs : List Ring) → Trails n m rs → LoopsBelow u (namedLoops (verticesOf n m) rs)
+  pub rings-fit : (u : ℕ) (rs : List Ring) → Trails n m rs → LoopsBelow u (namedLoops (verticesOf n m) rs) → AllCurrent rs
       → placesFit (records n m) u (ringsPlaces rs) ≡ true
   unfolding ringsPlaces placesFit namedLoops
-  rings-fit u [] t g = refl
-  rings-fit u (l ∷ ls) t g =
-      fit-append (records n m) u (ringPlaces l) (ringsPlaces ls) (ring-fits u l (t .0) (g .0)) (rings-fit u ls (t .1) (g .1))
+  rings-fit u [] t g c = refl
+  rings-fit u (l ∷ ls) t g c =
+      fit-append (records n m) u (ringPlaces l) (ringsPlaces ls) (ring-fits u l (t .0) (g .0) (c .0) (c .2)) (rings-fit u ls (t .1) (g .1) (c .1))

@@ -9,10 +9,10 @@ use lib.ListN.{length, set}
 use lib.Dec.{eqb, leb}
 use borrow.Author.Tests.{le-leb, lt-leb, eq-eqb, ne-eqb}
 use Rattle.memory.specs.declared.Loops.{Loops}
-use Rattle.memory.specs.Layout.{at, vertexOf, beforeOf, afterOf, openOf, edgeStored, edgesStored, freed, released, walked, sought, waits, movedDown}
-use Rattle.memory.specs.Moves.{Held, turnedBy, splitBy, topFree, newHeld, forwardHeld, backwardHeld, endedHeld, markedHeld, doubled, splitHeld, unionHeld, startHeld}
-use Rattle.memory.specs.Near.{Near}
-use Rattle.memory.proofs.Near.{near-marked, near-ahead, near-sought}
+use Rattle.memory.specs.Layout.{at, vertexOf, beforeOf, afterOf, openOf, edgeStored, edgesStored, freed, released, walked, waits, movedDown}
+use Rattle.memory.specs.Moves.{Held, turnedBy, splitBy, topFree, newHeld, forwardHeld, backwardHeld, endedHeld, turnedHeld, cutBy, nextCut, lastCut, bothCut, markedHeld, doubled, splitHeld, unionHeld, startHeld}
+use Rattle.memory.specs.Near.{Near, Borders}
+use Rattle.memory.proofs.Near.{near-f, near-marked}
 
 module _ (n : ℕ) (l : Loops) (m : List ℕ) where
   pub new-memory : (u q f : ℕ) (m₁ m₂ m₃ : List ℕ) → q ≡ topFree n l m → f ≡ afterOf m (l .current) → m₁ ≡ set m (4 * q) u → m₂ ≡ edgeStored m₁ q f 1
@@ -64,30 +64,65 @@ module _ (n : ℕ) (l : Loops) (m : List ℕ) where
     pub mark-near : Near n l m₁
     mark-near = near-marked n l m m₁ f 0 h ef em
 
-    pub mark-seek : (j : ℕ) → j < l .size → 4 * walked m₁ j f + 3 < length m₁
-    mark-seek j k = omega (arith, near-ahead n l m m₁ f 0 h ef em j (omega (arith, k)), mark-near .long)
+    pub mark-next : 4 * f + 3 < length m₁
+    mark-next = omega (arith, ef, near-f n l m h, mark-near .long)
 
-    pub mark-found : (p : ℕ) → p ≡ sought m₁ (l .size) f → 4 * p + 3 < length m₁
-    mark-found p e = rw e (omega (arith, near-sought n l m m₁ f 0 h ef em, mark-near .long))
+    marked-is : turnedHeld n l m ≡ turnedBy (eqb (openOf m₁ f) 0) n l m₁ f
+    unfolding turnedHeld edgesStored
+    marked-is =
+        let by : ℕ → List ℕ → Held = λ x y. turnedBy (eqb (openOf y x) 0) n l y x in
+        ap (λ (x : ℕ). by x (edgeStored m (l .current) x 0)) (sym ef) ∙ ap (by f) (sym em)
 
-    marked-is : (p : ℕ) → p ≡ sought m₁ (l .size) f → markedHeld n l m ≡ turnedBy (eqb (openOf m₁ p) 0) n l m₁ p
-    unfolding markedHeld edgesStored
-    marked-is p e =
-        let by : ℕ → List ℕ → Held = λ x y. turnedBy (eqb (openOf y (sought y (l .size) x)) 0) n l y (sought y (l .size) x) in
-        ap (λ (x : ℕ). by x (edgeStored m (l .current) x 0)) (sym ef) ∙ ap (by f) (sym em) ∙ ap (λ (x : ℕ). turnedBy (eqb (openOf m₁ x) 0) n l m₁ x) (sym e)
-
-    pub mark-ended : (p o : ℕ) (r : Loops) (m₂ : List ℕ) → p ≡ sought m₁ (l .size) f → o ≡ openOf m₁ p → o ≡ 0 → r ≡ endedHeld n l m₁ .loops
-        → m₂ ≡ endedHeld n l m₁ .memory → (r ≡ markedHeld n l m .loops) × (m₂ ≡ markedHeld n l m .memory)
-    mark-ended p o r m₂ ep eo z er em₂ =
-        let e : markedHeld n l m ≡ endedHeld n l m₁ = marked-is p ep ∙ ap (λ (x : Bool). turnedBy x n l m₁ p) (eq-eqb (openOf m₁ p) 0 (sym eo ∙ z)) in
+    pub mark-ended : (o : ℕ) (r : Loops) (m₂ : List ℕ) → o ≡ openOf m₁ f → o ≡ 0 → r ≡ endedHeld n l m₁ .loops → m₂ ≡ endedHeld n l m₁ .memory
+        → (r ≡ turnedHeld n l m .loops) × (m₂ ≡ turnedHeld n l m .memory)
+    mark-ended o r m₂ eo z er em₂ =
+        let e : turnedHeld n l m ≡ endedHeld n l m₁ = marked-is ∙ ap (λ (x : Bool). turnedBy x n l m₁ f) (eq-eqb (openOf m₁ f) 0 (sym eo ∙ z)) in
         (er ∙ ap (λ (x : Held). x .loops) (sym e), em₂ ∙ ap (λ (x : Held). x .memory) (sym e))
 
-    pub mark-on : (p o : ℕ) → p ≡ sought m₁ (l .size) f → o ≡ openOf m₁ p → (o ≡ 0 → ⊥)
-        → (record { live = l .live; current = p; size = l .size; free = l .free } ≡ markedHeld n l m .loops) × (m₁ ≡ markedHeld n l m .memory)
-    mark-on p o ep eo z =
-        let e : markedHeld n l m ≡ turnedBy false n l m₁ p =
-        marked-is p ep ∙ ap (λ (x : Bool). turnedBy x n l m₁ p) (ne-eqb (openOf m₁ p) 0 (λ y. z (eo ∙ y))) in
+    pub mark-on : (o : ℕ) → o ≡ openOf m₁ f → (o ≡ 0 → ⊥)
+        → (record { live = l .live; current = f; size = l .size; free = l .free } ≡ turnedHeld n l m .loops) × (m₁ ≡ turnedHeld n l m .memory)
+    mark-on o eo z =
+        let e : turnedHeld n l m ≡ turnedBy false n l m₁ f =
+        marked-is ∙ ap (λ (x : Bool). turnedBy x n l m₁ f) (ne-eqb (openOf m₁ f) 0 (λ y. z (eo ∙ y))) in
         (ap (λ (x : Held). x .loops) (sym e), ap (λ (x : Held). x .memory) (sym e))
+
+  -- the places that leave at a border
+  pub next-leaves : (f o : ℕ) (r : Loops) (m₁ : List ℕ) → f ≡ afterOf m (l .current) → o ≡ openOf m f → o ≡ 0
+      → (r ≡ forwardHeld n l m .loops) × (m₁ ≡ forwardHeld n l m .memory) → (r ≡ nextCut n l m .loops) × (m₁ ≡ nextCut n l m .memory)
+  unfolding nextCut
+  next-leaves f o r m₁ ef eo z h = let t : openOf m (afterOf m (l .current)) ≡ 0 = ap (openOf m) (sym ef) ∙ sym eo ∙ z in rw t h
+
+  pub next-stays : (f o : ℕ) → f ≡ afterOf m (l .current) → o ≡ openOf m f → (o ≡ 0 → ⊥)
+      → (l ≡ nextCut n l m .loops) × (m ≡ nextCut n l m .memory)
+  unfolding nextCut
+  next-stays f o ef eo z =
+      let t : eqb (openOf m (afterOf m (l .current))) 0 ≡ false = ne-eqb _ 0 (λ y. z (eo ∙ ap (openOf m) ef ∙ y)) in rw t (refl, refl)
+
+  pub last-leaves : (c o : ℕ) (r : Loops) (m₁ : List ℕ) → c ≡ beforeOf m (l .current) → o ≡ openOf m c → o ≡ 0
+      → (r ≡ backwardHeld n l m .loops) × (m₁ ≡ backwardHeld n l m .memory) → (r ≡ lastCut n l m .loops) × (m₁ ≡ lastCut n l m .memory)
+  unfolding lastCut
+  last-leaves c o r m₁ ec eo z h = let t : openOf m (beforeOf m (l .current)) ≡ 0 = ap (openOf m) (sym ec) ∙ sym eo ∙ z in rw t h
+
+  pub last-stays : (c o : ℕ) → c ≡ beforeOf m (l .current) → o ≡ openOf m c → (o ≡ 0 → ⊥)
+      → (l ≡ lastCut n l m .loops) × (m ≡ lastCut n l m .memory)
+  unfolding lastCut
+  last-stays c o ec eo z =
+      let t : eqb (openOf m (beforeOf m (l .current))) 0 ≡ false = ne-eqb _ 0 (λ y. z (eo ∙ ap (openOf m) ec ∙ y)) in rw t (refl, refl)
+
+  -- a whole border
+  pub border-next : (a : Loops) (m₁ : List ℕ) → Borders n l m → (a ≡ nextCut n l m .loops) × (m₁ ≡ nextCut n l m .memory) → Near n a m₁
+  border-next a m₁ h e = let x = e .0 in let y = e .1 in rw (x, y) (h .next)
+
+  pub border-last : (a b : Loops) (m₁ m₂ : List ℕ) → Borders n l m → (a ≡ nextCut n l m .loops) × (m₁ ≡ nextCut n l m .memory)
+      → (b ≡ lastCut n a m₁ .loops) × (m₂ ≡ lastCut n a m₁ .memory) → Near n b m₂
+  border-last a b m₁ m₂ h e f = let x = e .0 in let y = e .1 in let z = f .0 in let w = f .1 in rw (z, w, x, y) (h .last)
+
+  pub border-done : (a b r : Loops) (m₁ m₂ m₃ : List ℕ) → (a ≡ nextCut n l m .loops) × (m₁ ≡ nextCut n l m .memory)
+      → (b ≡ lastCut n a m₁ .loops) × (m₂ ≡ lastCut n a m₁ .memory) → (r ≡ turnedHeld n b m₂ .loops) × (m₃ ≡ turnedHeld n b m₂ .memory)
+      → (r ≡ markedHeld n l m .loops) × (m₃ ≡ markedHeld n l m .memory)
+  unfolding markedHeld
+  border-done a b r m₁ m₂ m₃ e f g =
+      let x = e .0 in let y = e .1 in let z = f .0 in let w = f .1 in let p = g .0 in let q = g .1 in rw (p, q, z, w, x, y) (refl, refl)
 
   -- a split
   split-is : (i c q : ℕ) (m₁ : List ℕ) (t : Bool) → q ≡ topFree n l m → m₁ ≡ doubled n l m c → leb (i + 1) (l .size - i) ≡ t

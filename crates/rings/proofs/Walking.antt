@@ -2,12 +2,10 @@
 -- Assumes nothing.
 use Prim.Native.Nat.{ℕ, zero, suc, _+_, _-_, _*_, _≤_, _<_}
 use native.Mathlib.Omega.{arith}
-use mathlib.Core.Bool.{true, false}
 use mathlib.Core.List.{List}
-use mathlib.Core.Path.{_≡_, refl, sym, _∙_, subst}
+use mathlib.Core.Path.{_≡_, refl, sym, _∙_}
 use lib.ListN.{length}
-use borrow.Author.Tests.{eq-eqb, ne-eqb}
-use Rattle.memory.specs.Layout.{afterOf, openOf, walked, sought}
+use Rattle.memory.specs.Layout.{afterOf, walked}
 
 -- a walk of i places from p: at place x, k are left
 pub record Walks (m : List ℕ) (i p k x : ℕ) : Type 0 where
@@ -38,33 +36,3 @@ pub walks-done : (m : List ℕ) (i p k x : ℕ) → Walks m i p k x → k ≤ 0 
 unfolding walked
 walks-done m i p zero x w l = w .ends
 walks-done m i p (suc k) x w l = absurd (omega arith)
-
--- a search for an open edge
-pub record Seeks (m : List ℕ) (i p k x : ℕ) : Type 0 where
-  pub ends : sought m k x ≡ sought m i p
-  pub near : (j : ℕ) → j < k → 4 * walked m j x + 3 < length m
-
-pub seeks-start : (m : List ℕ) (i p : ℕ) → ((j : ℕ) → j < i → 4 * walked m j p + 3 < length m) → Seeks m i p i p
-seeks-start m i p h = record { ends = refl; near = h }
-
-pub seeks-found : (m : List ℕ) (i p k x o : ℕ) → Seeks m i p k x → 0 < k → o ≡ openOf m x → (o ≡ 0 → ⊥) → x ≡ sought m i p
-unfolding sought
-seeks-found m i p zero x o w l e z = absurd (omega arith)
-seeks-found m i p (suc k) x o w l e z =
-    subst (λ t. elim t [ true ↦ sought m k (afterOf m x) | false ↦ x ] ≡ sought m i p) (ne-eqb (openOf m x) 0 (λ y. z (e ∙ y))) (w .ends)
-
-pub seeks-more : (m : List ℕ) (i p k x y o : ℕ) → Seeks m i p k x → y ≡ afterOf m x → 0 < k → o ≡ openOf m x → o ≡ 0 → Seeks m i p (k - 1) y
-unfolding sought
-seeks-more m i p zero x y o w e l a z = absurd (omega arith)
-seeks-more m i p (suc k) x y o w e l a z =
-    let d : suc k - 1 ≡ k = omega arith in
-    record {
-      ends =
-          rw (d, e) (subst (λ t. elim t [ true ↦ sought m k (afterOf m x) | false ↦ x ] ≡ sought m i p) (eq-eqb (openOf m x) 0 (sym a ∙ z)) (w .ends));
-      near = near-more m (suc k) x y (w .near) e l;
-    }
-
-pub seeks-done : (m : List ℕ) (i p k x : ℕ) → Seeks m i p k x → k ≤ 0 → x ≡ sought m i p
-unfolding sought
-seeks-done m i p zero x w l = w .ends
-seeks-done m i p (suc k) x w l = absurd (omega arith)

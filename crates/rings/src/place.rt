@@ -2,7 +2,7 @@
 ghost use mathlib.Core.Path.{_≡_};
 ghost use Prim.Native.Nat.{ℕ, _+_, _*_, _≤_, _<_};
 ghost use lib.ListN.{length, set};
-ghost use Rattle.memory.specs.Layout.{at, vertexOf, beforeOf, afterOf, openOf, edgeStored, freed, walked, sought};
+ghost use Rattle.memory.specs.Layout.{at, vertexOf, beforeOf, afterOf, openOf, edgeStored, freed, walked};
 ghost use Rattle.memory.specs.Decision.{isOpenAt};
 
 // The vertex of place p.
@@ -81,23 +81,6 @@ pub fn walk(m: &[u16], i: u16, p: u16) -> u16
     let mut at = p;
     let mut left = i;
     while 0 < left {
-        at = after_of(m, at);
-        left -= 1;
-    }
-    at
-}
-
-// The first place from p on whose edge is open, or else the place k places after p.
-pub fn seek(m: &[u16], k: u16, p: u16) -> u16
-    requires { ⌜ ((j : ℕ) → j < k → 4 * walked (now m) j p + 3 < length (now m)) ⌝ }
-    ensures { λ r. ⌜ r ≡ sought (now (m .entry)) k p ⌝ }
-{
-    let mut at = p;
-    let mut left = k;
-    while 0 < left {
-        if open_of(m, at) != 0 {
-            return at;
-        }
         at = after_of(m, at);
         left -= 1;
     }

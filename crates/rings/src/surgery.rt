@@ -3,7 +3,6 @@ use crate::place::after_of;
 use crate::place::before_of;
 use crate::place::free_place;
 use crate::place::open_of;
-use crate::place::seek;
 use crate::place::set_vertex;
 use crate::place::store_edge;
 use crate::place::vertex_of;
@@ -17,8 +16,8 @@ ghost use mathlib.Core.Path.{_≡_};
 ghost use Prim.Native.Nat.{_+_, _*_, _-_, _≤_, _<_};
 ghost use lib.ListN.{length};
 ghost use Rattle.memory.specs.Layout.{at};
-ghost use Rattle.memory.specs.Moves.{newHeld, forwardHeld, backwardHeld, endedHeld, markedHeld, doubled, splitHeld, unionHeld, startHeld};
-ghost use Rattle.memory.specs.Near.{Near, Doubles, Starts};
+ghost use Rattle.memory.specs.Moves.{newHeld, forwardHeld, backwardHeld, endedHeld, turnedHeld, nextCut, lastCut, markedHeld, doubled, splitHeld, unionHeld, startHeld};
+ghost use Rattle.memory.specs.Near.{Near, Borders, Doubles, Starts};
 
 // New: a free place goes between the current place and the next. It gets vertex u and is current.
 pub fn grow(m: &mut [u16], n: usize, l: Loops, u: u16) -> Loops
@@ -129,24 +128,61 @@ pub fn double(m: &mut [u16], n: usize, l: Loops, c: u16)
     store_edge(m, q, f, 1);
 }
 
-// Border: the current edge is marked, and the next open edge along the loop is current; if there is none, the loop ends.
-pub fn mark_edge(m: &mut [u16], n: usize, l: Loops) -> Loops
+// The place after the current one leaves if its edge is marked, as the current edge will be.
+fn leave_next(m: &mut [u16], n: usize, l: Loops) -> Loops
     requires { ⌜ Near n l (now m) ⌝ }
+    ensures loops { λ r. ⌜ r ≡ nextCut n l (now (m .entry)) .loops ⌝ }
+    ensures memory { λ _. ⌜ now (m .exit) ≡ nextCut n l (now (m .entry)) .memory ⌝ }
+{
+    let e = l.current;
+    let f = after_of(m, e);
+    if open_of(m, f) == 0 {
+        return cut_next(m, n, l);
+    }
+    l
+}
+
+// The current place leaves if the edge before it is marked, as the current edge will be.
+fn leave_current(m: &mut [u16], n: usize, l: Loops) -> Loops
+    requires { ⌜ Near n l (now m) ⌝ }
+    ensures loops { λ r. ⌜ r ≡ lastCut n l (now (m .entry)) .loops ⌝ }
+    ensures memory { λ _. ⌜ now (m .exit) ≡ lastCut n l (now (m .entry)) .memory ⌝ }
+{
+    let e = l.current;
+    let c = before_of(m, e);
+    if open_of(m, c) == 0 {
+        return cut_current(m, n, l);
+    }
+    l
+}
+
+// Border: up to two places leave, then the current edge is marked.
+pub fn mark_border(m: &mut [u16], n: usize, l: Loops) -> Loops
+    requires { ⌜ Borders n l (now m) ⌝ }
     ensures loops { λ r. ⌜ r ≡ markedHeld n l (now (m .entry)) .loops ⌝ }
     ensures memory { λ _. ⌜ now (m .exit) ≡ markedHeld n l (now (m .entry)) .memory ⌝ }
 {
+    let a = leave_next(m, n, l);
+    let b = leave_current(m, n, a);
+    mark_edge(m, n, b)
+}
+
+// The current edge is marked. The next one is open and becomes current; where it is not, the loop has one place left, and ends.
+fn mark_edge(m: &mut [u16], n: usize, l: Loops) -> Loops
+    requires { ⌜ Near n l (now m) ⌝ }
+    ensures loops { λ r. ⌜ r ≡ turnedHeld n l (now (m .entry)) .loops ⌝ }
+    ensures memory { λ _. ⌜ now (m .exit) ≡ turnedHeld n l (now (m .entry)) .memory ⌝ }
+{
     let e = l.current;
-    let size = l.size;
     let f = after_of(m, e);
     store_edge(m, e, f, 0);
-    let p = seek(m, size, f);
-    if open_of(m, p) == 0 {
+    if open_of(m, f) == 0 {
         return end_loop(m, n, l);
     }
     Loops {
         live: l.live,
-        current: p,
-        size,
+        current: f,
+        size: l.size,
         free: l.free,
     }
 }
@@ -154,7 +190,7 @@ pub fn mark_edge(m: &mut [u16], n: usize, l: Loops) -> Loops
 // Split: the loop falls in two, of i + 1 places and of the others. The shorter goes on; the other waits.
 pub fn split_loop(m: &mut [u16], n: usize, l: Loops, i: u16, c: u16) -> Loops
     requires { ⌜ Near n l (now m) × Doubles n l (now m) c ⌝ }
-    requires { ⌜ (i + 3 ≤ l .size) × (l .live < 65535) × (5 * n + 2 * (l .live + 1) ≤ length (now m)) ⌝ }
+    requires { ⌜ (i + 2 ≤ l .size) × (l .live < 65535) × (5 * n + 2 * (l .live + 1) ≤ length (now m)) ⌝ }
     ensures loops { λ r. ⌜ r ≡ splitHeld n l (now (m .entry)) i c .loops ⌝ }
     ensures memory { λ _. ⌜ now (m .exit) ≡ splitHeld n l (now (m .entry)) i c .memory ⌝ }
 {

@@ -6,7 +6,7 @@ use mathlib.Core.Bool.{Bool, true, false}
 use mathlib.Core.List.{List, [], _∷_, _++_}
 use mathlib.Core.Path.{_≡_, refl, sym, ap, ap₂, _∙_, subst}
 use mathlib.Core.Logic.{_⊎_, inl, inr}
-use lib.ListN.{length}
+use lib.ListN.{length, drop}
 use lib.Dec.{leb}
 use Rattle.rules.specs.declared.Triangle.{Triangle}
 use Rattle.rules.specs.declared.Across.{Across}
@@ -14,9 +14,9 @@ use Rattle.rules.specs.declared.Across.the-variants.{Found, Nothing}
 use Rattle.rules.specs.declared.Operation.{Operation}
 use Rattle.rules.specs.declared.Operation.the-variants.{New, Border, Start}
 use Rattle.rules.specs.Across.{inTriangle, across}
-use Rattle.rules.specs.Ring.{Node, opened, Ring, vertex, startOr, places}
+use Rattle.rules.specs.Ring.{Node, opened, Ring, vertex, startOr, places, loopAt}
 use Rattle.rules.specs.Table.{Effect, not-allowed, builds, marks, atEdge}
-use Rattle.rules.specs.Choice.{Packing, has, dropTriangle, turnIn, turnOut, nowhere, spot, spotOf, operationFor, sizeOf, following, choosePlace, Next, ended, refuses, takes, limited, choose}
+use Rattle.rules.specs.Choice.{Packing, has, dropTriangle, turnIn, turnOut, nowhere, spot, spotOf, operationFor, sizeOf, following, choosePlace, Next, ended, refuses, takes, limited, choose, afterCurrent}
 use Rattle.rules.specs.Pack.{Chosen, stopped, chosen, cons, chooseAll}
 use Rattle.fans.specs.Corner.{at-p, at-q, at-r, In, here, there, Once}
 use Rattle.fans.proofs.Corners.{in-next}
@@ -77,8 +77,8 @@ place-same a b c ts us ls s =
     let q : turnOut (length ts) c a ts ≡ turnOut (length us) c a us =
     turn-out-same (length ts) c a ts us s ∙ ap (λ (n : ℕ). turnOut n c a us) (s .count) in
     ap₂ (λ (x y : ℕ). elim (spotOf 0 x c ls) [
-      | spot l i ↦ operationFor (sizeOf ls 0) l (following (sizeOf ls l) i)
-      | nowhere ↦ elim (spotOf 0 c y ls) [ spot l i ↦ operationFor (sizeOf ls 0) l i | nowhere ↦ Border ]
+      | spot l i ↦ operationFor (afterCurrent ls) l (following (sizeOf ls l) i)
+      | nowhere ↦ elim (spotOf 0 c y ls) [ spot l i ↦ operationFor (afterCurrent ls) l i | nowhere ↦ Border ]
     ]) p q
 
 -- the triangle that is built taken out of both

@@ -56,7 +56,7 @@ module _ (v : ℕ) (xs : List ℕ) (r : PackBuffers) (n : ℕ) (p : PackedBy mos
   abbrev s : Packing
   s = p .last
 
-  c : Complete (nothingBuilt most (trianglesOf xs)) [] [] (p .operations) (p .last)
+  c : Complete (nothingBuilt most (trianglesOf xs)) [] [] [] (p .operations) (p .last)
   c = whole v xs os s (p .accepted) (p .chose)
 
   good : Packable v (trianglesOf xs)

@@ -1,10 +1,10 @@
 -- A complete packing within the limits: its counts are in range, its indices fit their widths, and its pack is short enough.
 -- Assumes nothing.
-use Prim.Native.Nat.{ℕ, _+_, _*_, _%_, _≤_, _<_}
+use Prim.Native.Nat.{ℕ, suc, _+_, _*_, _%_, _≤_, _<_}
 use native.Mathlib.Omega.{arith}
-use mathlib.Core.Bool.{true, _&&_}
+use mathlib.Core.Bool.{true, false, _&&_, not}
 use mathlib.Core.List.{List, [], _∷_, _++_, append-assoc}
-use mathlib.Core.Path.{_≡_, refl, ap, _∙_}
+use mathlib.Core.Path.{_≡_, refl, ap, _∙_, subst}
 use lib.ListN.{length, length-append}
 use lib.Dec.{leb, eqb}
 use borrow.Author.Tests.{le-leb, leb-true, eqb-true}
@@ -15,18 +15,20 @@ use Rattle.rules.specs.declared.Checked.the-variants.{Accepted}
 use Rattle.rules.specs.Limits.{maxNumbers, minVertices, maxVertices, maxTriangles, minPlaces, maxPlaces, maxLoops, between, vertexRange, inRange}
 use Rattle.rules.specs.Triangle.{trianglesOf}
 use Rattle.rules.specs.Check.{check}
-use Rattle.rules.specs.Ring.{Node, Ring, places}
+use Rattle.rules.specs.Ring.{Node, Ring, isOpen, reached, places}
 use Rattle.rules.specs.Code.{operationBits, operationsBits, readOperation}
 use Rattle.rules.specs.Bits.{bytesOf}
 use Rattle.rules.specs.Choice.{Packing}
 use Rattle.rules.specs.Pack.{chosen, most, nothingBuilt, chosenFor}
+use Rattle.shown.specs.Shown.{shownAll, Live}
+use Rattle.shown.proofs.Shown.{reached-cut, all-shown-append, all-shown-length, live-split, waiting-shown}
 use Rattle.gap.specs.Surgery.{Surgery, on-new, on-forward, on-backward, on-close, on-split, on-union}
 use Rattle.gap.specs.Tally.{allOpenEdges}
 use Rattle.gap.specs.Works.{Reads, none-read, one-read}
 use Rattle.gap.proofs.Bools.{and-true}
 use Rattle.gap.proofs.Falling.{build-opens, border-opens}
 use Rattle.gap.proofs.Runs.{Run, r-done, r-start, r-build, r-border}
-use Rattle.gap.proofs.Tracking.{Within, peak-within}
+use Rattle.gap.proofs.Tracking.{shownPlaces, shownLoops, Within, peak-within}
 use Rattle.gap.proofs.Whole.{Complete}
 use Rattle.gap.proofs.RoundTrip.{statedBy}
 use Rattle.fans.proofs.Checks.{check-accepted}
@@ -44,25 +46,37 @@ places-append [] vs = omega arith
 places-append (u ∷ us) vs = omega (arith, places-append us vs)
 
 -- an index of the table fits its width
-surgery-fits : (e f : Node) (ps : List Node) (ws ls : List Ring) (c : ℕ) (o : Operation) → Surgery e f ps ws ls c o → places ((e ∷ (f ∷ ps)) ∷ ws) ≤ maxPlaces
-    → length ((e ∷ (f ∷ ps)) ∷ ws) ≤ maxLoops → Fits o
+surgery-fits : (e f : Node) (ps : List Node) (ws ls : List Ring) (c : ℕ) (o : Operation) → Live ws → Surgery e f ps ws ls c o → shownPlaces ((e ∷ (f ∷ ps)) ∷ ws) ≤ maxPlaces
+    → shownLoops ((e ∷ (f ∷ ps)) ∷ ws) ≤ maxLoops → Fits o
 unfolding places
-surgery-fits e f ps ws ls c New (on-new q) p l = tt
-surgery-fits e f ps ws ls c Forward (on-forward a b bs sh k op m) p l = tt
-surgery-fits e f ps ws ls c Backward (on-backward b bs a sh k op m) p l = tt
-surgery-fits e f ps ws ls c Close (on-close a sh k op op′ m) p l = tt
-surgery-fits e f ps ws ls c (Split i) (on-split us a vs sh n lu lv k m) p l = omega (arith, ap length sh, length-append us (a ∷ vs))
-surgery-fits e f ps ws ls c (Union w j) (on-union before us a vs behind sh n i k m) p l = (
-  omega (arith, ap length sh, length-append before ((us ++ (a ∷ vs)) ∷ behind)),
-  omega (arith, ap places sh, places-append before ((us ++ (a ∷ vs)) ∷ behind), length-append us (a ∷ vs)),
-)
+surgery-fits e f ps ws ls c New g (on-new q) p l = tt
+surgery-fits e f ps ws ls c Forward g (on-forward a b bs sh k op m) p l = tt
+surgery-fits e f ps ws ls c Backward g (on-backward b bs a sh k op m) p l = tt
+surgery-fits e f ps ws ls c Close g (on-close a sh k op op′ m) p l = tt
+surgery-fits e f ps ws ls c (Split i) g (on-split us a vs sh n lu lv k m) p l =
+    let z : length (reached (f ∷ ps) false) ≡ length (reached (f ∷ us) false) + suc (length (reached vs (not (isOpen a)))) =
+    ap (λ (r : List Node). length (reached (f ∷ r) false)) sh ∙ (ap length (reached-cut (f ∷ us) a vs (n .1)) ∙ length-append (reached (f ∷ us) false) (a ∷ reached vs (not (isOpen a)))) in
+    omega (arith, z, n .0)
+surgery-fits e f ps ws ls c (Union w j) g (on-union before us a vs behind sh n i k m) p l =
+    let live = live-split before ((us ++ (a ∷ vs)) ∷ behind) (subst Live sh g) .1 in
+    let all : shownAll ws ≡ shownAll before ++ ((reached us false ++ (a ∷ reached vs (not (isOpen a)))) ∷ shownAll behind) =
+    ap shownAll sh ∙ (all-shown-append before ((us ++ (a ∷ vs)) ∷ behind) ∙ ap (λ (r : List Node). shownAll before ++ (r ∷ shownAll behind)) (waiting-shown us a vs behind live (i .1))) in (
+      omega (arith, ap length all, length-append (shownAll before) ((reached us false ++ (a ∷ reached vs (not (isOpen a)))) ∷ shownAll behind), all-shown-length before, n),
+      omega (
+        arith,
+        ap places all,
+        places-append (shownAll before) ((reached us false ++ (a ∷ reached vs (not (isOpen a)))) ∷ shownAll behind),
+        length-append (reached us false) (a ∷ reached vs (not (isOpen a))),
+        i .0,
+      ),
+    )
 
-run-fits : {M B : List Triangle} {rims ls : List Ring} {os : List Operation} {R : List Triangle} (run : Run M B rims ls os R) → places ls ≤ maxPlaces
-    → length ls ≤ maxLoops → Within places maxPlaces run → Within length maxLoops run → AllFit os
+run-fits : {M B : List Triangle} {rims ls : List Ring} {os : List Operation} {R : List Triangle} (run : Run M B rims ls os R) → shownPlaces ls ≤ maxPlaces
+    → shownLoops ls ≤ maxLoops → Within shownPlaces maxPlaces run → Within shownLoops maxLoops run → AllFit os
 run-fits r-done p l u w = tt
 run-fits (r-start np nq nr d run) p l u w = (tt, run-fits run (u .0) (w .0) (u .1) (w .1))
 run-fits (r-build {ws = ws} {ls = ls} {e = e} {f = f} {ps = ps} {c = c} {o = o} v s ra rb d new run) p l u w =
-    (surgery-fits e f ps ws ls c o s p l, run-fits run (u .0) (w .0) (u .1) (w .1))
+    (surgery-fits e f ps ws ls c o (v .1) s p l, run-fits run (u .0) (w .0) (u .1) (w .1))
 run-fits (r-border v run) p l u w = (tt, run-fits run (u .0) (w .0) (u .1) (w .1))
 
 length-more : (o : Operation) (os : List Operation) → length (operationsBits (o ∷ os)) ≡ widthOf o + length (operationsBits os)
@@ -88,8 +102,8 @@ run-bits (r-border {ws = ws} {e = e} {f = f} {ps = ps} {os = os} v run) =
 
 -- the first operation of a run that builds something is a start
 run-first : {M : List Triangle} {rims : List Ring} {os : List Operation} {R : List Triangle} (run : Run M [] rims [] os R) → 1 ≤ length R → (k l : ℕ)
-    → Within places k run → Within length l run → (minPlaces ≤ k) × (1 ≤ l)
-unfolding places
+    → Within shownPlaces k run → Within shownLoops l run → (minPlaces ≤ k) × (1 ≤ l)
+unfolding places reached
 run-first r-done h k l p w = absurd (omega arith)
 run-first (r-start np nq nr d run) h k l p w = (p .0, w .0)
 
@@ -124,18 +138,18 @@ accepted-count v xs a =
 
 -- a complete packing of an accepted list
 module _ (v : ℕ) (xs : List ℕ) (os : List Operation) (s : Packing) (a : check v xs ≡ Accepted) (e : chosenFor most (trianglesOf xs) ≡ chosen os s)
-    (c : Complete (nothingBuilt most (trianglesOf xs)) [] [] os s) where
+    (c : Complete (nothingBuilt most (trianglesOf xs)) [] [] [] os s) where
   kept : (s .mostPlaces ≤ maxPlaces) × (s .mostLoops ≤ maxLoops)
   kept =
       let k = chosen-same most (trianglesOf xs) os s e in
       let p = peaks-kept most (trianglesOf xs) (k .0) in
       (omega (arith, p .0, ap (λ (x : Packing). x .mostPlaces) (k .2)), omega (arith, p .1, ap (λ (x : Packing). x .mostLoops) (k .2)))
 
-  in-places : (k : ℕ) → s .mostPlaces ≤ k → Within places k (c .runs .run)
-  in-places k h = peak-within places 0 k (c .runs .run) (omega (arith, c .runs .most-places))
+  in-places : (k : ℕ) → s .mostPlaces ≤ k → Within shownPlaces k (c .runs .run)
+  in-places k h = peak-within shownPlaces 0 k (c .runs .run) (omega (arith, c .runs .most-places))
 
-  in-loops : (k : ℕ) → s .mostLoops ≤ k → Within length k (c .runs .run)
-  in-loops k h = peak-within length 0 k (c .runs .run) (omega (arith, c .runs .most-loops))
+  in-loops : (k : ℕ) → s .mostLoops ≤ k → Within shownLoops k (c .runs .run)
+  in-loops k h = peak-within shownLoops 0 k (c .runs .run) (omega (arith, c .runs .most-loops))
 
   pub all-fit : AllFit os
   unfolding places

@@ -55,7 +55,7 @@ module _ (v : ℕ) (xs : List ℕ) (os : List Operation) (s : Packing) (a : chec
   abbrev st : Counts
   st = statedBy v (trianglesOf xs) s
 
-  pub whole : Complete (nothingBuilt most (trianglesOf xs)) [] [] os s
+  pub whole : Complete (nothingBuilt most (trianglesOf xs)) [] [] [] os s
   whole = accepted-complete most v xs os s a e
 
   pub ok : Packable v (trianglesOf xs)

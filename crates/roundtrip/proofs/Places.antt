@@ -10,18 +10,20 @@ use Rattle.rules.specs.Ring.{Node, Ring, vertex}
 use Rattle.rules.specs.Choice.{turnIn, turnOut, sizeOf, following}
 use Rattle.fans.specs.Corner.{Rot, at-p, In, here, there}
 use Rattle.fans.specs.Neighbours.{Neighbours}
+use Rattle.shown.specs.Shown.{shownAll, Live}
 use Rattle.gap.specs.Turn.{Unused, Links, stop, link}
-use Rattle.gap.specs.Spots.{OpenAt, Site}
+use Rattle.gap.specs.Spots.{OpenAt, Unique, Site, seat}
 use Rattle.gap.specs.Trace.{triangleAt}
 use Rattle.fans.proofs.Corners.{rot-next}
 use Rattle.gap.proofs.Links.{free-rot, turn-cases, Jumped}
 use Rattle.gap.proofs.Core.{Blocked, one-way}
 use Rattle.gap.proofs.Cuts.{links-behind, links-front}
 use Rattle.gap.proofs.Turning.{turn-in, turn-out}
-use Rattle.gap.proofs.Places.{spotted-holds, spotted-site, place-leaving}
+use Rattle.gap.proofs.Places.{spotted-holds, spotted-seen, place-leaving}
 use Rattle.gap.proofs.Exists.{Used, PlaceOf}
 use Rattle.gap.proofs.Choice.{open-enter, open-leave}
-use Rattle.gap.proofs.Canonical.{State, open-used}
+use Rattle.gap.proofs.Showing.{open-full, unique-shown}
+use Rattle.gap.proofs.Canonical.{State, shown-used}
 use Rattle.gap.proofs.Packing.{Packs}
 use Rattle.roundtrip.specs.Right.{RightPlace, by-entering, by-leaving}
 
@@ -31,10 +33,14 @@ links-map g (link i l) = link (g _ _ i) (links-map g l)
 
 -- M are all triangles, B those built, b a c is not yet built and R are the others
 module _ (M R B : List Triangle) (e f : Node) (ps : List Node) (ws : List Ring) (c : ℕ)
-    (pk : Packs M (triangleAt e f c ∷ R) B ((e ∷ (f ∷ ps)) ∷ ws)) (fan : Neighbours M c)
+    (pk : Packs M (triangleAt e f c ∷ R) B ((e ∷ (f ∷ ps)) ∷ ws)) (live : Live ((e ∷ (f ∷ ps)) ∷ ws)) (fan : Neighbours M c)
     (n : PlaceOf M R ((e ∷ (f ∷ ps)) ∷ ws) (vertex e) (vertex f) c) where
+  -- the loops, and the place in them
   abbrev ls : List Ring
-  ls = (e ∷ (f ∷ ps)) ∷ ws
+  ls = shownAll ((e ∷ (f ∷ ps)) ∷ ws)
+
+  abbrev at : ℕ
+  at = seat (n .spot)
 
   abbrev a : ℕ
   a = vertex e
@@ -61,38 +67,43 @@ module _ (M R B : List Triangle) (e f : Node) (ps : List Node) (ws : List Ring) 
   free : (x y z : ℕ) → In x y z B → Unused x y R
   free x y z i w j = st .apart x y w z (there j) i
 
-  seen : Site M ((e ∷ (f ∷ ps)) ∷ ws) (n .ring) (n .at) c (n .x) (n .y)
-  seen = spotted-site M (n .spot) (pk .marks)
+  seen : Site M (shownAll ((e ∷ (f ∷ ps)) ∷ ws)) (n .ring) (seat (n .spot)) c (n .x) (n .y)
+  seen = spotted-seen M (n .spot) (pk .marks) live
+
+  unique : Unique (shownAll ((e ∷ (f ∷ ps)) ∷ ws))
+  unique = unique-shown ((e ∷ (f ∷ ps)) ∷ ws) live (st .unique)
 
   used : ((z : ℕ) × In (n .x) c z B) × ((z : ℕ) × In c (n .y) z B)
   used = spotted-holds (Used B) (n .spot) (st .used)
 
-  entering-open : Links c R (n .x) (vertex f) → OpenAt ((e ∷ (f ∷ ps)) ∷ ws) (n .ring) (seen .from) (n .x) c
+  entering-open : Links c R (n .x) (vertex f) → OpenAt (shownAll ((e ∷ (f ∷ ps)) ∷ ws)) (n .ring) (seen .from) (n .x) c
   entering-open w =
-      open-enter M R a b c sub in-M free-a (st .onceM) (st .once .2) fan ls (st .unique)
-      (open-used M (triangleAt e f c ∷ R) B ls st) (n .ring) (n .at) (n .x) (n .y) seen w
+      open-enter M R a b c sub in-M free-a (st .onceM) (st .once .2) fan ls unique
+      (shown-used M (triangleAt e f c ∷ R) B ((e ∷ (f ∷ ps)) ∷ ws) st live) (n .ring) at (n .x) (n .y) seen w
 
-  leaving-open : Links c R (vertex e) (n .y) → OpenAt ((e ∷ (f ∷ ps)) ∷ ws) (n .ring) (n .at) c (n .y)
+  leaving-open : Links c R (vertex e) (n .y) → OpenAt (shownAll ((e ∷ (f ∷ ps)) ∷ ws)) (n .ring) (seat (n .spot)) c (n .y)
   leaving-open w =
-      open-leave M R a b c sub in-M free-a (st .onceM) (st .once .2) fan ls (st .unique)
-      (open-used M (triangleAt e f c ∷ R) B ls st) (n .ring) (n .at) (n .x) (n .y) seen w
+      open-leave M R a b c sub in-M free-a (st .onceM) (st .once .2) fan ls unique
+      (shown-used M (triangleAt e f c ∷ R) B ((e ∷ (f ∷ ps)) ∷ ws) st live) (n .ring) at (n .x) (n .y) seen w
 
   -- the open edge x→y is used by what is built
-  built : (l i x y : ℕ) → OpenAt ((e ∷ (f ∷ ps)) ∷ ws) l i x y → (z : ℕ) × In x y z B
-  built l i x y o = spotted-holds (Used B) (place-leaving ls l i x y o .1) (st .used) .1
+  built : (l i x y : ℕ) → OpenAt (shownAll ((e ∷ (f ∷ ps)) ∷ ws)) l i x y → (z : ℕ) × In x y z B
+  built l i x y o =
+      let r = open-full ((e ∷ (f ∷ ps)) ∷ ws) live l i x y o in
+      spotted-holds (Used B) (place-leaving ((e ∷ (f ∷ ps)) ∷ ws) l (r .0) x y (r .1) .1) (st .used) .1
 
-  pub place-right : RightPlace R ((e ∷ (f ∷ ps)) ∷ ws) (vertex e) (vertex f) c (n .ring) (n .at)
+  pub place-right : RightPlace R (shownAll ((e ∷ (f ∷ ps)) ∷ ws)) (vertex e) (vertex f) c (n .ring) (seat (n .spot))
   place-right =
       go (one-way M R a b c sub in-M free-a (st .onceM) fan (n .x) (used .0 .0) (n .y) (st .once .2) (st .subB _ _ _ (used .0 .1))
       (free (n .x) c (used .0 .0) (used .0 .1))
       (λ q. st .apart (vertex e) c (vertex f) (used .0 .0) (here (rot-next tri)) (subst (λ (v : ℕ). In v c (used .0 .0) B) q (used .0 .1)))
       (n .back) (n .on))
     where
-      go : Links c R (n .x) (vertex f) ⊎ (Blocked M c R (vertex f) × Links c R (vertex e) (n .y)) → RightPlace R ls a b c (n .ring) (n .at)
+      go : Links c R (n .x) (vertex f) ⊎ (Blocked M c R (vertex f) × Links c R (vertex e) (n .y)) → RightPlace R ls a b c (n .ring) at
       go (inl w) = by-entering (n .x) (seen .from) (entering-open w) (seen .next) w
       go (inr w) = by-leaving (n .y) (leaving-open (w .1)) (w .1)
 
-  only-entering : (l j x : ℕ) → OpenAt ((e ∷ (f ∷ ps)) ∷ ws) l j x c → Links c R x (vertex f) → (l ≡ n .ring) × (following (sizeOf ((e ∷ (f ∷ ps)) ∷ ws) l) j ≡ n .at)
+  only-entering : (l j x : ℕ) → OpenAt (shownAll ((e ∷ (f ∷ ps)) ∷ ws)) l j x c → Links c R x (vertex f) → (l ≡ n .ring) × (following (sizeOf (shownAll ((e ∷ (f ∷ ps)) ∷ ws)) l) j ≡ seat (n .spot))
   only-entering l j x o w = go (turn-cases (n .back))
     where
       u : (z : ℕ) × In x c z B
@@ -101,16 +112,16 @@ module _ (M R B : List Triangle) (e f : Node) (ps : List Node) (ws : List Ring) 
       end : turnIn (length R) c (vertex f) R ≡ x
       end = turn-in R (st .once .2) (free x c (u .0) (u .1)) w
 
-      go : Links c R (n .x) (vertex f) ⊎ Jumped M c R (n .x) (vertex f) → (l ≡ n .ring) × (following (sizeOf ((e ∷ (f ∷ ps)) ∷ ws) l) j ≡ n .at)
+      go : Links c R (n .x) (vertex f) ⊎ Jumped M c R (n .x) (vertex f) → (l ≡ n .ring) × (following (sizeOf (shownAll ((e ∷ (f ∷ ps)) ∷ ws)) l) j ≡ seat (n .spot))
       go (inl k) =
           let q : n .x ≡ x = sym (turn-in R (st .once .2) (free (n .x) c (used .0 .0) (used .0 .1)) k) ∙ end in
-          let s = st .unique x c l j (n .ring) (seen .from) o (subst (λ (v : ℕ). OpenAt ls (n .ring) (seen .from) v c) q (entering-open k)) in
+          let s = unique x c l j (n .ring) (seen .from) o (subst (λ (v : ℕ). OpenAt ls (n .ring) (seen .from) v c) q (entering-open k)) in
           (s .0, ap (λ (v : ℕ). following (sizeOf ls v) j) (s .0) ∙ (ap (following (sizeOf ls (n .ring))) (s .1) ∙ seen .next))
       go (inr k) =
           let q : k .to ≡ x = sym (turn-in R (st .once .2) (λ v i. k .back v (sub _ _ _ i)) (k .after)) ∙ end in
           absurd (k .back (u .0) (subst (λ (v : ℕ). In v c (u .0) M) (sym q) (st .subB _ _ _ (u .1))))
 
-  only-leaving : (l i y : ℕ) → OpenAt ((e ∷ (f ∷ ps)) ∷ ws) l i c y → Links c R (vertex e) y → (l ≡ n .ring) × (i ≡ n .at)
+  only-leaving : (l i y : ℕ) → OpenAt (shownAll ((e ∷ (f ∷ ps)) ∷ ws)) l i c y → Links c R (vertex e) y → (l ≡ n .ring) × (i ≡ seat (n .spot))
   only-leaving l i y o w = go (turn-cases (n .on))
     where
       u : (z : ℕ) × In c y z B
@@ -119,10 +130,10 @@ module _ (M R B : List Triangle) (e f : Node) (ps : List Node) (ws : List Ring) 
       end : turnOut (length R) c (vertex e) R ≡ y
       end = turn-out R (st .once .2) free-a (free c y (u .0) (u .1)) w
 
-      go : Links c R (vertex e) (n .y) ⊎ Jumped M c R (vertex e) (n .y) → (l ≡ n .ring) × (i ≡ n .at)
+      go : Links c R (vertex e) (n .y) ⊎ Jumped M c R (vertex e) (n .y) → (l ≡ n .ring) × (i ≡ seat (n .spot))
       go (inl k) =
           let q : n .y ≡ y = sym (turn-out R (st .once .2) free-a (free c (n .y) (used .1 .0) (used .1 .1)) k) ∙ end in
-          st .unique c y l i (n .ring) (n .at) o (subst (λ (v : ℕ). OpenAt ls (n .ring) (n .at) c v) q (leaving-open k))
+          unique c y l i (n .ring) at o (subst (λ (v : ℕ). OpenAt ls (n .ring) at c v) q (leaving-open k))
       go (inr k) =
           let q : k .from ≡ y = sym (turn-out R (st .once .2) free-a (λ v j. k .out v (sub _ _ _ j)) (k .before)) ∙ end in
           absurd (k .out (u .0) (subst (λ (v : ℕ). In c v (u .0) M) (sym q) (st .subB _ _ _ (u .1))))
@@ -144,6 +155,6 @@ module _ (M R B : List Triangle) (e f : Node) (ps : List Node) (ws : List Ring) 
       go (inl k) = k
       go (inr k) = k
 
-  pub only-right : (l i : ℕ) → RightPlace (triangleAt e f c ∷ R) ((e ∷ (f ∷ ps)) ∷ ws) (vertex e) (vertex f) c l i → (l ≡ n .ring) × (i ≡ n .at)
+  pub only-right : (l i : ℕ) → RightPlace (triangleAt e f c ∷ R) (shownAll ((e ∷ (f ∷ ps)) ∷ ws)) (vertex e) (vertex f) c l i → (l ≡ n .ring) × (i ≡ seat (n .spot))
   only-right l i (by-entering x j o q w) = let k = only-entering l j x o (front w) in (k .0, sym q ∙ k .1)
   only-right l i (by-leaving y o w) = only-leaving l i y o (behind w)

@@ -1,12 +1,12 @@
 -- Claim 1 of the packer's choice: at each step one place is right, and the operation for it is chosen, allowed and within the edge rule.
 -- Assumes nothing.
-use Prim.Native.Nat.{ℕ}
+use Prim.Native.Nat.{ℕ, suc}
 use native.Mathlib.Omega.{arith}
-use mathlib.Core.Bool.{Bool, true, false}
+use mathlib.Core.Bool.{Bool, true, false, not}
 use mathlib.Core.List.{List, [], _∷_}
 use mathlib.Core.Path.{_≡_, refl, sym, ap, _∙_, subst}
 use mathlib.Core.Logic.{_⊎_, inl, inr}
-use lib.ListN.{length}
+use lib.ListN.{length, drop, getD}
 use lib.Dec.{leb}
 use Rattle.rules.specs.declared.Triangle.{Triangle}
 use Rattle.rules.specs.declared.Operation.{Operation}
@@ -14,13 +14,16 @@ use Rattle.rules.specs.declared.Operation.the-variants.{New}
 use Rattle.rules.specs.declared.Across.the-variants.{Found}
 use Rattle.rules.specs.Triangle.{tri, trianglesOf}
 use Rattle.rules.specs.Across.{across}
-use Rattle.rules.specs.Ring.{Node, Ring, vertex, startOr, places, loopAt}
-use Rattle.rules.specs.Table.{glued, builds, effect, edgeRule}
-use Rattle.rules.specs.Choice.{Packing, Next, refuses, takes, has, operationFor, sizeOf, choosePlace, packingAfter, limited, choose}
+use Rattle.rules.specs.Ring.{Node, Ring, vertex, isOpen, startOr, reached, places, loopAt}
+use Rattle.rules.specs.Table.{glued, builds, atEdge, effect, edgeRule}
+use Rattle.rules.specs.Choice.{Packing, Next, refuses, takes, has, operationFor, choosePlace, packingAfter, limited, choose, afterCurrent}
 use Rattle.rules.specs.Pack.{Most}
 use Rattle.fans.specs.Corner.{In, Once}
 use Rattle.fans.specs.Neighbours.{Neighbours}
+use Rattle.shown.specs.Shown.{shownAll, Live}
+use Rattle.shown.proofs.Shown.{reached-first}
 use Rattle.gap.specs.Turn.{Unused}
+use Rattle.gap.specs.Spots.{seat}
 use Rattle.gap.specs.Trace.{triangleAt}
 use Rattle.gap.specs.Tally.{gluesA, gluesB, sideOf, newNumbers, unionsOf}
 use Rattle.gap.proofs.Links.{once-func}
@@ -33,7 +36,7 @@ use Rattle.gap.proofs.Rules.{rule-of}
 use Rattle.gap.proofs.Steps.{Keeps, packs, Packed, pack-old}
 use Rattle.gap.proofs.Bordering.{border-free}
 use Rattle.gap.proofs.Taking.{out, keeps-take}
-use Rattle.gap.proofs.Progress.{AllGood}
+use Rattle.gap.proofs.Progress.{AllGood, good-live}
 use Rattle.gap.proofs.Effects.{allows, allows-any}
 use Rattle.gap.proofs.Choosing.{Fits, GoesOn, choose-old, no-new, choose-step}
 use Rattle.gap.proofs.Whole.{choose-ended, fits-begin}
@@ -64,7 +67,7 @@ holds-next : (ts : List Triangle) (s s′ : Packing) (o : Operation) → ((c : �
 holds-next ts s s′ o fan k e =
     go (choose-step s (k .built) (k .rims) (k .fits) (subst (λ (M : List Triangle). (c : ℕ) → Neighbours M c) (sym (k .mesh)) fan))
   where
-    go : ((s .loops ≡ []) × (s .left ≡ [])) ⊎ GoesOn s (k .built) (k .rims) → Holds ts s′
+    go : ((s .loops ≡ []) × (s .left ≡ []) × (k .fits .full ≡ [])) ⊎ GoesOn s (k .fits .full) (k .built) (k .rims) → Holds ts s′
     go (inl h) = let f = sym (choose-ended s (h .0) (h .1)) ∙ e in let z : _≡_ {A = ℕ} 0 1 = cc in absurd (omega arith)
     go (inr g) =
         let q : s′ ≡ g .after = taken-is (g .o) o (g .after) s′ (sym (g .chooses) ∙ e) in
@@ -80,21 +83,34 @@ right-map g (by-leaving y o w) = by-leaving y o (links-map g w)
 
 -- the operation for a place never gives a number
 module _ (s : Packing) (B : List Triangle) (rims : List Ring) (fit : Fits s B rims) (fan : (c : ℕ) → Neighbours (s .mesh) c) (e f : Node) (ps : List Node) (ws : List Ring)
-    (at : s .loops ≡ (e ∷ (f ∷ ps)) ∷ ws) (c m k : ℕ) (found : across (vertex f) (vertex e) (s .mesh) ≡ Found m k c) (old : has c (s .numbered) ≡ true) where
+    (at : fit .full ≡ (e ∷ (f ∷ ps)) ∷ ws) (c m k : ℕ) (found : across (vertex f) (vertex e) (s .mesh) ≡ Found m k c) (old : has c (s .numbered) ≡ true) where
   abbrev a : ℕ
   a = vertex e
 
   abbrev b : ℕ
   b = vertex f
 
+  abbrev full : List Ring
+  full = (e ∷ (f ∷ ps)) ∷ ws
+
+  -- the packing's loops
   abbrev ls : List Ring
-  ls = (e ∷ (f ∷ ps)) ∷ ws
+  ls = shownAll ((e ∷ (f ∷ ps)) ∷ ws)
+
+  looks : s .loops ≡ shownAll ((e ∷ (f ∷ ps)) ∷ ws)
+  looks = fit .shows ∙ ap shownAll at
+
+  first : shownAll ((e ∷ (f ∷ ps)) ∷ ws) ≡ (e ∷ (f ∷ reached ps (not (isOpen f)))) ∷ shownAll ws
+  first = ap (λ (r : List Node). (e ∷ r) ∷ shownAll ws) (reached-first f ps)
 
   keeps : Keeps (s .mesh) (s .left) B ((e ∷ (f ∷ ps)) ∷ ws) rims
   keeps = subst (λ (l : List Ring). Keeps (s .mesh) (s .left) B l rims) at (fit .keeps)
 
   good : AllGood ((e ∷ (f ∷ ps)) ∷ ws)
   good = subst AllGood at (fit .good)
+
+  live : Live ((e ∷ (f ∷ ps)) ∷ ws)
+  live = good-live ((e ∷ (f ∷ ps)) ∷ ws) good
 
   in-mesh : In (vertex f) (vertex e) c (s .mesh)
   in-mesh = go (look b a (s .mesh))
@@ -119,10 +135,10 @@ module _ (s : Packing) (B : List Triangle) (rims : List Ring) (fit : Fits s B ri
   R = others i
 
   kept : Keeps (s .mesh) (triangleAt e f c ∷ R) B ((e ∷ (f ∷ ps)) ∷ ws) rims
-  kept = keeps-take (s .mesh) (s .left) B ls rims b a c i keeps
+  kept = keeps-take (s .mesh) (s .left) B full rims b a c i keeps
 
   pk : Packs (s .mesh) (triangleAt e f c ∷ R) B ((e ∷ (f ∷ ps)) ∷ ws)
-  pk = packs (s .mesh) (triangleAt e f c ∷ R) B ls rims kept
+  pk = packs (s .mesh) (triangleAt e f c ∷ R) B full rims kept
 
   met : (x : ℕ) × (y : ℕ) × In c x y B
   met = fit .numbers .met c old
@@ -130,15 +146,15 @@ module _ (s : Packing) (B : List Triangle) (rims : List Ring) (fit : Fits s B ri
   pl : PlaceOf (s .mesh) R ((e ∷ (f ∷ ps)) ∷ ws) (vertex e) (vertex f) c
   pl = place (s .mesh) R B e f ps ws c pk (fan c) (met .0) (met .1) (met .2)
 
-  al : Allowed e f ps ws c (pl .ring) (pl .at) (pl .x) (pl .y)
-  al = place-allowed (s .mesh) R B e f ps ws c pk (fan c) pl
+  al : Allowed e f ps ws c (pl .ring) (pl .at) (seat (pl .spot)) (pl .x) (pl .y)
+  al = place-allowed (s .mesh) R B e f ps ws c pk (fan c) (live .0) pl
 
-  chosen : choosePlace (vertex e) (vertex f) c R ((e ∷ (f ∷ ps)) ∷ ws) ≡ al .o
-  chosen = choice-place (s .mesh) R B e f ps ws c pk (fan c) pl ∙ al .names
+  chosen : choosePlace (vertex e) (vertex f) c R (shownAll ((e ∷ (f ∷ ps)) ∷ ws)) ≡ al .o
+  chosen = choice-place (s .mesh) R B e f ps ws c pk (fan c) live pl ∙ al .names
 
-  named : operationFor (sizeOf (s .loops) 0) (pl .ring) (pl .at) ≡ al .o
+  named : operationFor (afterCurrent (s .loops)) (pl .ring) (seat (pl .spot)) ≡ al .o
   unfolding loopAt
-  named = ap (λ (l : List Ring). operationFor (sizeOf l 0) (pl .ring) (pl .at)) at ∙ al .names
+  named = ap (λ (l : List Ring). operationFor (afterCurrent l) (pl .ring) (seat (pl .spot))) looks ∙ al .names
 
   never-new : al .o ≡ New → ⊥
   never-new q =
@@ -150,11 +166,11 @@ module _ (s : Packing) (B : List Triangle) (rims : List Ring) (fit : Fits s B ri
   no-numbers = ap newNumbers (sym chosen) ∙ no-new a b c R ls
 
   packed : Packed (s .mesh) R B e f ps ws rims c
-  packed = pack-old (s .mesh) R B e f ps ws rims c kept (fan c) (good .0 .0) (let h = good .0 .1 in omega arith) (met .0) (met .1) (met .2) .0
+  packed = pack-old (s .mesh) R B e f ps ws rims c kept (fan c) live (let h = good .0 .1 in omega arith) (met .0) (met .1) (met .2) .0
 
   same-o : packed .o ≡ al .o
   unfolding packed
-  same-o = sym (pack-old (s .mesh) R B e f ps ws rims c kept (fan c) (good .0 .0) (let h = good .0 .1 in omega arith) (met .0) (met .1) (met .2) .1) ∙ chosen
+  same-o = sym (pack-old (s .mesh) R B e f ps ws rims c kept (fan c) live (let h = good .0 .1 in omega arith) (met .0) (met .1) (met .2) .1) ∙ chosen
 
   -- the edge rule, of any list of what is built
   rules : (C : List Triangle) → Built s C → edgeRule (tri (vertex f) (vertex e) c) glued (sideOf (gluesA (al .o))) (sideOf (gluesB (al .o))) C ≡ true
@@ -174,32 +190,33 @@ module _ (s : Packing) (B : List Triangle) (rims : List Ring) (fit : Fits s B ri
           go (inr l) n = u z l
 
   abbrev after : Packing
-  after = packingAfter s R (s .numbered) (al .ls)
+  after = packingAfter s R (s .numbered) (shownAll (al .ls))
 
-  chooses : choose s ≡ limited (operationFor (sizeOf (s .loops) 0) (pl .ring) (pl .at)) after
+  chooses : choose s ≡ limited (operationFor (afterCurrent (s .loops)) (pl .ring) (seat (pl .spot))) after
   chooses =
-      choose-old s e f ps ws (al .ls) R (al .o) c m k at found (drop-others b a c (s .left) i (fit .keeps .once)) old chosen
-      (allows (al .o) e f ps ws (al .ls) c (al .does))
+      choose-old s e f (reached ps (not (isOpen f))) (shownAll ws) (shownAll (al .ls)) R (al .o) c m k (looks ∙ first) found (drop-others b a c (s .left) i (fit .keeps .once)) old
+      (ap (choosePlace a b c R) (sym first) ∙ chosen)
+      (ap (λ (r : List Node). atEdge (al .o) c a r (shownAll ws)) (sym (reached-first f ps)) ∙ allows (al .o) e f ps ws (al .ls) c (live .1) (al .does))
       ∙ ap (λ (o : Operation). limited o after) (sym named)
 
-  allowed : (u : ℕ) → effect (operationFor (sizeOf (s .loops) 0) (pl .ring) (pl .at)) u (s .loops)
-      ≡ builds (al .ls) (tri (vertex f) (vertex e) c) glued (sideOf (gluesA (al .o))) (sideOf (gluesB (al .o))) 0 0 (unionsOf (al .o))
+  allowed : (u : ℕ) → effect (operationFor (afterCurrent (s .loops)) (pl .ring) (seat (pl .spot))) u (s .loops)
+      ≡ builds (shownAll (al .ls)) (tri (vertex f) (vertex e) c) glued (sideOf (gluesA (al .o))) (sideOf (gluesB (al .o))) 0 0 (unionsOf (al .o))
   unfolding effect
   allowed u =
       ap (λ (o : Operation). effect o u (s .loops)) named
-      ∙ (ap (effect (al .o) u) at
-      ∙ (allows-any (al .o) u e f ps ws (al .ls) c (al .does) (λ q. absurd (never-new q))
-      ∙ ap (λ (j : ℕ). builds (al .ls) (tri b a c) glued (sideOf (gluesA (al .o))) (sideOf (gluesB (al .o))) j 0 (unionsOf (al .o))) no-numbers))
+      ∙ (ap (effect (al .o) u) looks
+      ∙ (allows-any (al .o) u e f ps ws (al .ls) c (live .1) (al .does) (λ q. absurd (never-new q))
+      ∙ ap (λ (j : ℕ). builds (shownAll (al .ls)) (tri b a c) glued (sideOf (gluesA (al .o))) (sideOf (gluesB (al .o))) j 0 (unionsOf (al .o))) no-numbers))
 
   pub right-choice : RightChoice s (vertex e) (vertex f) c
   right-choice = record {
     loop = pl .ring;
-    place = pl .at;
+    place = seat (pl .spot);
     right =
-        subst (λ (l : List Ring). RightPlace (s .left) l a b c (pl .ring) (pl .at)) (sym at)
-        (right-map (λ v w j. others-sub i j) (place-right (s .mesh) R B e f ps ws c pk (fan c) pl));
-    no-other = λ l j w. only-right (s .mesh) R B e f ps ws c pk (fan c) pl l j
-        (right-map (λ v x h. out i h) (subst (λ (q : List Ring). RightPlace (s .left) q a b c l j) at w));
+        subst (λ (l : List Ring). RightPlace (s .left) l a b c (pl .ring) (seat (pl .spot))) (sym looks)
+        (right-map (λ v w j. others-sub i j) (place-right (s .mesh) R B e f ps ws c pk live (fan c) pl));
+    no-other = λ l j w. only-right (s .mesh) R B e f ps ws c pk live (fan c) pl l j
+        (right-map (λ v x h. out i h) (subst (λ (q : List Ring). RightPlace (s .left) q a b c l j) looks w));
     after = after;
     chooses = chooses;
     q-r = sideOf (gluesA (al .o));
@@ -210,7 +227,7 @@ module _ (s : Packing) (B : List Triangle) (rims : List Ring) (fit : Fits s B ri
   }
 
 pub one-place-is-right : OnePlaceIsRight
-one-place-is-right h v xs acc s r e ps ws l n k c found old = go ps l found
+one-place-is-right h v xs acc s r e ps ws l n k c found old = go (w .fits .full) refl
   where
     ok : Packable v (trianglesOf xs)
     ok = accepted-packable v xs acc
@@ -218,8 +235,17 @@ one-place-is-right h v xs acc s r e ps ws l n k c found old = go ps l found
     w : Holds (trianglesOf xs) s
     w = holds h (trianglesOf xs) s (ok .once) (ok .fans) r
 
-    go : (qs : List Node) → s .loops ≡ (e ∷ qs) ∷ ws → across (startOr (vertex e) qs) (vertex e) (s .mesh) ≡ Found n k c
-        → RightChoice s (vertex e) (startOr (vertex e) qs) c
-    go [] q g = let z = subst AllGood q (w .fits .good) .0 .1 in absurd (omega arith)
-    go (f ∷ qs) q g =
-        right-choice s (w .built) (w .rims) (w .fits) (subst (λ (M : List Triangle). (x : ℕ) → Neighbours M x) (sym (w .mesh)) (ok .fans)) e f qs ws q c n k g old
+    -- the full rings of which the loops are shown
+    go : (full : List Ring) → w .fits .full ≡ full → RightChoice s (vertex e) (startOr (vertex e) ps) c
+    go [] q = let z : 0 ≡ suc (length ws) = ap length (ap shownAll (sym q) ∙ (sym (w .fits .shows) ∙ l)) in absurd (omega arith)
+    go ([] ∷ vs) q = absurd (subst AllGood q (w .fits .good) .0)
+    go ((e′ ∷ []) ∷ vs) q = let z = subst AllGood q (w .fits .good) .0 .1 in absurd (omega arith)
+    go ((e′ ∷ (f ∷ qs)) ∷ vs) q =
+        let same : (e ∷ ps) ∷ ws ≡ (e′ ∷ reached (f ∷ qs) false) ∷ shownAll vs = sym l ∙ (w .fits .shows ∙ ap shownAll q) in
+        let x : vertex e ≡ vertex e′ = ap (λ (k : List Ring). vertex (getD (getD k 0 []) 0 e)) same in
+        let y : startOr (vertex e) ps ≡ vertex f =
+        ap (λ (k : List Ring). startOr (vertex e) (drop 1 (getD k 0 []))) same ∙ ap (startOr (vertex e)) (reached-first f qs) in
+        subst (λ (b : ℕ). RightChoice s (vertex e) b c) (sym y)
+        (subst (λ (a : ℕ). RightChoice s a (vertex f) c) (sym x)
+        (right-choice s (w .built) (w .rims) (w .fits) (subst (λ (M : List Triangle). (x : ℕ) → Neighbours M x) (sym (w .mesh)) (ok .fans)) e′ f qs vs q c n k
+        (subst (λ (b : ℕ). across b (vertex e′) (s .mesh) ≡ Found n k c) y (subst (λ (a : ℕ). across (startOr (vertex e) ps) a (s .mesh) ≡ Found n k c) x found)) old))

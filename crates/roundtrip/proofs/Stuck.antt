@@ -144,7 +144,7 @@ module _ (h : Most) (v : ℕ) (xs : List ℕ) (r : PackBuffers) (a : check v xs 
   by-number k (inr (inl x)) q = inr (inr (inr (q ∙ ap (answerFor (length bytes)) (x .0))))
   by-number k (inr (inr x)) q = inl (q ∙ ap (answerFor (length bytes)) (x .0))
 
-  whole : Complete (nothingBuilt (unlimited (trianglesOf xs)) (trianglesOf xs)) [] [] (run-ends ts .operations) (run-ends ts .last)
+  whole : Complete (nothingBuilt (unlimited (trianglesOf xs)) (trianglesOf xs)) [] [] [] (run-ends ts .operations) (run-ends ts .last)
   whole = accepted-complete (unlimited (trianglesOf xs)) v xs (run-ends ts .operations) (run-ends ts .last) a (run-ends ts .does)
 
   pub stuck-never : NeverStuck h v (trianglesOf xs) r (packWithin h v xs r) (run-ends ts .operations) (run-ends ts .last)

@@ -14,7 +14,8 @@ use Rattle.rules.specs.declared.Operation.{Operation}
 use Rattle.rules.specs.declared.Operation.the-variants.{New, Forward, Backward, Border, Split, Close, Union, Start}
 use Rattle.rules.specs.Triangle.{Edge}
 use Rattle.rules.specs.Across.{across}
-use Rattle.rules.specs.Ring.{Node, opened, marked, Ring, vertex, startOr, front, onward, places, loopAt, without}
+use Rattle.rules.specs.Ring.{Node, opened, marked, Ring, vertex, startOr, front, onward, shown, places, loopAt, without}
+use Rattle.shown.proofs.Shown.{fewer-shown}
 use Rattle.rules.specs.Table.{Effect, not-allowed, builds, marks, allowed, inOrder, marking, atEdge}
 use Rattle.rules.specs.Choice.{Packing, has, dropTriangle, choosePlace, Next, ended, packingAfter, limited, taking, chooseAt, chooseIn, choose}
 
@@ -150,7 +151,7 @@ edge-grows New u a ps ws = (omega (arith, length-append ps (opened a ∷ [])), o
 edge-grows Forward u a ps ws = grows-allowed _ _ _ _ (omega (arith, length-drop 1 ps), omega arith)
 edge-grows Backward u a ps ws = grows-allowed _ _ _ _ (omega (arith, length-front ps), omega arith)
 edge-grows Border u a ps ws =
-    grows-marking _ _ (onward [] (ps ++ (marked a ∷ []))) ws _ (omega (arith, length-onward [] (ps ++ (marked a ∷ [])), length-append ps (marked a ∷ []))) (omega arith)
+    grows-marking _ _ (shown (onward [] (ps ++ (marked a ∷ [])))) ws _ (omega (arith, fewer-shown (onward [] (ps ++ (marked a ∷ []))), length-onward [] (ps ++ (marked a ∷ [])), length-append ps (marked a ∷ []))) (omega arith)
 edge-grows (Split i) u a ps ws = grows-allowed _ _ _ _ (go _ _ (leb (suc (length (take i ps))) (suc (length (drop i ps)))))
   where
     go : (x y : Node) (t : Bool) → (places (inOrder t (x ∷ take i ps) (y ∷ drop i ps) ws) ≤ suc (length ps) + places ws + 1) × (length (inOrder t (x ∷ take i ps) (y ∷ drop i ps) ws) ≤ suc (length ws) + 1)

@@ -5,7 +5,7 @@ use mathlib.Core.Bool.{true}
 use mathlib.Core.List.{List, [], _∷_}
 use mathlib.Core.Path.{_≡_}
 use mathlib.Core.Logic.{_⊎_, _↔_}
-use lib.ListN.{length, take, getD}
+use lib.ListN.{length, take, drop, getD}
 use Rattle.rules.specs.declared.Triangle.{Triangle}
 use Rattle.rules.specs.declared.Operation.{Operation}
 use Rattle.rules.specs.declared.Counts.{Counts}
@@ -19,11 +19,11 @@ use Rattle.rules.specs.Triangle.{tri, Edge, trianglesOf, corners}
 use Rattle.rules.specs.Count.{different}
 use Rattle.rules.specs.Across.{across}
 use Rattle.rules.specs.Check.{check}
-use Rattle.rules.specs.Ring.{Node, Ring, vertex, startOr, places}
+use Rattle.rules.specs.Ring.{Node, Ring, vertex, startOr, places, loopAt}
 use Rattle.rules.specs.Table.{Side, glued, builds, effect, edgeRule}
 use Rattle.rules.specs.Answer.{refusal, packed, unpacked}
 use Rattle.rules.specs.Fields.{fields, fieldsOf}
-use Rattle.rules.specs.Choice.{Packing, has, operationFor, sizeOf, limited, choose}
+use Rattle.rules.specs.Choice.{Packing, has, operationFor, limited, choose, afterCurrent}
 use Rattle.rules.specs.Pack.{chosen, Most, chosenFor, packOf, newNumbers, PackBuffers, PackResult, packDone, packRooms, packWithin, pack}
 use Rattle.rules.specs.Buffer.{Buffers}
 use Rattle.rules.specs.Machine.{Machine, empty, totals}
@@ -71,11 +71,11 @@ pub record RightChoice (s : Packing) (a b c : ℕ) : Type 0 where
   pub right : RightPlace (s .left) (s .loops) a b c loop place
   pub no-other : (l i : ℕ) → RightPlace (s .left) (s .loops) a b c l i → (l ≡ loop) × (i ≡ place)
   pub after : Packing
-  pub chooses : choose s ≡ limited (operationFor (sizeOf (s .loops) 0) loop place) after
+  pub chooses : choose s ≡ limited (operationFor (afterCurrent (s .loops)) loop place) after
   pub q-r : Side
   pub r-p : Side
   pub unions : ℕ
-  pub allowed : (u : ℕ) → effect (operationFor (sizeOf (s .loops) 0) loop place) u (s .loops)
+  pub allowed : (u : ℕ) → effect (operationFor (afterCurrent (s .loops)) loop place) u (s .loops)
       ≡ builds (after .loops) (tri b a c) glued q-r r-p 0 0 unions
   pub edge-rule : (B : List Triangle) → Built s B → edgeRule (tri b a c) glued q-r r-p B ≡ true
 

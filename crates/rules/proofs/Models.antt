@@ -18,7 +18,7 @@ use Rattle.rules.specs.Count.{same, hit, occurs, count, different, pairs
 use Rattle.rules.specs.Fan.{about, leaving, entering, turnOn, turnBack, oneRun, oneFanEach}
 use Rattle.rules.specs.Across.{inTriangle, across}
 use Rattle.rules.specs.Check.{allBelow, allDistinct, noneTwice, allUsed, passes, checkTriangles, check}
-use Rattle.rules.specs.Ring.{allOpen, vertexAt, lastOpen, lastVertex, front, onward, places, loopAt, without}
+use Rattle.rules.specs.Ring.{allOpen, vertexAt, lastOpen, lastVertex, front, onward, reached, places, loopAt, without}
 use Rattle.rules.specs.Table.{allowed, inOrder, atEdge, atRest, effect}
 use Rattle.rules.specs.Machine.{test, done, beginning, finish}
 use Rattle.rules.specs.Book.{answers, afterAll, logAll}
@@ -61,26 +61,26 @@ packRows =
     -- M9, any V: refusal 1
     record { limits = record { places = 1024; loops = 100 }; vertices = 3; list = []; lent = packLent ((7 ∷ 7 ∷ 7 ∷ 7 ∷ 7 ∷ [])) (replicate 1026 (place 3 1 2 true)) (replicate 60 5); answer = refusal 1; left = packLent ((7 ∷ 7 ∷ 7 ∷ 7 ∷ 7 ∷ [])) (replicate 1026 (place 3 1 2 true)) (replicate 60 5) }
     ∷
-    -- smallest forward; c is reached from the edge that enters its place only: accepted
+    -- forward at three places; c is reached from the edge that enters its place only: accepted
     record { limits = record { places = 1024; loops = 100 }; vertices = 4; list = ((0 ∷ 1 ∷ 2 ∷ 2 ∷ 3 ∷ 0 ∷ 0 ∷ 3 ∷ 1 ∷ [])); lent = packLent ((7 ∷ 7 ∷ 7 ∷ 7 ∷ 7 ∷ 7 ∷ [])) (replicate 1026 (place 3 1 2 true)) (replicate 60 5); answer = packed 17; left = packLent ((0 ∷ 1 ∷ 2 ∷ 3 ∷ 7 ∷ 7 ∷ [])) (replicate 1024 (place 0 0 0 false) ++ ((place 3 1 2 true) ∷ (place 3 1 2 true) ∷ [])) ((1 ∷ 0 ∷ 8 ∷ 0 ∷ 4 ∷ 0 ∷ 3 ∷ 0 ∷ 4 ∷ 0 ∷ 1 ∷ 2 ∷ 0 ∷ 3 ∷ 225 ∷ 178 ∷ 192 ∷ []) ++ replicate 43 5) }
     ∷
-    -- smallest backward; c is reached from the edge that leaves its place only: accepted
-    record { limits = record { places = 1024; loops = 100 }; vertices = 5; list = ((0 ∷ 2 ∷ 1 ∷ 1 ∷ 3 ∷ 0 ∷ 3 ∷ 1 ∷ 4 ∷ 0 ∷ 4 ∷ 2 ∷ 0 ∷ 3 ∷ 4 ∷ [])); lent = packLent ((7 ∷ 7 ∷ 7 ∷ 7 ∷ 7 ∷ 7 ∷ 7 ∷ [])) (replicate 1026 (place 3 1 2 true)) (replicate 60 5); answer = packed 17; left = packLent ((0 ∷ 2 ∷ 1 ∷ 4 ∷ 3 ∷ 7 ∷ 7 ∷ [])) (replicate 1024 (place 0 0 0 false) ++ ((place 3 1 2 true) ∷ (place 3 1 2 true) ∷ [])) ((1 ∷ 0 ∷ 8 ∷ 0 ∷ 5 ∷ 0 ∷ 5 ∷ 0 ∷ 5 ∷ 0 ∷ 1 ∷ 2 ∷ 0 ∷ 3 ∷ 225 ∷ 176 ∷ 83 ∷ []) ++ replicate 43 5) }
+    -- backward at three places; c is reached from the edge that leaves its place only: accepted
+    record { limits = record { places = 1024; loops = 100 }; vertices = 5; list = ((0 ∷ 2 ∷ 1 ∷ 1 ∷ 3 ∷ 0 ∷ 3 ∷ 1 ∷ 4 ∷ 0 ∷ 4 ∷ 2 ∷ 0 ∷ 3 ∷ 4 ∷ [])); lent = packLent ((7 ∷ 7 ∷ 7 ∷ 7 ∷ 7 ∷ 7 ∷ 7 ∷ [])) (replicate 1026 (place 3 1 2 true)) (replicate 60 5); answer = packed 17; left = packLent ((0 ∷ 2 ∷ 1 ∷ 4 ∷ 3 ∷ 7 ∷ 7 ∷ [])) (replicate 1024 (place 0 0 0 false) ++ ((place 3 1 2 true) ∷ (place 3 1 2 true) ∷ [])) ((1 ∷ 0 ∷ 8 ∷ 0 ∷ 5 ∷ 0 ∷ 5 ∷ 0 ∷ 4 ∷ 0 ∷ 1 ∷ 2 ∷ 0 ∷ 3 ∷ 225 ∷ 176 ∷ 83 ∷ []) ++ replicate 43 5) }
     ∷
-    -- smallest split; equal halves, next to a marked edge: accepted
-    record { limits = record { places = 1024; loops = 100 }; vertices = 5; list = ((0 ∷ 1 ∷ 2 ∷ 1 ∷ 0 ∷ 3 ∷ 0 ∷ 2 ∷ 4 ∷ 3 ∷ 4 ∷ 1 ∷ 0 ∷ 4 ∷ 3 ∷ [])); lent = packLent ((7 ∷ 7 ∷ 7 ∷ 7 ∷ 7 ∷ 7 ∷ 7 ∷ [])) (replicate 1026 (place 3 1 2 true)) (replicate 60 5); answer = packed 19; left = packLent ((0 ∷ 1 ∷ 2 ∷ 3 ∷ 4 ∷ 7 ∷ 7 ∷ [])) (replicate 1024 (place 0 0 0 false) ++ ((place 3 1 2 true) ∷ (place 3 1 2 true) ∷ [])) ((1 ∷ 0 ∷ 8 ∷ 0 ∷ 5 ∷ 0 ∷ 5 ∷ 0 ∷ 6 ∷ 0 ∷ 2 ∷ 2 ∷ 0 ∷ 5 ∷ 224 ∷ 55 ∷ 0 ∷ 42 ∷ 192 ∷ []) ++ replicate 41 5) }
+    -- split k - 2 across a link; the second part has fewer places, in full loops as many: accepted
+    record { limits = record { places = 1024; loops = 100 }; vertices = 5; list = ((0 ∷ 1 ∷ 2 ∷ 1 ∷ 0 ∷ 3 ∷ 0 ∷ 2 ∷ 4 ∷ 3 ∷ 4 ∷ 1 ∷ 0 ∷ 4 ∷ 3 ∷ [])); lent = packLent ((7 ∷ 7 ∷ 7 ∷ 7 ∷ 7 ∷ 7 ∷ 7 ∷ [])) (replicate 1026 (place 3 1 2 true)) (replicate 60 5); answer = packed 19; left = packLent ((0 ∷ 1 ∷ 2 ∷ 3 ∷ 4 ∷ 7 ∷ 7 ∷ [])) (replicate 1024 (place 0 0 0 false) ++ ((place 3 1 2 true) ∷ (place 3 1 2 true) ∷ [])) ((1 ∷ 0 ∷ 8 ∷ 0 ∷ 5 ∷ 0 ∷ 5 ∷ 0 ∷ 5 ∷ 0 ∷ 2 ∷ 2 ∷ 0 ∷ 5 ∷ 224 ∷ 55 ∷ 0 ∷ 39 ∷ 64 ∷ []) ++ replicate 41 5) }
     ∷
     -- split, the first part is smaller: accepted
     record { limits = record { places = 1024; loops = 100 }; vertices = 6; list = ((1 ∷ 3 ∷ 2 ∷ 2 ∷ 4 ∷ 5 ∷ 2 ∷ 3 ∷ 4 ∷ 1 ∷ 0 ∷ 3 ∷ 2 ∷ 5 ∷ 0 ∷ 0 ∷ 1 ∷ 2 ∷ [])); lent = packLent (replicate 8 7) (replicate 1026 (place 3 1 2 true)) (replicate 60 5); answer = packed 19; left = packLent ((3 ∷ 0 ∷ 2 ∷ 1 ∷ 4 ∷ 5 ∷ 7 ∷ 7 ∷ [])) (replicate 1024 (place 0 0 0 false) ++ ((place 3 1 2 true) ∷ (place 3 1 2 true) ∷ [])) ((1 ∷ 0 ∷ 8 ∷ 0 ∷ 6 ∷ 0 ∷ 6 ∷ 0 ∷ 7 ∷ 0 ∷ 2 ∷ 2 ∷ 0 ∷ 5 ∷ 225 ∷ 129 ∷ 0 ∷ 42 ∷ 219 ∷ []) ++ replicate 41 5) }
     ∷
-    -- split, the second part is smaller: accepted
-    record { limits = record { places = 1024; loops = 100 }; vertices = 6; list = ((0 ∷ 2 ∷ 1 ∷ 0 ∷ 3 ∷ 2 ∷ 1 ∷ 5 ∷ 4 ∷ 1 ∷ 2 ∷ 5 ∷ 4 ∷ 3 ∷ 0 ∷ 4 ∷ 5 ∷ 3 ∷ [])); lent = packLent (replicate 8 7) (replicate 1026 (place 3 1 2 true)) (replicate 60 5); answer = packed 20; left = packLent ((0 ∷ 2 ∷ 1 ∷ 3 ∷ 5 ∷ 4 ∷ 7 ∷ 7 ∷ [])) (replicate 1024 (place 0 0 0 false) ++ ((place 3 1 2 true) ∷ (place 3 1 2 true) ∷ [])) ((1 ∷ 0 ∷ 8 ∷ 0 ∷ 6 ∷ 0 ∷ 6 ∷ 0 ∷ 7 ∷ 0 ∷ 2 ∷ 2 ∷ 0 ∷ 6 ∷ 225 ∷ 128 ∷ 220 ∷ 0 ∷ 218 ∷ 108 ∷ []) ++ replicate 40 5) }
+    -- split k - 2, the second part is smaller: accepted
+    record { limits = record { places = 1024; loops = 100 }; vertices = 6; list = ((0 ∷ 2 ∷ 1 ∷ 0 ∷ 3 ∷ 2 ∷ 1 ∷ 5 ∷ 4 ∷ 1 ∷ 2 ∷ 5 ∷ 4 ∷ 3 ∷ 0 ∷ 4 ∷ 5 ∷ 3 ∷ [])); lent = packLent (replicate 8 7) (replicate 1026 (place 3 1 2 true)) (replicate 60 5); answer = packed 20; left = packLent ((0 ∷ 2 ∷ 1 ∷ 3 ∷ 5 ∷ 4 ∷ 7 ∷ 7 ∷ [])) (replicate 1024 (place 0 0 0 false) ++ ((place 3 1 2 true) ∷ (place 3 1 2 true) ∷ [])) ((1 ∷ 0 ∷ 8 ∷ 0 ∷ 6 ∷ 0 ∷ 6 ∷ 0 ∷ 6 ∷ 0 ∷ 2 ∷ 2 ∷ 0 ∷ 6 ∷ 225 ∷ 128 ∷ 220 ∷ 0 ∷ 218 ∷ 108 ∷ []) ++ replicate 40 5) }
     ∷
     -- smallest union found: accepted
     record { limits = record { places = 1024; loops = 100 }; vertices = 6; list = ((5 ∷ 2 ∷ 1 ∷ 5 ∷ 4 ∷ 2 ∷ 4 ∷ 1 ∷ 3 ∷ 5 ∷ 3 ∷ 0 ∷ 4 ∷ 5 ∷ 0 ∷ 2 ∷ 4 ∷ 3 ∷ 0 ∷ 3 ∷ 1 ∷ 0 ∷ 1 ∷ 2 ∷ [])); lent = packLent (replicate 8 7) (replicate 1026 (place 3 1 2 true)) (replicate 60 5); answer = packed 23; left = packLent ((5 ∷ 2 ∷ 1 ∷ 4 ∷ 3 ∷ 0 ∷ 7 ∷ 7 ∷ [])) (replicate 1024 (place 0 0 0 false) ++ ((place 3 1 2 true) ∷ (place 3 1 2 true) ∷ [])) ((1 ∷ 0 ∷ 8 ∷ 0 ∷ 6 ∷ 0 ∷ 8 ∷ 0 ∷ 8 ∷ 0 ∷ 2 ∷ 2 ∷ 0 ∷ 9 ∷ 224 ∷ 49 ∷ 0 ∷ 60 ∷ 4 ∷ 2 ∷ 108 ∷ 178 ∷ 216 ∷ []) ++ replicate 37 5) }
     ∷
     -- union with j = 0, and two pieces more: accepted
-    record { limits = record { places = 1024; loops = 100 }; vertices = 11; list = ((0 ∷ 1 ∷ 2 ∷ 2 ∷ 3 ∷ 0 ∷ 4 ∷ 5 ∷ 6 ∷ 7 ∷ 8 ∷ 9 ∷ 0 ∷ 6 ∷ 5 ∷ 0 ∷ 3 ∷ 6 ∷ 1 ∷ 10 ∷ 2 ∷ 10 ∷ 6 ∷ 3 ∷ 5 ∷ 2 ∷ 10 ∷ 6 ∷ 10 ∷ 1 ∷ 2 ∷ 5 ∷ 4 ∷ 3 ∷ 5 ∷ 10 ∷ [])); lent = packLent (replicate 13 7) (replicate 1026 (place 3 1 2 true)) (replicate 60 5); answer = packed 26; left = packLent ((0 ∷ 1 ∷ 2 ∷ 6 ∷ 5 ∷ 4 ∷ 7 ∷ 8 ∷ 9 ∷ 10 ∷ 3 ∷ 7 ∷ 7 ∷ [])) (replicate 1024 (place 0 0 0 false) ++ ((place 3 1 2 true) ∷ (place 3 1 2 true) ∷ [])) ((1 ∷ 0 ∷ 8 ∷ 0 ∷ 11 ∷ 0 ∷ 12 ∷ 0 ∷ 10 ∷ 0 ∷ 2 ∷ 2 ∷ 0 ∷ 12 ∷ 236 ∷ 0 ∷ 192 ∷ 128 ∷ 27 ∷ 192 ∷ 64 ∷ 4 ∷ 91 ∷ 45 ∷ 246 ∷ 216 ∷ []) ++ replicate 34 5) }
+    record { limits = record { places = 1024; loops = 100 }; vertices = 11; list = ((0 ∷ 1 ∷ 2 ∷ 2 ∷ 3 ∷ 0 ∷ 4 ∷ 5 ∷ 6 ∷ 7 ∷ 8 ∷ 9 ∷ 0 ∷ 6 ∷ 5 ∷ 0 ∷ 3 ∷ 6 ∷ 1 ∷ 10 ∷ 2 ∷ 10 ∷ 6 ∷ 3 ∷ 5 ∷ 2 ∷ 10 ∷ 6 ∷ 10 ∷ 1 ∷ 2 ∷ 5 ∷ 4 ∷ 3 ∷ 5 ∷ 10 ∷ [])); lent = packLent (replicate 13 7) (replicate 1026 (place 3 1 2 true)) (replicate 60 5); answer = packed 26; left = packLent ((0 ∷ 1 ∷ 2 ∷ 6 ∷ 5 ∷ 4 ∷ 7 ∷ 8 ∷ 9 ∷ 10 ∷ 3 ∷ 7 ∷ 7 ∷ [])) (replicate 1024 (place 0 0 0 false) ++ ((place 3 1 2 true) ∷ (place 3 1 2 true) ∷ [])) ((1 ∷ 0 ∷ 8 ∷ 0 ∷ 11 ∷ 0 ∷ 12 ∷ 0 ∷ 9 ∷ 0 ∷ 2 ∷ 2 ∷ 0 ∷ 12 ∷ 236 ∷ 0 ∷ 192 ∷ 128 ∷ 27 ∷ 192 ∷ 64 ∷ 4 ∷ 91 ∷ 45 ∷ 246 ∷ 216 ∷ []) ++ replicate 34 5) }
     ∷
     -- the peak of places is reached by the union alone: accepted
     record { limits = record { places = 1024; loops = 100 }; vertices = 8; list = ((2 ∷ 6 ∷ 7 ∷ 0 ∷ 4 ∷ 6 ∷ 7 ∷ 6 ∷ 3 ∷ 4 ∷ 1 ∷ 6 ∷ 3 ∷ 0 ∷ 7 ∷ 0 ∷ 5 ∷ 1 ∷ 6 ∷ 1 ∷ 3 ∷ 2 ∷ 5 ∷ 6 ∷ 6 ∷ 5 ∷ 0 ∷ 0 ∷ 1 ∷ 7 ∷ 1 ∷ 4 ∷ 7 ∷ [])); lent = packLent (replicate 10 7) (replicate 1026 (place 3 1 2 true)) (replicate 60 5); answer = packed 25; left = packLent ((4 ∷ 6 ∷ 0 ∷ 7 ∷ 5 ∷ 3 ∷ 1 ∷ 2 ∷ 7 ∷ 7 ∷ [])) (replicate 1024 (place 0 0 0 false) ++ ((place 3 1 2 true) ∷ (place 3 1 2 true) ∷ [])) ((1 ∷ 0 ∷ 8 ∷ 0 ∷ 8 ∷ 0 ∷ 11 ∷ 0 ∷ 9 ∷ 0 ∷ 2 ∷ 2 ∷ 0 ∷ 11 ∷ 224 ∷ 0 ∷ 12 ∷ 0 ∷ 240 ∷ 16 ∷ 13 ∷ 54 ∷ 203 ∷ 109 ∷ 128 ∷ []) ++ replicate 35 5) }
@@ -92,22 +92,76 @@ packRows =
     record { limits = record { places = 1024; loops = 100 }; vertices = 11; list = ((0 ∷ 1 ∷ 2 ∷ 1 ∷ 0 ∷ 3 ∷ 1 ∷ 3 ∷ 4 ∷ 1 ∷ 4 ∷ 5 ∷ 1 ∷ 5 ∷ 6 ∷ 1 ∷ 6 ∷ 7 ∷ 1 ∷ 7 ∷ 2 ∷ 2 ∷ 7 ∷ 4 ∷ 2 ∷ 4 ∷ 8 ∷ 2 ∷ 8 ∷ 3 ∷ 2 ∷ 3 ∷ 9 ∷ 2 ∷ 9 ∷ 6 ∷ 2 ∷ 6 ∷ 10 ∷ 3 ∷ 8 ∷ 4 ∷ 6 ∷ 5 ∷ 10 ∷ [])); lent = packLent (replicate 13 7) (replicate 1026 (place 3 1 2 true)) (replicate 60 5); answer = packed 28; left = packLent ((0 ∷ 1 ∷ 2 ∷ 3 ∷ 4 ∷ 5 ∷ 6 ∷ 7 ∷ 8 ∷ 9 ∷ 10 ∷ 7 ∷ 7 ∷ [])) (replicate 1024 (place 0 0 0 false) ++ ((place 3 1 2 true) ∷ (place 3 1 2 true) ∷ [])) ((1 ∷ 0 ∷ 8 ∷ 0 ∷ 11 ∷ 0 ∷ 15 ∷ 0 ∷ 13 ∷ 0 ∷ 3 ∷ 2 ∷ 0 ∷ 14 ∷ 224 ∷ 0 ∷ 12 ∷ 0 ∷ 196 ∷ 0 ∷ 134 ∷ 4 ∷ 1 ∷ 134 ∷ 219 ∷ 109 ∷ 178 ∷ 232 ∷ []) ++ replicate 32 5) }
     ∷
     -- split to c that has a place in a waiting loop too: accepted
-    record { limits = record { places = 1024; loops = 100 }; vertices = 10; list = ((0 ∷ 1 ∷ 2 ∷ 3 ∷ 1 ∷ 4 ∷ 3 ∷ 0 ∷ 5 ∷ 6 ∷ 7 ∷ 0 ∷ 0 ∷ 8 ∷ 5 ∷ 0 ∷ 2 ∷ 8 ∷ 5 ∷ 8 ∷ 2 ∷ 6 ∷ 9 ∷ 3 ∷ 0 ∷ 7 ∷ 1 ∷ 1 ∷ 7 ∷ 4 ∷ 9 ∷ 0 ∷ 3 ∷ 9 ∷ 6 ∷ 0 ∷ 3 ∷ 4 ∷ 7 ∷ 3 ∷ 7 ∷ 6 ∷ [])); lent = packLent (replicate 12 7) (replicate 1026 (place 3 1 2 true)) (replicate 60 5); answer = packed 24; left = packLent ((0 ∷ 1 ∷ 2 ∷ 5 ∷ 4 ∷ 7 ∷ 9 ∷ 3 ∷ 6 ∷ 8 ∷ 7 ∷ 7 ∷ [])) (replicate 1024 (place 0 0 0 false) ++ ((place 3 1 2 true) ∷ (place 3 1 2 true) ∷ [])) ((1 ∷ 0 ∷ 8 ∷ 0 ∷ 10 ∷ 0 ∷ 14 ∷ 0 ∷ 11 ∷ 0 ∷ 3 ∷ 2 ∷ 0 ∷ 10 ∷ 224 ∷ 6 ∷ 192 ∷ 128 ∷ 24 ∷ 6 ∷ 0 ∷ 86 ∷ 178 ∷ 192 ∷ []) ++ replicate 36 5) }
+    record { limits = record { places = 1024; loops = 100 }; vertices = 10; list = ((0 ∷ 1 ∷ 2 ∷ 3 ∷ 1 ∷ 4 ∷ 3 ∷ 0 ∷ 5 ∷ 6 ∷ 7 ∷ 0 ∷ 0 ∷ 8 ∷ 5 ∷ 0 ∷ 2 ∷ 8 ∷ 5 ∷ 8 ∷ 2 ∷ 6 ∷ 9 ∷ 3 ∷ 0 ∷ 7 ∷ 1 ∷ 1 ∷ 7 ∷ 4 ∷ 9 ∷ 0 ∷ 3 ∷ 9 ∷ 6 ∷ 0 ∷ 3 ∷ 4 ∷ 7 ∷ 3 ∷ 7 ∷ 6 ∷ [])); lent = packLent (replicate 12 7) (replicate 1026 (place 3 1 2 true)) (replicate 60 5); answer = packed 24; left = packLent ((0 ∷ 1 ∷ 2 ∷ 5 ∷ 4 ∷ 7 ∷ 9 ∷ 3 ∷ 6 ∷ 8 ∷ 7 ∷ 7 ∷ [])) (replicate 1024 (place 0 0 0 false) ++ ((place 3 1 2 true) ∷ (place 3 1 2 true) ∷ [])) ((1 ∷ 0 ∷ 8 ∷ 0 ∷ 10 ∷ 0 ∷ 14 ∷ 0 ∷ 10 ∷ 0 ∷ 3 ∷ 2 ∷ 0 ∷ 10 ∷ 224 ∷ 6 ∷ 192 ∷ 128 ∷ 24 ∷ 6 ∷ 0 ∷ 86 ∷ 178 ∷ 192 ∷ []) ++ replicate 36 5) }
     ∷
-    -- union to c that has a place in the current loop too: accepted
-    record { limits = record { places = 1024; loops = 100 }; vertices = 10; list = ((0 ∷ 1 ∷ 2 ∷ 3 ∷ 4 ∷ 5 ∷ 1 ∷ 6 ∷ 7 ∷ 1 ∷ 7 ∷ 4 ∷ 1 ∷ 4 ∷ 2 ∷ 2 ∷ 4 ∷ 6 ∷ 2 ∷ 6 ∷ 8 ∷ 2 ∷ 8 ∷ 7 ∷ 7 ∷ 8 ∷ 9 ∷ 7 ∷ 9 ∷ 4 ∷ 6 ∷ 4 ∷ 3 ∷ 6 ∷ 3 ∷ 5 ∷ 6 ∷ 5 ∷ 7 ∷ [])); lent = packLent (replicate 12 7) (replicate 1026 (place 3 1 2 true)) (replicate 60 5); answer = packed 26; left = packLent ((0 ∷ 1 ∷ 2 ∷ 8 ∷ 3 ∷ 9 ∷ 4 ∷ 6 ∷ 5 ∷ 7 ∷ 7 ∷ 7 ∷ [])) (replicate 1024 (place 0 0 0 false) ++ ((place 3 1 2 true) ∷ (place 3 1 2 true) ∷ [])) ((1 ∷ 0 ∷ 8 ∷ 0 ∷ 10 ∷ 0 ∷ 13 ∷ 0 ∷ 12 ∷ 0 ∷ 2 ∷ 2 ∷ 0 ∷ 12 ∷ 236 ∷ 0 ∷ 27 ∷ 128 ∷ 24 ∷ 96 ∷ 96 ∷ 32 ∷ 10 ∷ 108 ∷ 178 ∷ 216 ∷ []) ++ replicate 34 5) }
+    -- union from a loop of two places: accepted
+    record { limits = record { places = 1024; loops = 100 }; vertices = 10; list = ((0 ∷ 1 ∷ 2 ∷ 3 ∷ 4 ∷ 5 ∷ 1 ∷ 6 ∷ 7 ∷ 1 ∷ 7 ∷ 4 ∷ 1 ∷ 4 ∷ 2 ∷ 2 ∷ 4 ∷ 6 ∷ 2 ∷ 6 ∷ 8 ∷ 2 ∷ 8 ∷ 7 ∷ 7 ∷ 8 ∷ 9 ∷ 7 ∷ 9 ∷ 4 ∷ 6 ∷ 4 ∷ 3 ∷ 6 ∷ 3 ∷ 5 ∷ 6 ∷ 5 ∷ 7 ∷ [])); lent = packLent (replicate 12 7) (replicate 1026 (place 3 1 2 true)) (replicate 60 5); answer = packed 26; left = packLent ((0 ∷ 1 ∷ 2 ∷ 9 ∷ 3 ∷ 7 ∷ 4 ∷ 6 ∷ 5 ∷ 8 ∷ 7 ∷ 7 ∷ [])) (replicate 1024 (place 0 0 0 false) ++ ((place 3 1 2 true) ∷ (place 3 1 2 true) ∷ [])) ((1 ∷ 0 ∷ 8 ∷ 0 ∷ 10 ∷ 0 ∷ 13 ∷ 0 ∷ 8 ∷ 0 ∷ 2 ∷ 2 ∷ 0 ∷ 12 ∷ 236 ∷ 0 ∷ 27 ∷ 128 ∷ 30 ∷ 2 ∷ 1 ∷ 6 ∷ 216 ∷ 44 ∷ 20 ∷ 216 ∷ []) ++ replicate 34 5) }
     ∷
-    -- split to c that has an earlier place after f: accepted
-    record { limits = record { places = 1024; loops = 100 }; vertices = 12; list = ((0 ∷ 1 ∷ 2 ∷ 1 ∷ 3 ∷ 2 ∷ 4 ∷ 5 ∷ 6 ∷ 7 ∷ 2 ∷ 8 ∷ 7 ∷ 0 ∷ 2 ∷ 3 ∷ 0 ∷ 7 ∷ 3 ∷ 9 ∷ 0 ∷ 1 ∷ 0 ∷ 9 ∷ 10 ∷ 1 ∷ 9 ∷ 3 ∷ 1 ∷ 10 ∷ 3 ∷ 10 ∷ 11 ∷ 11 ∷ 9 ∷ 3 ∷ 8 ∷ 9 ∷ 11 ∷ 8 ∷ 11 ∷ 7 ∷ [])); lent = packLent (replicate 14 7) (replicate 1026 (place 3 1 2 true)) (replicate 60 5); answer = packed 28; left = packLent ((0 ∷ 1 ∷ 2 ∷ 5 ∷ 9 ∷ 10 ∷ 11 ∷ 6 ∷ 7 ∷ 3 ∷ 4 ∷ 8 ∷ 7 ∷ 7 ∷ [])) (replicate 1024 (place 0 0 0 false) ++ ((place 3 1 2 true) ∷ (place 3 1 2 true) ∷ [])) ((1 ∷ 0 ∷ 8 ∷ 0 ∷ 12 ∷ 0 ∷ 14 ∷ 0 ∷ 11 ∷ 0 ∷ 2 ∷ 2 ∷ 0 ∷ 14 ∷ 224 ∷ 2 ∷ 196 ∷ 0 ∷ 216 ∷ 13 ∷ 224 ∷ 32 ∷ 20 ∷ 1 ∷ 234 ∷ 109 ∷ 246 ∷ 216 ∷ []) ++ replicate 32 5) }
+    -- union from a loop of two places, then a split past links: accepted
+    record { limits = record { places = 1024; loops = 100 }; vertices = 12; list = ((0 ∷ 1 ∷ 2 ∷ 1 ∷ 3 ∷ 2 ∷ 4 ∷ 5 ∷ 6 ∷ 7 ∷ 2 ∷ 8 ∷ 7 ∷ 0 ∷ 2 ∷ 3 ∷ 0 ∷ 7 ∷ 3 ∷ 9 ∷ 0 ∷ 1 ∷ 0 ∷ 9 ∷ 10 ∷ 1 ∷ 9 ∷ 3 ∷ 1 ∷ 10 ∷ 3 ∷ 10 ∷ 11 ∷ 11 ∷ 9 ∷ 3 ∷ 8 ∷ 9 ∷ 11 ∷ 8 ∷ 11 ∷ 7 ∷ [])); lent = packLent (replicate 14 7) (replicate 1026 (place 3 1 2 true)) (replicate 60 5); answer = packed 28; left = packLent ((0 ∷ 1 ∷ 2 ∷ 5 ∷ 9 ∷ 10 ∷ 11 ∷ 6 ∷ 7 ∷ 3 ∷ 4 ∷ 8 ∷ 7 ∷ 7 ∷ [])) (replicate 1024 (place 0 0 0 false) ++ ((place 3 1 2 true) ∷ (place 3 1 2 true) ∷ [])) ((1 ∷ 0 ∷ 8 ∷ 0 ∷ 12 ∷ 0 ∷ 14 ∷ 0 ∷ 8 ∷ 0 ∷ 2 ∷ 2 ∷ 0 ∷ 14 ∷ 224 ∷ 2 ∷ 196 ∷ 0 ∷ 216 ∷ 13 ∷ 224 ∷ 32 ∷ 20 ∷ 1 ∷ 42 ∷ 109 ∷ 246 ∷ 216 ∷ []) ++ replicate 32 5) }
     ∷
     -- union to c that has two places in the waiting loop: accepted
-    record { limits = record { places = 1024; loops = 100 }; vertices = 15; list = ((0 ∷ 1 ∷ 2 ∷ 1 ∷ 0 ∷ 3 ∷ 4 ∷ 5 ∷ 6 ∷ 7 ∷ 1 ∷ 3 ∷ 6 ∷ 8 ∷ 7 ∷ 4 ∷ 9 ∷ 5 ∷ 10 ∷ 3 ∷ 8 ∷ 5 ∷ 7 ∷ 8 ∷ 11 ∷ 5 ∷ 8 ∷ 12 ∷ 8 ∷ 1 ∷ 10 ∷ 8 ∷ 2 ∷ 1 ∷ 7 ∷ 12 ∷ 8 ∷ 6 ∷ 1 ∷ 13 ∷ 12 ∷ 4 ∷ 11 ∷ 8 ∷ 0 ∷ 12 ∷ 7 ∷ 5 ∷ 1 ∷ 6 ∷ 5 ∷ 12 ∷ 9 ∷ 4 ∷ 5 ∷ 9 ∷ 12 ∷ 0 ∷ 8 ∷ 3 ∷ 14 ∷ 10 ∷ 2 ∷ 1 ∷ 14 ∷ 2 ∷ [])); lent = packLent (replicate 17 7) (replicate 1026 (place 3 1 2 true)) (replicate 60 5); answer = packed 35; left = packLent ((0 ∷ 1 ∷ 2 ∷ 3 ∷ 12 ∷ 8 ∷ 7 ∷ 4 ∷ 6 ∷ 13 ∷ 10 ∷ 11 ∷ 5 ∷ 14 ∷ 9 ∷ 7 ∷ 7 ∷ [])) (replicate 1024 (place 0 0 0 false) ++ ((place 3 1 2 true) ∷ (place 3 1 2 true) ∷ [])) ((1 ∷ 0 ∷ 8 ∷ 0 ∷ 15 ∷ 0 ∷ 22 ∷ 0 ∷ 16 ∷ 0 ∷ 2 ∷ 2 ∷ 0 ∷ 21 ∷ 224 ∷ 0 ∷ 3 ∷ 2 ∷ 0 ∷ 173 ∷ 224 ∷ 32 ∷ 10 ∷ 110 ∷ 0 ∷ 216 ∷ 8 ∷ 10 ∷ 27 ∷ 101 ∷ 128 ∷ 80 ∷ 108 ∷ 182 ∷ 192 ∷ []) ++ replicate 25 5) }
+    record { limits = record { places = 1024; loops = 100 }; vertices = 15; list = ((0 ∷ 1 ∷ 2 ∷ 1 ∷ 0 ∷ 3 ∷ 4 ∷ 5 ∷ 6 ∷ 7 ∷ 1 ∷ 3 ∷ 6 ∷ 8 ∷ 7 ∷ 4 ∷ 9 ∷ 5 ∷ 10 ∷ 3 ∷ 8 ∷ 5 ∷ 7 ∷ 8 ∷ 11 ∷ 5 ∷ 8 ∷ 12 ∷ 8 ∷ 1 ∷ 10 ∷ 8 ∷ 2 ∷ 1 ∷ 7 ∷ 12 ∷ 8 ∷ 6 ∷ 1 ∷ 13 ∷ 12 ∷ 4 ∷ 11 ∷ 8 ∷ 0 ∷ 12 ∷ 7 ∷ 5 ∷ 1 ∷ 6 ∷ 5 ∷ 12 ∷ 9 ∷ 4 ∷ 5 ∷ 9 ∷ 12 ∷ 0 ∷ 8 ∷ 3 ∷ 14 ∷ 10 ∷ 2 ∷ 1 ∷ 14 ∷ 2 ∷ [])); lent = packLent (replicate 17 7) (replicate 1026 (place 3 1 2 true)) (replicate 60 5); answer = packed 35; left = packLent ((0 ∷ 1 ∷ 2 ∷ 3 ∷ 12 ∷ 8 ∷ 7 ∷ 4 ∷ 6 ∷ 13 ∷ 10 ∷ 11 ∷ 5 ∷ 14 ∷ 9 ∷ 7 ∷ 7 ∷ [])) (replicate 1024 (place 0 0 0 false) ++ ((place 3 1 2 true) ∷ (place 3 1 2 true) ∷ [])) ((1 ∷ 0 ∷ 8 ∷ 0 ∷ 15 ∷ 0 ∷ 22 ∷ 0 ∷ 13 ∷ 0 ∷ 2 ∷ 2 ∷ 0 ∷ 21 ∷ 224 ∷ 0 ∷ 3 ∷ 2 ∷ 0 ∷ 173 ∷ 224 ∷ 32 ∷ 10 ∷ 110 ∷ 0 ∷ 184 ∷ 8 ∷ 8 ∷ 27 ∷ 101 ∷ 128 ∷ 80 ∷ 108 ∷ 182 ∷ 192 ∷ []) ++ replicate 25 5) }
     ∷
     -- torus of seven vertices: accepted
     record { limits = record { places = 1024; loops = 100 }; vertices = 7; list = ((0 ∷ 1 ∷ 3 ∷ 1 ∷ 2 ∷ 4 ∷ 2 ∷ 3 ∷ 5 ∷ 3 ∷ 4 ∷ 6 ∷ 4 ∷ 5 ∷ 0 ∷ 5 ∷ 6 ∷ 1 ∷ 6 ∷ 0 ∷ 2 ∷ 1 ∷ 0 ∷ 5 ∷ 2 ∷ 1 ∷ 6 ∷ 3 ∷ 2 ∷ 0 ∷ 4 ∷ 3 ∷ 1 ∷ 5 ∷ 4 ∷ 2 ∷ 6 ∷ 5 ∷ 3 ∷ 0 ∷ 6 ∷ 4 ∷ [])); lent = packLent (replicate 9 7) (replicate 1026 (place 3 1 2 true)) (replicate 60 5); answer = packed 24; left = packLent ((0 ∷ 1 ∷ 5 ∷ 2 ∷ 6 ∷ 3 ∷ 4 ∷ 7 ∷ 7 ∷ [])) (replicate 1024 (place 0 0 0 false) ++ ((place 3 1 2 true) ∷ (place 3 1 2 true) ∷ [])) ((1 ∷ 0 ∷ 8 ∷ 0 ∷ 7 ∷ 0 ∷ 14 ∷ 0 ∷ 8 ∷ 0 ∷ 2 ∷ 2 ∷ 0 ∷ 10 ∷ 224 ∷ 0 ∷ 96 ∷ 7 ∷ 128 ∷ 128 ∷ 69 ∷ 64 ∷ 14 ∷ 154 ∷ []) ++ replicate 36 5) }
     ∷
-    -- the first place that has c does not do: accepted
-    record { limits = record { places = 1024; loops = 100 }; vertices = 7; list = ((0 ∷ 1 ∷ 2 ∷ 3 ∷ 1 ∷ 4 ∷ 1 ∷ 5 ∷ 6 ∷ 5 ∷ 1 ∷ 3 ∷ 5 ∷ 0 ∷ 2 ∷ 4 ∷ 5 ∷ 2 ∷ 1 ∷ 0 ∷ 4 ∷ 6 ∷ 5 ∷ 4 ∷ 0 ∷ 6 ∷ 4 ∷ [])); lent = packLent (replicate 9 7) (replicate 1026 (place 3 1 2 true)) (replicate 60 5); answer = packed 24; left = packLent ((0 ∷ 1 ∷ 2 ∷ 4 ∷ 3 ∷ 5 ∷ 6 ∷ 7 ∷ 7 ∷ [])) (replicate 1024 (place 0 0 0 false) ++ ((place 3 1 2 true) ∷ (place 3 1 2 true) ∷ [])) ((1 ∷ 0 ∷ 8 ∷ 0 ∷ 7 ∷ 0 ∷ 9 ∷ 0 ∷ 9 ∷ 0 ∷ 2 ∷ 2 ∷ 0 ∷ 10 ∷ 224 ∷ 0 ∷ 220 ∷ 0 ∷ 222 ∷ 2 ∷ 1 ∷ 36 ∷ 219 ∷ 96 ∷ []) ++ replicate 36 5) }
+    -- a loop of two places, which new makes longer; f leaves; three places are the peak, in full loops four: accepted
+    record { limits = record { places = 1024; loops = 100 }; vertices = 4; list = ((0 ∷ 2 ∷ 1 ∷ 1 ∷ 3 ∷ 0 ∷ [])); lent = packLent ((7 ∷ 7 ∷ 7 ∷ 7 ∷ 7 ∷ 7 ∷ [])) (replicate 1026 (place 3 1 2 true)) (replicate 60 5); answer = packed 17; left = packLent ((0 ∷ 2 ∷ 1 ∷ 3 ∷ 7 ∷ 7 ∷ [])) (replicate 1024 (place 0 0 0 false) ++ ((place 3 1 2 true) ∷ (place 3 1 2 true) ∷ [])) ((1 ∷ 0 ∷ 8 ∷ 0 ∷ 4 ∷ 0 ∷ 2 ∷ 0 ∷ 3 ∷ 0 ∷ 1 ∷ 2 ∷ 0 ∷ 3 ∷ 237 ∷ 134 ∷ 192 ∷ []) ++ replicate 43 5) }
+    ∷
+    -- both places of an edge leave: accepted
+    record { limits = record { places = 1024; loops = 100 }; vertices = 4; list = ((0 ∷ 1 ∷ 2 ∷ 2 ∷ 1 ∷ 3 ∷ [])); lent = packLent ((7 ∷ 7 ∷ 7 ∷ 7 ∷ 7 ∷ 7 ∷ [])) (replicate 1026 (place 3 1 2 true)) (replicate 60 5); answer = packed 17; left = packLent ((0 ∷ 1 ∷ 2 ∷ 3 ∷ 7 ∷ 7 ∷ [])) (replicate 1024 (place 0 0 0 false) ++ ((place 3 1 2 true) ∷ (place 3 1 2 true) ∷ [])) ((1 ∷ 0 ∷ 8 ∷ 0 ∷ 4 ∷ 0 ∷ 2 ∷ 0 ∷ 4 ∷ 0 ∷ 1 ∷ 2 ∷ 0 ∷ 3 ∷ 236 ∷ 54 ∷ 192 ∷ []) ++ replicate 43 5) }
+    ∷
+    -- split 1 across a link: accepted
+    record { limits = record { places = 1024; loops = 100 }; vertices = 6; list = ((2 ∷ 5 ∷ 3 ∷ 2 ∷ 3 ∷ 0 ∷ 2 ∷ 1 ∷ 5 ∷ 3 ∷ 1 ∷ 4 ∷ 4 ∷ 1 ∷ 2 ∷ 3 ∷ 4 ∷ 0 ∷ [])); lent = packLent (replicate 8 7) (replicate 1026 (place 3 1 2 true)) (replicate 60 5); answer = packed 20; left = packLent ((4 ∷ 3 ∷ 0 ∷ 2 ∷ 5 ∷ 1 ∷ 7 ∷ 7 ∷ [])) (replicate 1024 (place 0 0 0 false) ++ ((place 3 1 2 true) ∷ (place 3 1 2 true) ∷ [])) ((1 ∷ 0 ∷ 8 ∷ 0 ∷ 6 ∷ 0 ∷ 6 ∷ 0 ∷ 6 ∷ 0 ∷ 2 ∷ 2 ∷ 0 ∷ 6 ∷ 225 ∷ 176 ∷ 196 ∷ 0 ∷ 89 ∷ 108 ∷ []) ++ replicate 40 5) }
+    ∷
+    -- split of equal halves, next to a marked edge: accepted
+    record { limits = record { places = 1024; loops = 100 }; vertices = 5; list = ((2 ∷ 0 ∷ 1 ∷ 1 ∷ 4 ∷ 2 ∷ 2 ∷ 4 ∷ 0 ∷ 3 ∷ 4 ∷ 1 ∷ 1 ∷ 0 ∷ 3 ∷ [])); lent = packLent ((7 ∷ 7 ∷ 7 ∷ 7 ∷ 7 ∷ 7 ∷ 7 ∷ [])) (replicate 1026 (place 3 1 2 true)) (replicate 60 5); answer = packed 19; left = packLent ((1 ∷ 2 ∷ 0 ∷ 4 ∷ 3 ∷ 7 ∷ 7 ∷ [])) (replicate 1024 (place 0 0 0 false) ++ ((place 3 1 2 true) ∷ (place 3 1 2 true) ∷ [])) ((1 ∷ 0 ∷ 8 ∷ 0 ∷ 5 ∷ 0 ∷ 5 ∷ 0 ∷ 6 ∷ 0 ∷ 2 ∷ 2 ∷ 0 ∷ 5 ∷ 225 ∷ 136 ∷ 1 ∷ 86 ∷ 192 ∷ []) ++ replicate 41 5) }
+    ∷
+    -- split 2 past a link; of halves equal in places the first goes on, in full loops the second would: accepted
+    record { limits = record { places = 1024; loops = 100 }; vertices = 6; list = ((2 ∷ 0 ∷ 1 ∷ 1 ∷ 3 ∷ 2 ∷ 3 ∷ 1 ∷ 4 ∷ 3 ∷ 4 ∷ 5 ∷ 4 ∷ 0 ∷ 2 ∷ 5 ∷ 4 ∷ 2 ∷ [])); lent = packLent (replicate 8 7) (replicate 1026 (place 3 1 2 true)) (replicate 60 5); answer = packed 20; left = packLent ((1 ∷ 2 ∷ 0 ∷ 4 ∷ 3 ∷ 5 ∷ 7 ∷ 7 ∷ [])) (replicate 1024 (place 0 0 0 false) ++ ((place 3 1 2 true) ∷ (place 3 1 2 true) ∷ [])) ((1 ∷ 0 ∷ 8 ∷ 0 ∷ 6 ∷ 0 ∷ 6 ∷ 0 ∷ 6 ∷ 0 ∷ 2 ∷ 2 ∷ 0 ∷ 6 ∷ 225 ∷ 176 ∷ 196 ∷ 0 ∷ 147 ∷ 108 ∷ []) ++ replicate 40 5) }
+    ∷
+    -- split 1; the first part has fewer places, in full loops as many: accepted
+    record { limits = record { places = 1024; loops = 100 }; vertices = 6; list = ((2 ∷ 5 ∷ 0 ∷ 1 ∷ 2 ∷ 0 ∷ 0 ∷ 3 ∷ 1 ∷ 3 ∷ 2 ∷ 1 ∷ 2 ∷ 4 ∷ 5 ∷ 0 ∷ 4 ∷ 3 ∷ 3 ∷ 4 ∷ 2 ∷ [])); lent = packLent (replicate 8 7) (replicate 1026 (place 3 1 2 true)) (replicate 60 5); answer = packed 19; left = packLent ((2 ∷ 4 ∷ 0 ∷ 5 ∷ 3 ∷ 1 ∷ 7 ∷ 7 ∷ [])) (replicate 1024 (place 0 0 0 false) ++ ((place 3 1 2 true) ∷ (place 3 1 2 true) ∷ [])) ((1 ∷ 0 ∷ 8 ∷ 0 ∷ 6 ∷ 0 ∷ 7 ∷ 0 ∷ 5 ∷ 0 ∷ 2 ∷ 2 ∷ 0 ∷ 5 ∷ 225 ∷ 176 ∷ 12 ∷ 0 ∷ 93 ∷ []) ++ replicate 41 5) }
+    ∷
+    -- split 1; the first part has fewer places, in full loops more: accepted
+    record { limits = record { places = 1024; loops = 100 }; vertices = 7; list = ((3 ∷ 5 ∷ 6 ∷ 0 ∷ 5 ∷ 3 ∷ 0 ∷ 2 ∷ 5 ∷ 2 ∷ 4 ∷ 3 ∷ 1 ∷ 4 ∷ 2 ∷ 1 ∷ 3 ∷ 4 ∷ 1 ∷ 0 ∷ 3 ∷ 0 ∷ 1 ∷ 2 ∷ [])); lent = packLent (replicate 9 7) (replicate 1026 (place 3 1 2 true)) (replicate 60 5); answer = packed 20; left = packLent ((3 ∷ 5 ∷ 4 ∷ 0 ∷ 6 ∷ 1 ∷ 2 ∷ 7 ∷ 7 ∷ [])) (replicate 1024 (place 0 0 0 false) ++ ((place 3 1 2 true) ∷ (place 3 1 2 true) ∷ [])) ((1 ∷ 0 ∷ 8 ∷ 0 ∷ 7 ∷ 0 ∷ 8 ∷ 0 ∷ 5 ∷ 0 ∷ 2 ∷ 2 ∷ 0 ∷ 6 ∷ 224 ∷ 54 ∷ 193 ∷ 16 ∷ 1 ∷ 116 ∷ []) ++ replicate 40 5) }
+    ∷
+    -- split 2 where the edge after f is marked: accepted
+    record { limits = record { places = 1024; loops = 100 }; vertices = 6; list = ((2 ∷ 1 ∷ 5 ∷ 0 ∷ 5 ∷ 4 ∷ 2 ∷ 3 ∷ 4 ∷ 2 ∷ 5 ∷ 3 ∷ 1 ∷ 4 ∷ 5 ∷ 0 ∷ 4 ∷ 3 ∷ [])); lent = packLent (replicate 8 7) (replicate 1026 (place 3 1 2 true)) (replicate 60 5); answer = packed 20; left = packLent ((4 ∷ 1 ∷ 0 ∷ 5 ∷ 3 ∷ 2 ∷ 7 ∷ 7 ∷ [])) (replicate 1024 (place 0 0 0 false) ++ ((place 3 1 2 true) ∷ (place 3 1 2 true) ∷ [])) ((1 ∷ 0 ∷ 8 ∷ 0 ∷ 6 ∷ 0 ∷ 6 ∷ 0 ∷ 7 ∷ 0 ∷ 2 ∷ 2 ∷ 0 ∷ 6 ∷ 236 ∷ 6 ∷ 32 ∷ 4 ∷ 217 ∷ 108 ∷ []) ++ replicate 40 5) }
+    ∷
+    -- split k - 3 where the edge into e is marked: accepted
+    record { limits = record { places = 1024; loops = 100 }; vertices = 6; list = ((0 ∷ 1 ∷ 2 ∷ 3 ∷ 1 ∷ 0 ∷ 4 ∷ 0 ∷ 2 ∷ 4 ∷ 3 ∷ 0 ∷ 4 ∷ 1 ∷ 3 ∷ 4 ∷ 5 ∷ 1 ∷ [])); lent = packLent (replicate 8 7) (replicate 1026 (place 3 1 2 true)) (replicate 60 5); answer = packed 19; left = packLent ((0 ∷ 1 ∷ 2 ∷ 3 ∷ 4 ∷ 5 ∷ 7 ∷ 7 ∷ [])) (replicate 1024 (place 0 0 0 false) ++ ((place 3 1 2 true) ∷ (place 3 1 2 true) ∷ [])) ((1 ∷ 0 ∷ 8 ∷ 0 ∷ 6 ∷ 0 ∷ 6 ∷ 0 ∷ 6 ∷ 0 ∷ 2 ∷ 2 ∷ 0 ∷ 5 ∷ 224 ∷ 6 ∷ 224 ∷ 5 ∷ 91 ∷ []) ++ replicate 41 5) }
+    ∷
+    -- seven places, in full loops six: the other half of the split goes on: accepted
+    record { limits = record { places = 1024; loops = 100 }; vertices = 7; list = ((3 ∷ 1 ∷ 6 ∷ 5 ∷ 0 ∷ 4 ∷ 5 ∷ 1 ∷ 2 ∷ 6 ∷ 5 ∷ 3 ∷ 2 ∷ 3 ∷ 5 ∷ 0 ∷ 5 ∷ 6 ∷ 2 ∷ 1 ∷ 3 ∷ [])); lent = packLent (replicate 9 7) (replicate 1026 (place 3 1 2 true)) (replicate 60 5); answer = packed 20; left = packLent ((5 ∷ 1 ∷ 3 ∷ 0 ∷ 6 ∷ 4 ∷ 2 ∷ 7 ∷ 7 ∷ [])) (replicate 1024 (place 0 0 0 false) ++ ((place 3 1 2 true) ∷ (place 3 1 2 true) ∷ [])) ((1 ∷ 0 ∷ 8 ∷ 0 ∷ 7 ∷ 0 ∷ 7 ∷ 0 ∷ 7 ∷ 0 ∷ 2 ∷ 2 ∷ 0 ∷ 6 ∷ 224 ∷ 55 ∷ 0 ∷ 32 ∷ 27 ∷ 116 ∷ []) ++ replicate 40 5) }
+    ∷
+    -- union from a loop of two places, with j = 0: accepted
+    record { limits = record { places = 1024; loops = 100 }; vertices = 6; list = ((0 ∷ 1 ∷ 2 ∷ 2 ∷ 1 ∷ 3 ∷ 0 ∷ 2 ∷ 4 ∷ 0 ∷ 4 ∷ 3 ∷ 0 ∷ 3 ∷ 5 ∷ 3 ∷ 1 ∷ 5 ∷ 5 ∷ 1 ∷ 4 ∷ 5 ∷ 4 ∷ 2 ∷ [])); lent = packLent (replicate 8 7) (replicate 1026 (place 3 1 2 true)) (replicate 60 5); answer = packed 23; left = packLent ((0 ∷ 1 ∷ 2 ∷ 3 ∷ 4 ∷ 5 ∷ 7 ∷ 7 ∷ [])) (replicate 1024 (place 0 0 0 false) ++ ((place 3 1 2 true) ∷ (place 3 1 2 true) ∷ [])) ((1 ∷ 0 ∷ 8 ∷ 0 ∷ 6 ∷ 0 ∷ 8 ∷ 0 ∷ 7 ∷ 0 ∷ 2 ∷ 2 ∷ 0 ∷ 9 ∷ 236 ∷ 49 ∷ 0 ∷ 32 ∷ 206 ∷ 2 ∷ 0 ∷ 38 ∷ 216 ∷ []) ++ replicate 37 5) }
+    ∷
+    -- union and split past a link: accepted
+    record { limits = record { places = 1024; loops = 100 }; vertices = 7; list = ((6 ∷ 5 ∷ 4 ∷ 5 ∷ 6 ∷ 2 ∷ 6 ∷ 1 ∷ 0 ∷ 2 ∷ 0 ∷ 3 ∷ 5 ∷ 2 ∷ 3 ∷ 1 ∷ 6 ∷ 4 ∷ 3 ∷ 0 ∷ 1 ∷ 1 ∷ 4 ∷ 2 ∷ 2 ∷ 4 ∷ 0 ∷ [])); lent = packLent (replicate 9 7) (replicate 1026 (place 3 1 2 true)) (replicate 60 5); answer = packed 24; left = packLent ((6 ∷ 5 ∷ 3 ∷ 4 ∷ 2 ∷ 1 ∷ 0 ∷ 7 ∷ 7 ∷ [])) (replicate 1024 (place 0 0 0 false) ++ ((place 3 1 2 true) ∷ (place 3 1 2 true) ∷ [])) ((1 ∷ 0 ∷ 8 ∷ 0 ∷ 7 ∷ 0 ∷ 9 ∷ 0 ∷ 7 ∷ 0 ∷ 2 ∷ 2 ∷ 0 ∷ 10 ∷ 224 ∷ 54 ∷ 3 ∷ 112 ∷ 3 ∷ 192 ∷ 64 ∷ 38 ∷ 89 ∷ 96 ∷ []) ++ replicate 36 5) }
+    ∷
+    -- union 2 of two waiting loops, in shortened loops: accepted
+    record { limits = record { places = 1024; loops = 100 }; vertices = 8; list = ((6 ∷ 2 ∷ 5 ∷ 7 ∷ 4 ∷ 0 ∷ 5 ∷ 4 ∷ 3 ∷ 3 ∷ 4 ∷ 2 ∷ 2 ∷ 7 ∷ 5 ∷ 7 ∷ 2 ∷ 4 ∷ 1 ∷ 7 ∷ 6 ∷ 4 ∷ 6 ∷ 0 ∷ 3 ∷ 6 ∷ 5 ∷ 3 ∷ 1 ∷ 6 ∷ 0 ∷ 6 ∷ 7 ∷ [])); lent = packLent (replicate 10 7) (replicate 1026 (place 3 1 2 true)) (replicate 60 5); answer = packed 26; left = packLent ((6 ∷ 5 ∷ 1 ∷ 4 ∷ 7 ∷ 2 ∷ 0 ∷ 3 ∷ 7 ∷ 7 ∷ [])) (replicate 1024 (place 0 0 0 false) ++ ((place 3 1 2 true) ∷ (place 3 1 2 true) ∷ [])) ((1 ∷ 0 ∷ 8 ∷ 0 ∷ 8 ∷ 0 ∷ 11 ∷ 0 ∷ 10 ∷ 0 ∷ 3 ∷ 2 ∷ 0 ∷ 12 ∷ 236 ∷ 48 ∷ 32 ∷ 4 ∷ 3 ∷ 128 ∷ 22 ∷ 4 ∷ 1 ∷ 166 ∷ 219 ∷ 160 ∷ []) ++ replicate 34 5) }
+    ∷
+    -- union to c that has a place in the current loop too, before it: accepted
+    record { limits = record { places = 1024; loops = 100 }; vertices = 8; list = ((0 ∷ 1 ∷ 2 ∷ 1 ∷ 0 ∷ 3 ∷ 2 ∷ 4 ∷ 0 ∷ 1 ∷ 5 ∷ 6 ∷ 5 ∷ 7 ∷ 0 ∷ 4 ∷ 5 ∷ 0 ∷ 5 ∷ 1 ∷ 3 ∷ 7 ∷ 5 ∷ 2 ∷ 7 ∷ 2 ∷ 1 ∷ 4 ∷ 6 ∷ 5 ∷ [])); lent = packLent (replicate 10 7) (replicate 1026 (place 3 1 2 true)) (replicate 60 5); answer = packed 25; left = packLent ((0 ∷ 1 ∷ 2 ∷ 3 ∷ 7 ∷ 4 ∷ 5 ∷ 6 ∷ 7 ∷ 7 ∷ [])) (replicate 1024 (place 0 0 0 false) ++ ((place 3 1 2 true) ∷ (place 3 1 2 true) ∷ [])) ((1 ∷ 0 ∷ 8 ∷ 0 ∷ 8 ∷ 0 ∷ 10 ∷ 0 ∷ 10 ∷ 0 ∷ 2 ∷ 2 ∷ 0 ∷ 11 ∷ 224 ∷ 6 ∷ 32 ∷ 6 ∷ 198 ∷ 2 ∷ 0 ∷ 166 ∷ 219 ∷ 45 ∷ 128 ∷ []) ++ replicate 35 5) }
+    ∷
+    -- split to c that has an earlier place in the loop: the first place that has c does not do: accepted
+    record { limits = record { places = 1024; loops = 100 }; vertices = 8; list = ((0 ∷ 1 ∷ 2 ∷ 3 ∷ 0 ∷ 2 ∷ 4 ∷ 3 ∷ 5 ∷ 4 ∷ 5 ∷ 0 ∷ 6 ∷ 4 ∷ 1 ∷ 5 ∷ 3 ∷ 2 ∷ 1 ∷ 3 ∷ 6 ∷ 1 ∷ 0 ∷ 5 ∷ 3 ∷ 4 ∷ 6 ∷ 1 ∷ 7 ∷ 3 ∷ 5 ∷ 7 ∷ 1 ∷ [])); lent = packLent (replicate 10 7) (replicate 1026 (place 3 1 2 true)) (replicate 60 5); answer = packed 26; left = packLent ((0 ∷ 1 ∷ 2 ∷ 5 ∷ 7 ∷ 3 ∷ 6 ∷ 4 ∷ 7 ∷ 7 ∷ [])) (replicate 1024 (place 0 0 0 false) ++ ((place 3 1 2 true) ∷ (place 3 1 2 true) ∷ [])) ((1 ∷ 0 ∷ 8 ∷ 0 ∷ 8 ∷ 0 ∷ 11 ∷ 0 ∷ 10 ∷ 0 ∷ 2 ∷ 2 ∷ 0 ∷ 12 ∷ 224 ∷ 0 ∷ 27 ∷ 128 ∷ 27 ∷ 192 ∷ 64 ∷ 56 ∷ 3 ∷ 84 ∷ 219 ∷ 96 ∷ []) ++ replicate 34 5) }
+    ∷
+    -- split to c that has a later place in the loop: accepted
+    record { limits = record { places = 1024; loops = 100 }; vertices = 9; list = ((0 ∷ 1 ∷ 2 ∷ 0 ∷ 3 ∷ 1 ∷ 4 ∷ 5 ∷ 1 ∷ 3 ∷ 4 ∷ 1 ∷ 0 ∷ 6 ∷ 3 ∷ 0 ∷ 2 ∷ 5 ∷ 5 ∷ 7 ∷ 1 ∷ 8 ∷ 7 ∷ 6 ∷ 5 ∷ 2 ∷ 3 ∷ 3 ∷ 6 ∷ 5 ∷ 5 ∷ 6 ∷ 7 ∷ 3 ∷ 2 ∷ 7 ∷ 7 ∷ 8 ∷ 3 ∷ [])); lent = packLent (replicate 11 7) (replicate 1026 (place 3 1 2 true)) (replicate 60 5); answer = packed 27; left = packLent ((0 ∷ 1 ∷ 2 ∷ 3 ∷ 4 ∷ 5 ∷ 7 ∷ 6 ∷ 8 ∷ 7 ∷ 7 ∷ [])) (replicate 1024 (place 0 0 0 false) ++ ((place 3 1 2 true) ∷ (place 3 1 2 true) ∷ [])) ((1 ∷ 0 ∷ 8 ∷ 0 ∷ 9 ∷ 0 ∷ 13 ∷ 0 ∷ 10 ∷ 0 ∷ 2 ∷ 2 ∷ 0 ∷ 13 ∷ 224 ∷ 0 ∷ 220 ∷ 0 ∷ 240 ∷ 16 ∷ 8 ∷ 17 ∷ 0 ∷ 36 ∷ 219 ∷ 108 ∷ 182 ∷ []) ++ replicate 33 5) }
+    ∷
+    -- backward to c that has an earlier place in the loop: accepted
+    record { limits = record { places = 1024; loops = 100 }; vertices = 8; list = ((0 ∷ 1 ∷ 2 ∷ 1 ∷ 3 ∷ 2 ∷ 2 ∷ 3 ∷ 4 ∷ 1 ∷ 4 ∷ 5 ∷ 0 ∷ 2 ∷ 5 ∷ 0 ∷ 6 ∷ 1 ∷ 7 ∷ 4 ∷ 3 ∷ 1 ∷ 6 ∷ 4 ∷ 5 ∷ 4 ∷ 0 ∷ 4 ∷ 7 ∷ 0 ∷ [])); lent = packLent (replicate 10 7) (replicate 1026 (place 3 1 2 true)) (replicate 60 5); answer = packed 25; left = packLent ((0 ∷ 1 ∷ 2 ∷ 6 ∷ 4 ∷ 5 ∷ 3 ∷ 7 ∷ 7 ∷ 7 ∷ [])) (replicate 1024 (place 0 0 0 false) ++ ((place 3 1 2 true) ∷ (place 3 1 2 true) ∷ [])) ((1 ∷ 0 ∷ 8 ∷ 0 ∷ 8 ∷ 0 ∷ 10 ∷ 0 ∷ 9 ∷ 0 ∷ 2 ∷ 2 ∷ 0 ∷ 11 ∷ 224 ∷ 6 ∷ 32 ∷ 6 ∷ 240 ∷ 16 ∷ 9 ∷ 6 ∷ 219 ∷ 101 ∷ 128 ∷ []) ++ replicate 35 5) }
+    ∷
+    -- forward to c that has a later place in the loop: accepted
+    record { limits = record { places = 1024; loops = 100 }; vertices = 7; list = ((0 ∷ 2 ∷ 1 ∷ 5 ∷ 2 ∷ 6 ∷ 4 ∷ 2 ∷ 0 ∷ 4 ∷ 5 ∷ 3 ∷ 6 ∷ 0 ∷ 5 ∷ 0 ∷ 3 ∷ 5 ∷ 0 ∷ 1 ∷ 3 ∷ 3 ∷ 2 ∷ 4 ∷ 1 ∷ 2 ∷ 5 ∷ [])); lent = packLent (replicate 9 7) (replicate 1026 (place 3 1 2 true)) (replicate 60 5); answer = packed 24; left = packLent ((0 ∷ 2 ∷ 1 ∷ 4 ∷ 3 ∷ 5 ∷ 6 ∷ 7 ∷ 7 ∷ [])) (replicate 1024 (place 0 0 0 false) ++ ((place 3 1 2 true) ∷ (place 3 1 2 true) ∷ [])) ((1 ∷ 0 ∷ 8 ∷ 0 ∷ 7 ∷ 0 ∷ 9 ∷ 0 ∷ 9 ∷ 0 ∷ 2 ∷ 2 ∷ 0 ∷ 10 ∷ 224 ∷ 48 ∷ 224 ∷ 5 ∷ 128 ∷ 128 ∷ 97 ∷ 178 ∷ 217 ∷ 96 ∷ []) ++ replicate 36 5) }
+    ∷
+    -- union from a loop with a link; the peak of places is reached by it: accepted
+    record { limits = record { places = 1024; loops = 100 }; vertices = 7; list = ((0 ∷ 1 ∷ 2 ∷ 3 ∷ 1 ∷ 4 ∷ 1 ∷ 5 ∷ 6 ∷ 5 ∷ 1 ∷ 3 ∷ 5 ∷ 0 ∷ 2 ∷ 4 ∷ 5 ∷ 2 ∷ 1 ∷ 0 ∷ 4 ∷ 6 ∷ 5 ∷ 4 ∷ 0 ∷ 6 ∷ 4 ∷ [])); lent = packLent (replicate 9 7) (replicate 1026 (place 3 1 2 true)) (replicate 60 5); answer = packed 24; left = packLent ((0 ∷ 1 ∷ 2 ∷ 4 ∷ 3 ∷ 5 ∷ 6 ∷ 7 ∷ 7 ∷ [])) (replicate 1024 (place 0 0 0 false) ++ ((place 3 1 2 true) ∷ (place 3 1 2 true) ∷ [])) ((1 ∷ 0 ∷ 8 ∷ 0 ∷ 7 ∷ 0 ∷ 9 ∷ 0 ∷ 8 ∷ 0 ∷ 2 ∷ 2 ∷ 0 ∷ 10 ∷ 224 ∷ 0 ∷ 220 ∷ 0 ∷ 240 ∷ 16 ∷ 8 ∷ 166 ∷ 219 ∷ 96 ∷ []) ++ replicate 36 5) }
     ∷
     -- 1: four numbers: refusal 1
     record { limits = record { places = 1024; loops = 100 }; vertices = 4; list = ((0 ∷ 1 ∷ 2 ∷ 3 ∷ [])); lent = packLent ((7 ∷ 7 ∷ 7 ∷ 7 ∷ 7 ∷ 7 ∷ [])) (replicate 1026 (place 3 1 2 true)) (replicate 60 5); answer = refusal 1; left = packLent ((7 ∷ 7 ∷ 7 ∷ 7 ∷ 7 ∷ 7 ∷ [])) (replicate 1026 (place 3 1 2 true)) (replicate 60 5) }
@@ -167,7 +221,7 @@ packRows =
     record { limits = record { places = 1024; loops = 100 }; vertices = 7; list = ((0 ∷ 1 ∷ 2 ∷ 0 ∷ 2 ∷ 3 ∷ 0 ∷ 3 ∷ 1 ∷ 0 ∷ 4 ∷ 5 ∷ 0 ∷ 5 ∷ 6 ∷ 0 ∷ 6 ∷ 4 ∷ [])); lent = packLent (replicate 9 7) (replicate 1026 (place 3 1 2 true)) (replicate 60 5); answer = refusal 7; left = packLent (replicate 9 7) (replicate 1026 (place 3 1 2 true)) (replicate 60 5) }
     ∷
     -- one fan, listed from its middle: accepted
-    record { limits = record { places = 1024; loops = 100 }; vertices = 5; list = ((0 ∷ 2 ∷ 3 ∷ 0 ∷ 1 ∷ 2 ∷ 0 ∷ 3 ∷ 4 ∷ [])); lent = packLent ((7 ∷ 7 ∷ 7 ∷ 7 ∷ 7 ∷ 7 ∷ 7 ∷ [])) (replicate 1026 (place 3 1 2 true)) (replicate 60 5); answer = packed 17; left = packLent ((0 ∷ 3 ∷ 1 ∷ 2 ∷ 4 ∷ 7 ∷ 7 ∷ [])) (replicate 1024 (place 0 0 0 false) ++ ((place 3 1 2 true) ∷ (place 3 1 2 true) ∷ [])) ((1 ∷ 0 ∷ 8 ∷ 0 ∷ 5 ∷ 0 ∷ 3 ∷ 0 ∷ 5 ∷ 0 ∷ 1 ∷ 2 ∷ 0 ∷ 3 ∷ 225 ∷ 176 ∷ 219 ∷ []) ++ replicate 43 5) }
+    record { limits = record { places = 1024; loops = 100 }; vertices = 5; list = ((0 ∷ 2 ∷ 3 ∷ 0 ∷ 1 ∷ 2 ∷ 0 ∷ 3 ∷ 4 ∷ [])); lent = packLent ((7 ∷ 7 ∷ 7 ∷ 7 ∷ 7 ∷ 7 ∷ 7 ∷ [])) (replicate 1026 (place 3 1 2 true)) (replicate 60 5); answer = packed 17; left = packLent ((0 ∷ 3 ∷ 1 ∷ 2 ∷ 4 ∷ 7 ∷ 7 ∷ [])) (replicate 1024 (place 0 0 0 false) ++ ((place 3 1 2 true) ∷ (place 3 1 2 true) ∷ [])) ((1 ∷ 0 ∷ 8 ∷ 0 ∷ 5 ∷ 0 ∷ 3 ∷ 0 ∷ 4 ∷ 0 ∷ 1 ∷ 2 ∷ 0 ∷ 3 ∷ 225 ∷ 176 ∷ 219 ∷ []) ++ replicate 43 5) }
     ∷
     -- 24,576 numbers: refusal 4
     record { limits = record { places = 1024; loops = 100 }; vertices = 3; list = (replicate 24576 0); lent = packLent ((7 ∷ 7 ∷ 7 ∷ 7 ∷ 7 ∷ [])) (replicate 1026 (place 3 1 2 true)) (replicate 60 5); answer = refusal 4; left = packLent ((7 ∷ 7 ∷ 7 ∷ 7 ∷ 7 ∷ [])) (replicate 1026 (place 3 1 2 true)) (replicate 60 5) }
@@ -200,10 +254,16 @@ packRows =
     record { limits = record { places = 6; loops = 1 }; vertices = 6; list = ((1 ∷ 3 ∷ 2 ∷ 2 ∷ 4 ∷ 5 ∷ 2 ∷ 3 ∷ 4 ∷ 1 ∷ 0 ∷ 3 ∷ 2 ∷ 5 ∷ 0 ∷ 0 ∷ 1 ∷ 2 ∷ [])); lent = packLent (replicate 8 7) (replicate 1026 (place 3 1 2 true)) (replicate 60 5); answer = refusal 9; left = packLent ((0 ∷ 0 ∷ 0 ∷ 0 ∷ 0 ∷ 0 ∷ 7 ∷ 7 ∷ [])) (replicate 1024 (place 0 0 0 false) ++ ((place 3 1 2 true) ∷ (place 3 1 2 true) ∷ [])) (replicate 60 0) }
     ∷
     -- 10 at an operation before that of 9: refusal 10
-    record { limits = record { places = 6; loops = 1 }; vertices = 6; list = ((4 ∷ 3 ∷ 5 ∷ 4 ∷ 0 ∷ 3 ∷ 4 ∷ 5 ∷ 2 ∷ 1 ∷ 4 ∷ 2 ∷ 0 ∷ 2 ∷ 3 ∷ 0 ∷ 1 ∷ 2 ∷ [])); lent = packLent (replicate 8 7) (replicate 1026 (place 3 1 2 true)) (replicate 60 5); answer = refusal 10; left = packLent ((0 ∷ 0 ∷ 0 ∷ 0 ∷ 0 ∷ 0 ∷ 7 ∷ 7 ∷ [])) (replicate 1024 (place 0 0 0 false) ++ ((place 3 1 2 true) ∷ (place 3 1 2 true) ∷ [])) (replicate 60 0) }
+    record { limits = record { places = 6; loops = 1 }; vertices = 6; list = ((0 ∷ 1 ∷ 2 ∷ 0 ∷ 2 ∷ 3 ∷ 1 ∷ 4 ∷ 5 ∷ 1 ∷ 5 ∷ 2 ∷ 4 ∷ 0 ∷ 5 ∷ 0 ∷ 3 ∷ 5 ∷ [])); lent = packLent (replicate 8 7) (replicate 1026 (place 3 1 2 true)) (replicate 60 5); answer = refusal 10; left = packLent ((0 ∷ 0 ∷ 0 ∷ 0 ∷ 0 ∷ 0 ∷ 7 ∷ 7 ∷ [])) (replicate 1024 (place 0 0 0 false) ++ ((place 3 1 2 true) ∷ (place 3 1 2 true) ∷ [])) (replicate 60 0) }
     ∷
     -- 9 alone, later: refusal 9
-    record { limits = record { places = 6; loops = 100 }; vertices = 6; list = ((4 ∷ 3 ∷ 5 ∷ 4 ∷ 0 ∷ 3 ∷ 4 ∷ 5 ∷ 2 ∷ 1 ∷ 4 ∷ 2 ∷ 0 ∷ 2 ∷ 3 ∷ 0 ∷ 1 ∷ 2 ∷ [])); lent = packLent (replicate 8 7) (replicate 1026 (place 3 1 2 true)) (replicate 60 5); answer = refusal 9; left = packLent ((0 ∷ 0 ∷ 0 ∷ 0 ∷ 0 ∷ 0 ∷ 7 ∷ 7 ∷ [])) (replicate 1024 (place 0 0 0 false) ++ ((place 3 1 2 true) ∷ (place 3 1 2 true) ∷ [])) (replicate 60 0) }
+    record { limits = record { places = 6; loops = 100 }; vertices = 6; list = ((0 ∷ 1 ∷ 2 ∷ 0 ∷ 2 ∷ 3 ∷ 1 ∷ 4 ∷ 5 ∷ 1 ∷ 5 ∷ 2 ∷ 4 ∷ 0 ∷ 5 ∷ 0 ∷ 3 ∷ 5 ∷ [])); lent = packLent (replicate 8 7) (replicate 1026 (place 3 1 2 true)) (replicate 60 5); answer = refusal 9; left = packLent ((0 ∷ 0 ∷ 0 ∷ 0 ∷ 0 ∷ 0 ∷ 7 ∷ 7 ∷ [])) (replicate 1024 (place 0 0 0 false) ++ ((place 3 1 2 true) ∷ (place 3 1 2 true) ∷ [])) (replicate 60 0) }
+    ∷
+    -- no 9: places are counted in shortened loops: accepted
+    record { limits = record { places = 3; loops = 1 }; vertices = 4; list = ((0 ∷ 2 ∷ 1 ∷ 1 ∷ 3 ∷ 0 ∷ [])); lent = packLent ((7 ∷ 7 ∷ 7 ∷ 7 ∷ 7 ∷ 7 ∷ [])) (replicate 1026 (place 3 1 2 true)) (replicate 60 5); answer = packed 17; left = packLent ((0 ∷ 2 ∷ 1 ∷ 3 ∷ 7 ∷ 7 ∷ [])) (replicate 1024 (place 0 0 0 false) ++ ((place 3 1 2 true) ∷ (place 3 1 2 true) ∷ [])) ((1 ∷ 0 ∷ 8 ∷ 0 ∷ 4 ∷ 0 ∷ 2 ∷ 0 ∷ 3 ∷ 0 ∷ 1 ∷ 2 ∷ 0 ∷ 3 ∷ 237 ∷ 134 ∷ 192 ∷ []) ++ replicate 43 5) }
+    ∷
+    -- 9: one place less: refusal 9
+    record { limits = record { places = 2; loops = 1 }; vertices = 4; list = ((0 ∷ 2 ∷ 1 ∷ 1 ∷ 3 ∷ 0 ∷ [])); lent = packLent ((7 ∷ 7 ∷ 7 ∷ 7 ∷ 7 ∷ 7 ∷ [])) (replicate 1026 (place 3 1 2 true)) (replicate 60 5); answer = refusal 9; left = packLent ((0 ∷ 0 ∷ 0 ∷ 0 ∷ 7 ∷ 7 ∷ [])) (replicate 1024 (place 0 0 0 false) ++ ((place 3 1 2 true) ∷ (place 3 1 2 true) ∷ [])) (replicate 60 0) }
     ∷
     -- 9 before 11: refusal 9
     record { limits = record { places = 3; loops = 1 }; vertices = 4; list = ((0 ∷ 1 ∷ 2 ∷ 1 ∷ 0 ∷ 3 ∷ [])); lent = packLent ((7 ∷ 7 ∷ 7 ∷ 7 ∷ 7 ∷ 7 ∷ [])) (replicate 1026 (place 3 1 2 true)) []; answer = refusal 9; left = packLent ((0 ∷ 0 ∷ 0 ∷ 0 ∷ 7 ∷ 7 ∷ [])) (replicate 1024 (place 0 0 0 false) ++ ((place 3 1 2 true) ∷ (place 3 1 2 true) ∷ [])) [] }
@@ -320,14 +380,14 @@ unpackRows =
     -- 19: V 4, places 4, loops 2, a byte more, a fill bit: refusal 19
     record { bytes = ((1 ∷ 0 ∷ 8 ∷ 0 ∷ 3 ∷ 0 ∷ 1 ∷ 0 ∷ 3 ∷ 0 ∷ 1 ∷ 2 ∷ 0 ∷ 2 ∷ 237 ∷ 177 ∷ [])); lent = unpackLent (replicate 32 6) (replicate 1026 (place 3 1 2 true)); answer = refusal 19; left = unpackLent ((0 ∷ 0 ∷ 0 ∷ []) ++ replicate 29 6) (replicate 1024 (place 0 0 0 false) ++ ((place 3 1 2 true) ∷ (place 3 1 2 true) ∷ [])) }
     ∷
-    -- 20: the shortest: refusal 20
-    record { bytes = ((1 ∷ 0 ∷ 8 ∷ 0 ∷ 5 ∷ 0 ∷ 4 ∷ 0 ∷ 6 ∷ 0 ∷ 2 ∷ 2 ∷ 0 ∷ 5 ∷ 224 ∷ 54 ∷ 220 ∷ 0 ∷ 155 ∷ [])); lent = unpackLent (replicate 32 6) (replicate 1026 (place 3 1 2 true)); answer = refusal 20; left = unpackLent (replicate 12 0 ++ replicate 20 6) (replicate 1024 (place 0 0 0 false) ++ ((place 3 1 2 true) ∷ (place 3 1 2 true) ∷ [])) }
+    -- operations and peaks of full loops, in which these were 20: refusal 16
+    record { bytes = ((1 ∷ 0 ∷ 8 ∷ 0 ∷ 5 ∷ 0 ∷ 4 ∷ 0 ∷ 6 ∷ 0 ∷ 2 ∷ 2 ∷ 0 ∷ 5 ∷ 224 ∷ 54 ∷ 220 ∷ 0 ∷ 155 ∷ [])); lent = unpackLent (replicate 32 6) (replicate 1026 (place 3 1 2 true)); answer = refusal 16; left = unpackLent (replicate 12 0 ++ replicate 20 6) (replicate 1024 (place 0 0 0 false) ++ ((place 3 1 2 true) ∷ (place 3 1 2 true) ∷ [])) }
     ∷
-    -- 20: the shortest: refusal 20
-    record { bytes = ((1 ∷ 0 ∷ 8 ∷ 0 ∷ 5 ∷ 0 ∷ 4 ∷ 0 ∷ 6 ∷ 0 ∷ 2 ∷ 2 ∷ 0 ∷ 5 ∷ 224 ∷ 55 ∷ 0 ∷ 38 ∷ 219 ∷ [])); lent = unpackLent (replicate 32 6) (replicate 1026 (place 3 1 2 true)); answer = refusal 20; left = unpackLent (replicate 12 0 ++ replicate 20 6) (replicate 1024 (place 0 0 0 false) ++ ((place 3 1 2 true) ∷ (place 3 1 2 true) ∷ [])) }
+    -- operations and peaks of full loops, in which these were 20: refusal 19
+    record { bytes = ((1 ∷ 0 ∷ 8 ∷ 0 ∷ 5 ∷ 0 ∷ 4 ∷ 0 ∷ 6 ∷ 0 ∷ 2 ∷ 2 ∷ 0 ∷ 5 ∷ 224 ∷ 55 ∷ 0 ∷ 38 ∷ 219 ∷ [])); lent = unpackLent (replicate 32 6) (replicate 1026 (place 3 1 2 true)); answer = refusal 19; left = unpackLent (replicate 12 0 ++ replicate 20 6) (replicate 1024 (place 0 0 0 false) ++ ((place 3 1 2 true) ∷ (place 3 1 2 true) ∷ [])) }
     ∷
-    -- 20: the shortest: refusal 20
-    record { bytes = ((1 ∷ 0 ∷ 8 ∷ 0 ∷ 5 ∷ 0 ∷ 4 ∷ 0 ∷ 6 ∷ 0 ∷ 2 ∷ 2 ∷ 0 ∷ 5 ∷ 225 ∷ 134 ∷ 224 ∷ 4 ∷ 219 ∷ [])); lent = unpackLent (replicate 32 6) (replicate 1026 (place 3 1 2 true)); answer = refusal 20; left = unpackLent (replicate 12 0 ++ replicate 20 6) (replicate 1024 (place 0 0 0 false) ++ ((place 3 1 2 true) ∷ (place 3 1 2 true) ∷ [])) }
+    -- operations and peaks of full loops, in which these were 20: refusal 19
+    record { bytes = ((1 ∷ 0 ∷ 8 ∷ 0 ∷ 5 ∷ 0 ∷ 4 ∷ 0 ∷ 6 ∷ 0 ∷ 2 ∷ 2 ∷ 0 ∷ 5 ∷ 225 ∷ 134 ∷ 224 ∷ 4 ∷ 219 ∷ [])); lent = unpackLent (replicate 32 6) (replicate 1026 (place 3 1 2 true)); answer = refusal 19; left = unpackLent (replicate 12 0 ++ replicate 20 6) (replicate 1024 (place 0 0 0 false) ++ ((place 3 1 2 true) ∷ (place 3 1 2 true) ∷ [])) }
     ∷
     -- 19 before 20: the same with a count moved: refusal 19
     record { bytes = ((1 ∷ 0 ∷ 8 ∷ 0 ∷ 6 ∷ 0 ∷ 4 ∷ 0 ∷ 6 ∷ 0 ∷ 2 ∷ 2 ∷ 0 ∷ 5 ∷ 225 ∷ 134 ∷ 224 ∷ 4 ∷ 219 ∷ [])); lent = unpackLent (replicate 32 6) (replicate 1026 (place 3 1 2 true)); answer = refusal 19; left = unpackLent (replicate 12 0 ++ replicate 20 6) (replicate 1024 (place 0 0 0 false) ++ ((place 3 1 2 true) ∷ (place 3 1 2 true) ∷ [])) }
@@ -347,26 +407,26 @@ unpackRows =
     -- M5: accepted
     record { bytes = ((1 ∷ 0 ∷ 8 ∷ 0 ∷ 6 ∷ 0 ∷ 2 ∷ 0 ∷ 3 ∷ 0 ∷ 1 ∷ 2 ∷ 0 ∷ 3 ∷ 237 ∷ 190 ∷ 219 ∷ [])); lent = unpackLent ((6 ∷ 6 ∷ 6 ∷ 6 ∷ 6 ∷ 6 ∷ 6 ∷ [])) (replicate 1024 (place 3 1 2 true)); answer = modelOf 6 2 (totalsOf 6 2 0 (pos 2)); left = unpackLent ((0 ∷ 1 ∷ 2 ∷ 3 ∷ 4 ∷ 5 ∷ 6 ∷ [])) (replicate 1024 (place 0 0 0 false)) }
     ∷
-    -- smallest forward; c is reached from the edge that enters its place only: accepted
+    -- forward at three places; c is reached from the edge that enters its place only: accepted
     record { bytes = ((1 ∷ 0 ∷ 8 ∷ 0 ∷ 4 ∷ 0 ∷ 3 ∷ 0 ∷ 4 ∷ 0 ∷ 1 ∷ 2 ∷ 0 ∷ 3 ∷ 225 ∷ 178 ∷ 192 ∷ [])); lent = unpackLent (replicate 10 6) (replicate 1024 (place 3 1 2 true)); answer = modelOf 4 3 (totalsOf 6 1 0 (pos 1)); left = unpackLent ((0 ∷ 1 ∷ 2 ∷ 1 ∷ 0 ∷ 3 ∷ 0 ∷ 2 ∷ 3 ∷ 6 ∷ [])) (replicate 1024 (place 0 0 0 false)) }
     ∷
-    -- smallest backward; c is reached from the edge that leaves its place only: accepted
-    record { bytes = ((1 ∷ 0 ∷ 8 ∷ 0 ∷ 5 ∷ 0 ∷ 5 ∷ 0 ∷ 5 ∷ 0 ∷ 1 ∷ 2 ∷ 0 ∷ 3 ∷ 225 ∷ 176 ∷ 83 ∷ [])); lent = unpackLent (replicate 16 6) (replicate 1024 (place 3 1 2 true)); answer = modelOf 5 5 (totalsOf 9 1 0 (pos 1)); left = unpackLent ((0 ∷ 1 ∷ 2 ∷ 1 ∷ 0 ∷ 3 ∷ 0 ∷ 2 ∷ 4 ∷ 0 ∷ 4 ∷ 3 ∷ 3 ∷ 4 ∷ 2 ∷ 6 ∷ [])) (replicate 1024 (place 0 0 0 false)) }
+    -- backward at three places; c is reached from the edge that leaves its place only: accepted
+    record { bytes = ((1 ∷ 0 ∷ 8 ∷ 0 ∷ 5 ∷ 0 ∷ 5 ∷ 0 ∷ 4 ∷ 0 ∷ 1 ∷ 2 ∷ 0 ∷ 3 ∷ 225 ∷ 176 ∷ 83 ∷ [])); lent = unpackLent (replicate 16 6) (replicate 1024 (place 3 1 2 true)); answer = modelOf 5 5 (totalsOf 9 1 0 (pos 1)); left = unpackLent ((0 ∷ 1 ∷ 2 ∷ 1 ∷ 0 ∷ 3 ∷ 0 ∷ 2 ∷ 4 ∷ 0 ∷ 4 ∷ 3 ∷ 3 ∷ 4 ∷ 2 ∷ 6 ∷ [])) (replicate 1024 (place 0 0 0 false)) }
     ∷
-    -- smallest split; equal halves, next to a marked edge: accepted
-    record { bytes = ((1 ∷ 0 ∷ 8 ∷ 0 ∷ 5 ∷ 0 ∷ 5 ∷ 0 ∷ 6 ∷ 0 ∷ 2 ∷ 2 ∷ 0 ∷ 5 ∷ 224 ∷ 55 ∷ 0 ∷ 42 ∷ 192 ∷ [])); lent = unpackLent (replicate 16 6) (replicate 1024 (place 3 1 2 true)); answer = modelOf 5 5 (totalsOf 9 1 0 (pos 1)); left = unpackLent ((0 ∷ 1 ∷ 2 ∷ 1 ∷ 0 ∷ 3 ∷ 1 ∷ 3 ∷ 4 ∷ 0 ∷ 2 ∷ 4 ∷ 0 ∷ 4 ∷ 3 ∷ 6 ∷ [])) (replicate 1024 (place 0 0 0 false)) }
+    -- split k - 2 across a link; the second part has fewer places, in full loops as many: accepted
+    record { bytes = ((1 ∷ 0 ∷ 8 ∷ 0 ∷ 5 ∷ 0 ∷ 5 ∷ 0 ∷ 5 ∷ 0 ∷ 2 ∷ 2 ∷ 0 ∷ 5 ∷ 224 ∷ 55 ∷ 0 ∷ 39 ∷ 64 ∷ [])); lent = unpackLent (replicate 16 6) (replicate 1024 (place 3 1 2 true)); answer = modelOf 5 5 (totalsOf 9 1 0 (pos 1)); left = unpackLent ((0 ∷ 1 ∷ 2 ∷ 1 ∷ 0 ∷ 3 ∷ 1 ∷ 3 ∷ 4 ∷ 0 ∷ 2 ∷ 4 ∷ 0 ∷ 4 ∷ 3 ∷ 6 ∷ [])) (replicate 1024 (place 0 0 0 false)) }
     ∷
     -- split, the first part is smaller: accepted
     record { bytes = ((1 ∷ 0 ∷ 8 ∷ 0 ∷ 6 ∷ 0 ∷ 6 ∷ 0 ∷ 7 ∷ 0 ∷ 2 ∷ 2 ∷ 0 ∷ 5 ∷ 225 ∷ 129 ∷ 0 ∷ 42 ∷ 219 ∷ [])); lent = unpackLent (replicate 19 6) (replicate 1024 (place 3 1 2 true)); answer = modelOf 6 6 (totalsOf 11 1 0 (pos 1)); left = unpackLent ((0 ∷ 1 ∷ 2 ∷ 1 ∷ 0 ∷ 3 ∷ 2 ∷ 1 ∷ 4 ∷ 2 ∷ 4 ∷ 5 ∷ 2 ∷ 5 ∷ 3 ∷ 2 ∷ 3 ∷ 0 ∷ 6 ∷ [])) (replicate 1024 (place 0 0 0 false)) }
     ∷
-    -- split, the second part is smaller: accepted
-    record { bytes = ((1 ∷ 0 ∷ 8 ∷ 0 ∷ 6 ∷ 0 ∷ 6 ∷ 0 ∷ 7 ∷ 0 ∷ 2 ∷ 2 ∷ 0 ∷ 6 ∷ 225 ∷ 128 ∷ 220 ∷ 0 ∷ 218 ∷ 108 ∷ [])); lent = unpackLent (replicate 19 6) (replicate 1024 (place 3 1 2 true)); answer = modelOf 6 6 (totalsOf 12 2 0 (pos 0)); left = unpackLent ((0 ∷ 1 ∷ 2 ∷ 1 ∷ 0 ∷ 3 ∷ 2 ∷ 1 ∷ 4 ∷ 2 ∷ 4 ∷ 5 ∷ 3 ∷ 0 ∷ 5 ∷ 3 ∷ 5 ∷ 4 ∷ 6 ∷ [])) (replicate 1024 (place 0 0 0 false)) }
+    -- split k - 2, the second part is smaller: accepted
+    record { bytes = ((1 ∷ 0 ∷ 8 ∷ 0 ∷ 6 ∷ 0 ∷ 6 ∷ 0 ∷ 6 ∷ 0 ∷ 2 ∷ 2 ∷ 0 ∷ 6 ∷ 225 ∷ 128 ∷ 220 ∷ 0 ∷ 218 ∷ 108 ∷ [])); lent = unpackLent (replicate 19 6) (replicate 1024 (place 3 1 2 true)); answer = modelOf 6 6 (totalsOf 12 2 0 (pos 0)); left = unpackLent ((0 ∷ 1 ∷ 2 ∷ 1 ∷ 0 ∷ 3 ∷ 2 ∷ 1 ∷ 4 ∷ 2 ∷ 4 ∷ 5 ∷ 3 ∷ 0 ∷ 5 ∷ 3 ∷ 5 ∷ 4 ∷ 6 ∷ [])) (replicate 1024 (place 0 0 0 false)) }
     ∷
     -- smallest union found: accepted
     record { bytes = ((1 ∷ 0 ∷ 8 ∷ 0 ∷ 6 ∷ 0 ∷ 8 ∷ 0 ∷ 8 ∷ 0 ∷ 2 ∷ 2 ∷ 0 ∷ 9 ∷ 224 ∷ 49 ∷ 0 ∷ 60 ∷ 4 ∷ 2 ∷ 108 ∷ 178 ∷ 216 ∷ [])); lent = unpackLent (replicate 25 6) (replicate 1024 (place 3 1 2 true)); answer = modelOf 6 8 (totalsOf 15 1 1 (negsuc 0)); left = unpackLent ((0 ∷ 1 ∷ 2 ∷ 1 ∷ 0 ∷ 3 ∷ 1 ∷ 3 ∷ 4 ∷ 2 ∷ 1 ∷ 5 ∷ 2 ∷ 5 ∷ 4 ∷ 4 ∷ 5 ∷ 0 ∷ 0 ∷ 5 ∷ 3 ∷ 4 ∷ 3 ∷ 2 ∷ 6 ∷ [])) (replicate 1024 (place 0 0 0 false)) }
     ∷
     -- union with j = 0, and two pieces more: accepted
-    record { bytes = ((1 ∷ 0 ∷ 8 ∷ 0 ∷ 11 ∷ 0 ∷ 12 ∷ 0 ∷ 10 ∷ 0 ∷ 2 ∷ 2 ∷ 0 ∷ 12 ∷ 236 ∷ 0 ∷ 192 ∷ 128 ∷ 27 ∷ 192 ∷ 64 ∷ 4 ∷ 91 ∷ 45 ∷ 246 ∷ 216 ∷ [])); lent = unpackLent (replicate 37 6) (replicate 1024 (place 3 1 2 true)); answer = modelOf 11 12 (totalsOf 23 2 1 (pos 0)); left = unpackLent ((0 ∷ 1 ∷ 2 ∷ 2 ∷ 1 ∷ 3 ∷ 2 ∷ 3 ∷ 4 ∷ 2 ∷ 4 ∷ 5 ∷ 0 ∷ 2 ∷ 6 ∷ 0 ∷ 6 ∷ 7 ∷ 0 ∷ 7 ∷ 4 ∷ 3 ∷ 1 ∷ 7 ∷ 3 ∷ 7 ∷ 6 ∷ 3 ∷ 6 ∷ 4 ∷ 4 ∷ 7 ∷ 5 ∷ 8 ∷ 9 ∷ 10 ∷ 6 ∷ [])) (replicate 1024 (place 0 0 0 false)) }
+    record { bytes = ((1 ∷ 0 ∷ 8 ∷ 0 ∷ 11 ∷ 0 ∷ 12 ∷ 0 ∷ 9 ∷ 0 ∷ 2 ∷ 2 ∷ 0 ∷ 12 ∷ 236 ∷ 0 ∷ 192 ∷ 128 ∷ 27 ∷ 192 ∷ 64 ∷ 4 ∷ 91 ∷ 45 ∷ 246 ∷ 216 ∷ [])); lent = unpackLent (replicate 37 6) (replicate 1024 (place 3 1 2 true)); answer = modelOf 11 12 (totalsOf 23 2 1 (pos 0)); left = unpackLent ((0 ∷ 1 ∷ 2 ∷ 2 ∷ 1 ∷ 3 ∷ 2 ∷ 3 ∷ 4 ∷ 2 ∷ 4 ∷ 5 ∷ 0 ∷ 2 ∷ 6 ∷ 0 ∷ 6 ∷ 7 ∷ 0 ∷ 7 ∷ 4 ∷ 3 ∷ 1 ∷ 7 ∷ 3 ∷ 7 ∷ 6 ∷ 3 ∷ 6 ∷ 4 ∷ 4 ∷ 7 ∷ 5 ∷ 8 ∷ 9 ∷ 10 ∷ 6 ∷ [])) (replicate 1024 (place 0 0 0 false)) }
     ∷
     -- the peak of places is reached by the union alone: accepted
     record { bytes = ((1 ∷ 0 ∷ 8 ∷ 0 ∷ 8 ∷ 0 ∷ 11 ∷ 0 ∷ 9 ∷ 0 ∷ 2 ∷ 2 ∷ 0 ∷ 11 ∷ 224 ∷ 0 ∷ 12 ∷ 0 ∷ 240 ∷ 16 ∷ 13 ∷ 54 ∷ 203 ∷ 109 ∷ 128 ∷ [])); lent = unpackLent (replicate 34 6) (replicate 1024 (place 3 1 2 true)); answer = modelOf 8 11 (totalsOf 20 1 1 (negsuc 0)); left = unpackLent ((0 ∷ 1 ∷ 2 ∷ 1 ∷ 0 ∷ 3 ∷ 1 ∷ 3 ∷ 4 ∷ 1 ∷ 4 ∷ 5 ∷ 1 ∷ 5 ∷ 6 ∷ 1 ∷ 6 ∷ 7 ∷ 1 ∷ 7 ∷ 2 ∷ 2 ∷ 7 ∷ 4 ∷ 2 ∷ 4 ∷ 6 ∷ 2 ∷ 6 ∷ 5 ∷ 4 ∷ 3 ∷ 6 ∷ 6 ∷ [])) (replicate 1024 (place 0 0 0 false)) }
@@ -378,19 +438,73 @@ unpackRows =
     record { bytes = ((1 ∷ 0 ∷ 8 ∷ 0 ∷ 11 ∷ 0 ∷ 15 ∷ 0 ∷ 13 ∷ 0 ∷ 3 ∷ 2 ∷ 0 ∷ 14 ∷ 224 ∷ 0 ∷ 12 ∷ 0 ∷ 196 ∷ 0 ∷ 134 ∷ 4 ∷ 1 ∷ 134 ∷ 219 ∷ 109 ∷ 178 ∷ 232 ∷ [])); lent = unpackLent (replicate 46 6) (replicate 1024 (place 3 1 2 true)); answer = modelOf 11 15 (totalsOf 27 1 1 (negsuc 0)); left = unpackLent ((0 ∷ 1 ∷ 2 ∷ 1 ∷ 0 ∷ 3 ∷ 1 ∷ 3 ∷ 4 ∷ 1 ∷ 4 ∷ 5 ∷ 1 ∷ 5 ∷ 6 ∷ 1 ∷ 6 ∷ 7 ∷ 1 ∷ 7 ∷ 2 ∷ 2 ∷ 7 ∷ 4 ∷ 2 ∷ 4 ∷ 8 ∷ 2 ∷ 8 ∷ 3 ∷ 2 ∷ 3 ∷ 9 ∷ 2 ∷ 9 ∷ 6 ∷ 2 ∷ 6 ∷ 10 ∷ 6 ∷ 5 ∷ 10 ∷ 3 ∷ 8 ∷ 4 ∷ 6 ∷ [])) (replicate 1024 (place 0 0 0 false)) }
     ∷
     -- split to c that has a place in a waiting loop too: accepted
-    record { bytes = ((1 ∷ 0 ∷ 8 ∷ 0 ∷ 10 ∷ 0 ∷ 14 ∷ 0 ∷ 11 ∷ 0 ∷ 3 ∷ 2 ∷ 0 ∷ 10 ∷ 224 ∷ 6 ∷ 192 ∷ 128 ∷ 24 ∷ 6 ∷ 0 ∷ 86 ∷ 178 ∷ 192 ∷ [])); lent = unpackLent (replicate 43 6) (replicate 1024 (place 3 1 2 true)); answer = modelOf 10 14 (totalsOf 23 1 0 (pos 1)); left = unpackLent ((0 ∷ 1 ∷ 2 ∷ 1 ∷ 0 ∷ 3 ∷ 1 ∷ 3 ∷ 4 ∷ 1 ∷ 4 ∷ 5 ∷ 0 ∷ 2 ∷ 6 ∷ 0 ∷ 6 ∷ 7 ∷ 0 ∷ 7 ∷ 5 ∷ 0 ∷ 5 ∷ 8 ∷ 0 ∷ 8 ∷ 9 ∷ 0 ∷ 9 ∷ 3 ∷ 3 ∷ 9 ∷ 5 ∷ 3 ∷ 5 ∷ 4 ∷ 5 ∷ 9 ∷ 8 ∷ 6 ∷ 2 ∷ 7 ∷ 6 ∷ [])) (replicate 1024 (place 0 0 0 false)) }
+    record { bytes = ((1 ∷ 0 ∷ 8 ∷ 0 ∷ 10 ∷ 0 ∷ 14 ∷ 0 ∷ 10 ∷ 0 ∷ 3 ∷ 2 ∷ 0 ∷ 10 ∷ 224 ∷ 6 ∷ 192 ∷ 128 ∷ 24 ∷ 6 ∷ 0 ∷ 86 ∷ 178 ∷ 192 ∷ [])); lent = unpackLent (replicate 43 6) (replicate 1024 (place 3 1 2 true)); answer = modelOf 10 14 (totalsOf 23 1 0 (pos 1)); left = unpackLent ((0 ∷ 1 ∷ 2 ∷ 1 ∷ 0 ∷ 3 ∷ 1 ∷ 3 ∷ 4 ∷ 1 ∷ 4 ∷ 5 ∷ 0 ∷ 2 ∷ 6 ∷ 0 ∷ 6 ∷ 7 ∷ 0 ∷ 7 ∷ 5 ∷ 0 ∷ 5 ∷ 8 ∷ 0 ∷ 8 ∷ 9 ∷ 0 ∷ 9 ∷ 3 ∷ 3 ∷ 9 ∷ 5 ∷ 3 ∷ 5 ∷ 4 ∷ 5 ∷ 9 ∷ 8 ∷ 6 ∷ 2 ∷ 7 ∷ 6 ∷ [])) (replicate 1024 (place 0 0 0 false)) }
     ∷
-    -- union to c that has a place in the current loop too: accepted
-    record { bytes = ((1 ∷ 0 ∷ 8 ∷ 0 ∷ 10 ∷ 0 ∷ 13 ∷ 0 ∷ 12 ∷ 0 ∷ 2 ∷ 2 ∷ 0 ∷ 12 ∷ 236 ∷ 0 ∷ 27 ∷ 128 ∷ 24 ∷ 96 ∷ 96 ∷ 32 ∷ 10 ∷ 108 ∷ 178 ∷ 216 ∷ [])); lent = unpackLent (replicate 40 6) (replicate 1024 (place 3 1 2 true)); answer = modelOf 10 13 (totalsOf 24 1 1 (negsuc 0)); left = unpackLent ((0 ∷ 1 ∷ 2 ∷ 2 ∷ 1 ∷ 3 ∷ 2 ∷ 3 ∷ 4 ∷ 2 ∷ 4 ∷ 5 ∷ 2 ∷ 5 ∷ 6 ∷ 3 ∷ 1 ∷ 6 ∷ 3 ∷ 6 ∷ 7 ∷ 4 ∷ 3 ∷ 8 ∷ 4 ∷ 8 ∷ 9 ∷ 4 ∷ 9 ∷ 6 ∷ 4 ∷ 6 ∷ 1 ∷ 6 ∷ 5 ∷ 7 ∷ 8 ∷ 3 ∷ 9 ∷ 6 ∷ [])) (replicate 1024 (place 0 0 0 false)) }
+    -- union from a loop of two places: accepted
+    record { bytes = ((1 ∷ 0 ∷ 8 ∷ 0 ∷ 10 ∷ 0 ∷ 13 ∷ 0 ∷ 8 ∷ 0 ∷ 2 ∷ 2 ∷ 0 ∷ 12 ∷ 236 ∷ 0 ∷ 27 ∷ 128 ∷ 30 ∷ 2 ∷ 1 ∷ 6 ∷ 216 ∷ 44 ∷ 20 ∷ 216 ∷ [])); lent = unpackLent (replicate 40 6) (replicate 1024 (place 3 1 2 true)); answer = modelOf 10 13 (totalsOf 24 1 1 (negsuc 0)); left = unpackLent ((0 ∷ 1 ∷ 2 ∷ 2 ∷ 1 ∷ 3 ∷ 2 ∷ 3 ∷ 4 ∷ 2 ∷ 4 ∷ 5 ∷ 2 ∷ 5 ∷ 6 ∷ 3 ∷ 1 ∷ 6 ∷ 6 ∷ 1 ∷ 4 ∷ 6 ∷ 4 ∷ 7 ∷ 6 ∷ 5 ∷ 8 ∷ 6 ∷ 8 ∷ 3 ∷ 4 ∷ 3 ∷ 9 ∷ 4 ∷ 9 ∷ 7 ∷ 7 ∷ 9 ∷ 3 ∷ 6 ∷ [])) (replicate 1024 (place 0 0 0 false)) }
     ∷
-    -- split to c that has an earlier place after f: accepted
-    record { bytes = ((1 ∷ 0 ∷ 8 ∷ 0 ∷ 12 ∷ 0 ∷ 14 ∷ 0 ∷ 11 ∷ 0 ∷ 2 ∷ 2 ∷ 0 ∷ 14 ∷ 224 ∷ 2 ∷ 196 ∷ 0 ∷ 216 ∷ 13 ∷ 224 ∷ 32 ∷ 20 ∷ 1 ∷ 234 ∷ 109 ∷ 246 ∷ 216 ∷ [])); lent = unpackLent (replicate 43 6) (replicate 1024 (place 3 1 2 true)); answer = modelOf 12 14 (totalsOf 26 2 1 (pos 0)); left = unpackLent ((0 ∷ 1 ∷ 2 ∷ 1 ∷ 0 ∷ 3 ∷ 1 ∷ 3 ∷ 4 ∷ 1 ∷ 4 ∷ 5 ∷ 1 ∷ 5 ∷ 2 ∷ 0 ∷ 2 ∷ 6 ∷ 0 ∷ 6 ∷ 5 ∷ 6 ∷ 2 ∷ 7 ∷ 6 ∷ 7 ∷ 8 ∷ 8 ∷ 7 ∷ 3 ∷ 8 ∷ 3 ∷ 5 ∷ 5 ∷ 3 ∷ 0 ∷ 8 ∷ 5 ∷ 4 ∷ 9 ∷ 10 ∷ 11 ∷ 6 ∷ [])) (replicate 1024 (place 0 0 0 false)) }
+    -- union from a loop of two places, then a split past links: accepted
+    record { bytes = ((1 ∷ 0 ∷ 8 ∷ 0 ∷ 12 ∷ 0 ∷ 14 ∷ 0 ∷ 8 ∷ 0 ∷ 2 ∷ 2 ∷ 0 ∷ 14 ∷ 224 ∷ 2 ∷ 196 ∷ 0 ∷ 216 ∷ 13 ∷ 224 ∷ 32 ∷ 20 ∷ 1 ∷ 42 ∷ 109 ∷ 246 ∷ 216 ∷ [])); lent = unpackLent (replicate 43 6) (replicate 1024 (place 3 1 2 true)); answer = modelOf 12 14 (totalsOf 26 2 1 (pos 0)); left = unpackLent ((0 ∷ 1 ∷ 2 ∷ 1 ∷ 0 ∷ 3 ∷ 1 ∷ 3 ∷ 4 ∷ 1 ∷ 4 ∷ 5 ∷ 1 ∷ 5 ∷ 2 ∷ 0 ∷ 2 ∷ 6 ∷ 0 ∷ 6 ∷ 5 ∷ 6 ∷ 2 ∷ 7 ∷ 6 ∷ 7 ∷ 8 ∷ 8 ∷ 7 ∷ 3 ∷ 8 ∷ 3 ∷ 5 ∷ 5 ∷ 3 ∷ 0 ∷ 8 ∷ 5 ∷ 4 ∷ 9 ∷ 10 ∷ 11 ∷ 6 ∷ [])) (replicate 1024 (place 0 0 0 false)) }
     ∷
     -- union to c that has two places in the waiting loop: accepted
-    record { bytes = ((1 ∷ 0 ∷ 8 ∷ 0 ∷ 15 ∷ 0 ∷ 22 ∷ 0 ∷ 16 ∷ 0 ∷ 2 ∷ 2 ∷ 0 ∷ 21 ∷ 224 ∷ 0 ∷ 3 ∷ 2 ∷ 0 ∷ 173 ∷ 224 ∷ 32 ∷ 10 ∷ 110 ∷ 0 ∷ 216 ∷ 8 ∷ 10 ∷ 27 ∷ 101 ∷ 128 ∷ 80 ∷ 108 ∷ 182 ∷ 192 ∷ [])); lent = unpackLent (replicate 67 6) (replicate 1024 (place 3 1 2 true)); answer = modelOf 15 22 (totalsOf 40 1 2 (negsuc 2)); left = unpackLent ((0 ∷ 1 ∷ 2 ∷ 1 ∷ 0 ∷ 3 ∷ 1 ∷ 3 ∷ 4 ∷ 1 ∷ 4 ∷ 5 ∷ 1 ∷ 5 ∷ 6 ∷ 1 ∷ 6 ∷ 7 ∷ 1 ∷ 7 ∷ 8 ∷ 2 ∷ 1 ∷ 9 ∷ 2 ∷ 9 ∷ 10 ∷ 2 ∷ 10 ∷ 6 ∷ 3 ∷ 0 ∷ 6 ∷ 3 ∷ 6 ∷ 10 ∷ 5 ∷ 4 ∷ 8 ∷ 8 ∷ 4 ∷ 6 ∷ 8 ∷ 6 ∷ 11 ∷ 6 ∷ 4 ∷ 7 ∷ 8 ∷ 7 ∷ 12 ∷ 8 ∷ 12 ∷ 13 ∷ 8 ∷ 13 ∷ 5 ∷ 5 ∷ 13 ∷ 12 ∷ 5 ∷ 12 ∷ 14 ∷ 6 ∷ 0 ∷ 11 ∷ 6 ∷ [])) (replicate 1024 (place 0 0 0 false)) }
+    record { bytes = ((1 ∷ 0 ∷ 8 ∷ 0 ∷ 15 ∷ 0 ∷ 22 ∷ 0 ∷ 13 ∷ 0 ∷ 2 ∷ 2 ∷ 0 ∷ 21 ∷ 224 ∷ 0 ∷ 3 ∷ 2 ∷ 0 ∷ 173 ∷ 224 ∷ 32 ∷ 10 ∷ 110 ∷ 0 ∷ 184 ∷ 8 ∷ 8 ∷ 27 ∷ 101 ∷ 128 ∷ 80 ∷ 108 ∷ 182 ∷ 192 ∷ [])); lent = unpackLent (replicate 67 6) (replicate 1024 (place 3 1 2 true)); answer = modelOf 15 22 (totalsOf 40 1 2 (negsuc 2)); left = unpackLent ((0 ∷ 1 ∷ 2 ∷ 1 ∷ 0 ∷ 3 ∷ 1 ∷ 3 ∷ 4 ∷ 1 ∷ 4 ∷ 5 ∷ 1 ∷ 5 ∷ 6 ∷ 1 ∷ 6 ∷ 7 ∷ 1 ∷ 7 ∷ 8 ∷ 2 ∷ 1 ∷ 9 ∷ 2 ∷ 9 ∷ 10 ∷ 2 ∷ 10 ∷ 6 ∷ 3 ∷ 0 ∷ 6 ∷ 3 ∷ 6 ∷ 10 ∷ 5 ∷ 4 ∷ 8 ∷ 8 ∷ 4 ∷ 6 ∷ 8 ∷ 6 ∷ 11 ∷ 6 ∷ 4 ∷ 7 ∷ 8 ∷ 7 ∷ 12 ∷ 8 ∷ 12 ∷ 13 ∷ 8 ∷ 13 ∷ 5 ∷ 5 ∷ 13 ∷ 12 ∷ 5 ∷ 12 ∷ 14 ∷ 6 ∷ 0 ∷ 11 ∷ 6 ∷ [])) (replicate 1024 (place 0 0 0 false)) }
     ∷
     -- torus of seven vertices: accepted
     record { bytes = ((1 ∷ 0 ∷ 8 ∷ 0 ∷ 7 ∷ 0 ∷ 14 ∷ 0 ∷ 8 ∷ 0 ∷ 2 ∷ 2 ∷ 0 ∷ 10 ∷ 224 ∷ 0 ∷ 96 ∷ 7 ∷ 128 ∷ 128 ∷ 69 ∷ 64 ∷ 14 ∷ 154 ∷ [])); lent = unpackLent (replicate 43 6) (replicate 1024 (place 3 1 2 true)); answer = modelOf 7 14 (totalsOf 21 0 1 (pos 0)); left = unpackLent ((0 ∷ 1 ∷ 2 ∷ 1 ∷ 0 ∷ 3 ∷ 1 ∷ 3 ∷ 4 ∷ 1 ∷ 4 ∷ 5 ∷ 1 ∷ 5 ∷ 6 ∷ 1 ∷ 6 ∷ 2 ∷ 2 ∷ 6 ∷ 4 ∷ 4 ∷ 6 ∷ 0 ∷ 4 ∷ 0 ∷ 5 ∷ 5 ∷ 0 ∷ 2 ∷ 5 ∷ 2 ∷ 3 ∷ 3 ∷ 2 ∷ 4 ∷ 5 ∷ 3 ∷ 6 ∷ 6 ∷ 3 ∷ 0 ∷ 6 ∷ [])) (replicate 1024 (place 0 0 0 false)) }
+    ∷
+    -- a loop of two places, which new makes longer; f leaves; three places are the peak, in full loops four: accepted
+    record { bytes = ((1 ∷ 0 ∷ 8 ∷ 0 ∷ 4 ∷ 0 ∷ 2 ∷ 0 ∷ 3 ∷ 0 ∷ 1 ∷ 2 ∷ 0 ∷ 3 ∷ 237 ∷ 134 ∷ 192 ∷ [])); lent = unpackLent ((6 ∷ 6 ∷ 6 ∷ 6 ∷ 6 ∷ 6 ∷ 6 ∷ [])) (replicate 1024 (place 3 1 2 true)); answer = modelOf 4 2 (totalsOf 5 1 0 (pos 1)); left = unpackLent ((0 ∷ 1 ∷ 2 ∷ 0 ∷ 2 ∷ 3 ∷ 6 ∷ [])) (replicate 1024 (place 0 0 0 false)) }
+    ∷
+    -- both places of an edge leave: accepted
+    record { bytes = ((1 ∷ 0 ∷ 8 ∷ 0 ∷ 4 ∷ 0 ∷ 2 ∷ 0 ∷ 4 ∷ 0 ∷ 1 ∷ 2 ∷ 0 ∷ 3 ∷ 236 ∷ 54 ∷ 192 ∷ [])); lent = unpackLent ((6 ∷ 6 ∷ 6 ∷ 6 ∷ 6 ∷ 6 ∷ 6 ∷ [])) (replicate 1024 (place 3 1 2 true)); answer = modelOf 4 2 (totalsOf 5 1 0 (pos 1)); left = unpackLent ((0 ∷ 1 ∷ 2 ∷ 2 ∷ 1 ∷ 3 ∷ 6 ∷ [])) (replicate 1024 (place 0 0 0 false)) }
+    ∷
+    -- split 1 across a link: accepted
+    record { bytes = ((1 ∷ 0 ∷ 8 ∷ 0 ∷ 6 ∷ 0 ∷ 6 ∷ 0 ∷ 6 ∷ 0 ∷ 2 ∷ 2 ∷ 0 ∷ 6 ∷ 225 ∷ 176 ∷ 196 ∷ 0 ∷ 89 ∷ 108 ∷ [])); lent = unpackLent (replicate 19 6) (replicate 1024 (place 3 1 2 true)); answer = modelOf 6 6 (totalsOf 12 2 0 (pos 0)); left = unpackLent ((0 ∷ 1 ∷ 2 ∷ 1 ∷ 0 ∷ 3 ∷ 0 ∷ 2 ∷ 4 ∷ 3 ∷ 0 ∷ 5 ∷ 3 ∷ 5 ∷ 2 ∷ 2 ∷ 5 ∷ 4 ∷ 6 ∷ [])) (replicate 1024 (place 0 0 0 false)) }
+    ∷
+    -- split of equal halves, next to a marked edge: accepted
+    record { bytes = ((1 ∷ 0 ∷ 8 ∷ 0 ∷ 5 ∷ 0 ∷ 5 ∷ 0 ∷ 6 ∷ 0 ∷ 2 ∷ 2 ∷ 0 ∷ 5 ∷ 225 ∷ 136 ∷ 1 ∷ 86 ∷ 192 ∷ [])); lent = unpackLent (replicate 16 6) (replicate 1024 (place 3 1 2 true)); answer = modelOf 5 5 (totalsOf 9 1 0 (pos 1)); left = unpackLent ((0 ∷ 1 ∷ 2 ∷ 1 ∷ 0 ∷ 3 ∷ 2 ∷ 1 ∷ 4 ∷ 2 ∷ 4 ∷ 3 ∷ 2 ∷ 3 ∷ 0 ∷ 6 ∷ [])) (replicate 1024 (place 0 0 0 false)) }
+    ∷
+    -- split 2 past a link; of halves equal in places the first goes on, in full loops the second would: accepted
+    record { bytes = ((1 ∷ 0 ∷ 8 ∷ 0 ∷ 6 ∷ 0 ∷ 6 ∷ 0 ∷ 6 ∷ 0 ∷ 2 ∷ 2 ∷ 0 ∷ 6 ∷ 225 ∷ 176 ∷ 196 ∷ 0 ∷ 147 ∷ 108 ∷ [])); lent = unpackLent (replicate 19 6) (replicate 1024 (place 3 1 2 true)); answer = modelOf 6 6 (totalsOf 12 2 0 (pos 0)); left = unpackLent ((0 ∷ 1 ∷ 2 ∷ 1 ∷ 0 ∷ 3 ∷ 0 ∷ 2 ∷ 4 ∷ 3 ∷ 0 ∷ 5 ∷ 3 ∷ 5 ∷ 4 ∷ 3 ∷ 4 ∷ 2 ∷ 6 ∷ [])) (replicate 1024 (place 0 0 0 false)) }
+    ∷
+    -- split 1; the first part has fewer places, in full loops as many: accepted
+    record { bytes = ((1 ∷ 0 ∷ 8 ∷ 0 ∷ 6 ∷ 0 ∷ 7 ∷ 0 ∷ 5 ∷ 0 ∷ 2 ∷ 2 ∷ 0 ∷ 5 ∷ 225 ∷ 176 ∷ 12 ∷ 0 ∷ 93 ∷ [])); lent = unpackLent (replicate 22 6) (replicate 1024 (place 3 1 2 true)); answer = modelOf 6 7 (totalsOf 12 1 0 (pos 1)); left = unpackLent ((0 ∷ 1 ∷ 2 ∷ 1 ∷ 0 ∷ 3 ∷ 0 ∷ 2 ∷ 4 ∷ 0 ∷ 4 ∷ 5 ∷ 0 ∷ 5 ∷ 3 ∷ 3 ∷ 5 ∷ 2 ∷ 2 ∷ 5 ∷ 4 ∷ 6 ∷ [])) (replicate 1024 (place 0 0 0 false)) }
+    ∷
+    -- split 1; the first part has fewer places, in full loops more: accepted
+    record { bytes = ((1 ∷ 0 ∷ 8 ∷ 0 ∷ 7 ∷ 0 ∷ 8 ∷ 0 ∷ 5 ∷ 0 ∷ 2 ∷ 2 ∷ 0 ∷ 6 ∷ 224 ∷ 54 ∷ 193 ∷ 16 ∷ 1 ∷ 116 ∷ [])); lent = unpackLent (replicate 25 6) (replicate 1024 (place 3 1 2 true)); answer = modelOf 7 8 (totalsOf 14 1 0 (pos 1)); left = unpackLent ((0 ∷ 1 ∷ 2 ∷ 1 ∷ 0 ∷ 3 ∷ 1 ∷ 3 ∷ 4 ∷ 3 ∷ 0 ∷ 5 ∷ 3 ∷ 5 ∷ 4 ∷ 4 ∷ 5 ∷ 6 ∷ 4 ∷ 6 ∷ 0 ∷ 0 ∷ 6 ∷ 5 ∷ 6 ∷ [])) (replicate 1024 (place 0 0 0 false)) }
+    ∷
+    -- split 2 where the edge after f is marked: accepted
+    record { bytes = ((1 ∷ 0 ∷ 8 ∷ 0 ∷ 6 ∷ 0 ∷ 6 ∷ 0 ∷ 7 ∷ 0 ∷ 2 ∷ 2 ∷ 0 ∷ 6 ∷ 236 ∷ 6 ∷ 32 ∷ 4 ∷ 217 ∷ 108 ∷ [])); lent = unpackLent (replicate 19 6) (replicate 1024 (place 3 1 2 true)); answer = modelOf 6 6 (totalsOf 12 2 0 (pos 0)); left = unpackLent ((0 ∷ 1 ∷ 2 ∷ 2 ∷ 1 ∷ 3 ∷ 2 ∷ 3 ∷ 4 ∷ 0 ∷ 2 ∷ 5 ∷ 0 ∷ 5 ∷ 3 ∷ 3 ∷ 5 ∷ 4 ∷ 6 ∷ [])) (replicate 1024 (place 0 0 0 false)) }
+    ∷
+    -- split k - 3 where the edge into e is marked: accepted
+    record { bytes = ((1 ∷ 0 ∷ 8 ∷ 0 ∷ 6 ∷ 0 ∷ 6 ∷ 0 ∷ 6 ∷ 0 ∷ 2 ∷ 2 ∷ 0 ∷ 5 ∷ 224 ∷ 6 ∷ 224 ∷ 5 ∷ 91 ∷ [])); lent = unpackLent (replicate 19 6) (replicate 1024 (place 3 1 2 true)); answer = modelOf 6 6 (totalsOf 11 1 0 (pos 1)); left = unpackLent ((0 ∷ 1 ∷ 2 ∷ 1 ∷ 0 ∷ 3 ∷ 1 ∷ 3 ∷ 4 ∷ 1 ∷ 4 ∷ 5 ∷ 0 ∷ 2 ∷ 4 ∷ 0 ∷ 4 ∷ 3 ∷ 6 ∷ [])) (replicate 1024 (place 0 0 0 false)) }
+    ∷
+    -- seven places, in full loops six: the other half of the split goes on: accepted
+    record { bytes = ((1 ∷ 0 ∷ 8 ∷ 0 ∷ 7 ∷ 0 ∷ 7 ∷ 0 ∷ 7 ∷ 0 ∷ 2 ∷ 2 ∷ 0 ∷ 6 ∷ 224 ∷ 55 ∷ 0 ∷ 32 ∷ 27 ∷ 116 ∷ [])); lent = unpackLent (replicate 22 6) (replicate 1024 (place 3 1 2 true)); answer = modelOf 7 7 (totalsOf 13 1 0 (pos 1)); left = unpackLent ((0 ∷ 1 ∷ 2 ∷ 1 ∷ 0 ∷ 3 ∷ 1 ∷ 3 ∷ 4 ∷ 0 ∷ 2 ∷ 4 ∷ 4 ∷ 2 ∷ 5 ∷ 4 ∷ 5 ∷ 6 ∷ 0 ∷ 4 ∷ 3 ∷ 6 ∷ [])) (replicate 1024 (place 0 0 0 false)) }
+    ∷
+    -- union from a loop of two places, with j = 0: accepted
+    record { bytes = ((1 ∷ 0 ∷ 8 ∷ 0 ∷ 6 ∷ 0 ∷ 8 ∷ 0 ∷ 7 ∷ 0 ∷ 2 ∷ 2 ∷ 0 ∷ 9 ∷ 236 ∷ 49 ∷ 0 ∷ 32 ∷ 206 ∷ 2 ∷ 0 ∷ 38 ∷ 216 ∷ [])); lent = unpackLent (replicate 25 6) (replicate 1024 (place 3 1 2 true)); answer = modelOf 6 8 (totalsOf 15 1 1 (negsuc 0)); left = unpackLent ((0 ∷ 1 ∷ 2 ∷ 2 ∷ 1 ∷ 3 ∷ 0 ∷ 2 ∷ 4 ∷ 0 ∷ 4 ∷ 3 ∷ 0 ∷ 3 ∷ 5 ∷ 3 ∷ 1 ∷ 5 ∷ 5 ∷ 1 ∷ 4 ∷ 5 ∷ 4 ∷ 2 ∷ 6 ∷ [])) (replicate 1024 (place 0 0 0 false)) }
+    ∷
+    -- union and split past a link: accepted
+    record { bytes = ((1 ∷ 0 ∷ 8 ∷ 0 ∷ 7 ∷ 0 ∷ 9 ∷ 0 ∷ 7 ∷ 0 ∷ 2 ∷ 2 ∷ 0 ∷ 10 ∷ 224 ∷ 54 ∷ 3 ∷ 112 ∷ 3 ∷ 192 ∷ 64 ∷ 38 ∷ 89 ∷ 96 ∷ [])); lent = unpackLent (replicate 28 6) (replicate 1024 (place 3 1 2 true)); answer = modelOf 7 9 (totalsOf 17 1 1 (negsuc 0)); left = unpackLent ((0 ∷ 1 ∷ 2 ∷ 1 ∷ 0 ∷ 3 ∷ 1 ∷ 3 ∷ 4 ∷ 0 ∷ 2 ∷ 5 ∷ 0 ∷ 5 ∷ 6 ∷ 4 ∷ 3 ∷ 6 ∷ 6 ∷ 3 ∷ 2 ∷ 2 ∷ 3 ∷ 5 ∷ 6 ∷ 5 ∷ 4 ∷ 6 ∷ [])) (replicate 1024 (place 0 0 0 false)) }
+    ∷
+    -- union 2 of two waiting loops, in shortened loops: accepted
+    record { bytes = ((1 ∷ 0 ∷ 8 ∷ 0 ∷ 8 ∷ 0 ∷ 11 ∷ 0 ∷ 10 ∷ 0 ∷ 3 ∷ 2 ∷ 0 ∷ 12 ∷ 236 ∷ 48 ∷ 32 ∷ 4 ∷ 3 ∷ 128 ∷ 22 ∷ 4 ∷ 1 ∷ 166 ∷ 219 ∷ 160 ∷ [])); lent = unpackLent (replicate 34 6) (replicate 1024 (place 3 1 2 true)); answer = modelOf 8 11 (totalsOf 20 1 1 (negsuc 0)); left = unpackLent ((0 ∷ 1 ∷ 2 ∷ 2 ∷ 1 ∷ 3 ∷ 0 ∷ 2 ∷ 4 ∷ 0 ∷ 4 ∷ 5 ∷ 0 ∷ 5 ∷ 3 ∷ 0 ∷ 3 ∷ 6 ∷ 0 ∷ 6 ∷ 7 ∷ 3 ∷ 1 ∷ 7 ∷ 7 ∷ 1 ∷ 4 ∷ 7 ∷ 4 ∷ 2 ∷ 3 ∷ 7 ∷ 6 ∷ 6 ∷ [])) (replicate 1024 (place 0 0 0 false)) }
+    ∷
+    -- union to c that has a place in the current loop too, before it: accepted
+    record { bytes = ((1 ∷ 0 ∷ 8 ∷ 0 ∷ 8 ∷ 0 ∷ 10 ∷ 0 ∷ 10 ∷ 0 ∷ 2 ∷ 2 ∷ 0 ∷ 11 ∷ 224 ∷ 6 ∷ 32 ∷ 6 ∷ 198 ∷ 2 ∷ 0 ∷ 166 ∷ 219 ∷ 45 ∷ 128 ∷ [])); lent = unpackLent (replicate 31 6) (replicate 1024 (place 3 1 2 true)); answer = modelOf 8 10 (totalsOf 19 1 1 (negsuc 0)); left = unpackLent ((0 ∷ 1 ∷ 2 ∷ 1 ∷ 0 ∷ 3 ∷ 1 ∷ 3 ∷ 4 ∷ 1 ∷ 4 ∷ 5 ∷ 2 ∷ 1 ∷ 6 ∷ 2 ∷ 6 ∷ 4 ∷ 0 ∷ 2 ∷ 7 ∷ 0 ∷ 7 ∷ 4 ∷ 0 ∷ 4 ∷ 6 ∷ 4 ∷ 7 ∷ 5 ∷ 6 ∷ [])) (replicate 1024 (place 0 0 0 false)) }
+    ∷
+    -- split to c that has an earlier place in the loop: the first place that has c does not do: accepted
+    record { bytes = ((1 ∷ 0 ∷ 8 ∷ 0 ∷ 8 ∷ 0 ∷ 11 ∷ 0 ∷ 10 ∷ 0 ∷ 2 ∷ 2 ∷ 0 ∷ 12 ∷ 224 ∷ 0 ∷ 27 ∷ 128 ∷ 27 ∷ 192 ∷ 64 ∷ 56 ∷ 3 ∷ 84 ∷ 219 ∷ 96 ∷ [])); lent = unpackLent (replicate 34 6) (replicate 1024 (place 3 1 2 true)); answer = modelOf 8 11 (totalsOf 20 1 1 (negsuc 0)); left = unpackLent ((0 ∷ 1 ∷ 2 ∷ 1 ∷ 0 ∷ 3 ∷ 1 ∷ 3 ∷ 4 ∷ 1 ∷ 4 ∷ 5 ∷ 1 ∷ 5 ∷ 6 ∷ 1 ∷ 6 ∷ 7 ∷ 0 ∷ 2 ∷ 5 ∷ 3 ∷ 0 ∷ 7 ∷ 3 ∷ 7 ∷ 5 ∷ 5 ∷ 7 ∷ 6 ∷ 3 ∷ 5 ∷ 2 ∷ 6 ∷ [])) (replicate 1024 (place 0 0 0 false)) }
+    ∷
+    -- split to c that has a later place in the loop: accepted
+    record { bytes = ((1 ∷ 0 ∷ 8 ∷ 0 ∷ 9 ∷ 0 ∷ 13 ∷ 0 ∷ 10 ∷ 0 ∷ 2 ∷ 2 ∷ 0 ∷ 13 ∷ 224 ∷ 0 ∷ 220 ∷ 0 ∷ 240 ∷ 16 ∷ 8 ∷ 17 ∷ 0 ∷ 36 ∷ 219 ∷ 108 ∷ 182 ∷ [])); lent = unpackLent (replicate 40 6) (replicate 1024 (place 3 1 2 true)); answer = modelOf 9 13 (totalsOf 24 2 1 (negsuc 1)); left = unpackLent ((0 ∷ 1 ∷ 2 ∷ 1 ∷ 0 ∷ 3 ∷ 1 ∷ 3 ∷ 4 ∷ 1 ∷ 4 ∷ 5 ∷ 1 ∷ 5 ∷ 6 ∷ 0 ∷ 2 ∷ 5 ∷ 5 ∷ 2 ∷ 3 ∷ 5 ∷ 3 ∷ 7 ∷ 5 ∷ 7 ∷ 6 ∷ 6 ∷ 7 ∷ 8 ∷ 6 ∷ 8 ∷ 3 ∷ 6 ∷ 3 ∷ 2 ∷ 3 ∷ 0 ∷ 7 ∷ 6 ∷ [])) (replicate 1024 (place 0 0 0 false)) }
+    ∷
+    -- backward to c that has an earlier place in the loop: accepted
+    record { bytes = ((1 ∷ 0 ∷ 8 ∷ 0 ∷ 8 ∷ 0 ∷ 10 ∷ 0 ∷ 9 ∷ 0 ∷ 2 ∷ 2 ∷ 0 ∷ 11 ∷ 224 ∷ 6 ∷ 32 ∷ 6 ∷ 240 ∷ 16 ∷ 9 ∷ 6 ∷ 219 ∷ 101 ∷ 128 ∷ [])); lent = unpackLent (replicate 31 6) (replicate 1024 (place 3 1 2 true)); answer = modelOf 8 10 (totalsOf 19 1 1 (negsuc 0)); left = unpackLent ((0 ∷ 1 ∷ 2 ∷ 1 ∷ 0 ∷ 3 ∷ 1 ∷ 3 ∷ 4 ∷ 1 ∷ 4 ∷ 5 ∷ 2 ∷ 1 ∷ 6 ∷ 2 ∷ 6 ∷ 4 ∷ 0 ∷ 2 ∷ 5 ∷ 0 ∷ 5 ∷ 4 ∷ 0 ∷ 4 ∷ 7 ∷ 4 ∷ 6 ∷ 7 ∷ 6 ∷ [])) (replicate 1024 (place 0 0 0 false)) }
+    ∷
+    -- forward to c that has a later place in the loop: accepted
+    record { bytes = ((1 ∷ 0 ∷ 8 ∷ 0 ∷ 7 ∷ 0 ∷ 9 ∷ 0 ∷ 9 ∷ 0 ∷ 2 ∷ 2 ∷ 0 ∷ 10 ∷ 224 ∷ 48 ∷ 224 ∷ 5 ∷ 128 ∷ 128 ∷ 97 ∷ 178 ∷ 217 ∷ 96 ∷ [])); lent = unpackLent (replicate 28 6) (replicate 1024 (place 3 1 2 true)); answer = modelOf 7 9 (totalsOf 17 1 1 (negsuc 0)); left = unpackLent ((0 ∷ 1 ∷ 2 ∷ 1 ∷ 0 ∷ 3 ∷ 1 ∷ 3 ∷ 4 ∷ 2 ∷ 1 ∷ 5 ∷ 0 ∷ 2 ∷ 4 ∷ 0 ∷ 4 ∷ 5 ∷ 0 ∷ 5 ∷ 6 ∷ 4 ∷ 3 ∷ 5 ∷ 5 ∷ 1 ∷ 6 ∷ 6 ∷ [])) (replicate 1024 (place 0 0 0 false)) }
     ∷
     -- buffers just long enough: accepted
     record { bytes = ((1 ∷ 0 ∷ 8 ∷ 0 ∷ 3 ∷ 0 ∷ 1 ∷ 0 ∷ 3 ∷ 0 ∷ 1 ∷ 2 ∷ 0 ∷ 2 ∷ 237 ∷ 176 ∷ [])); lent = unpackLent ((6 ∷ 6 ∷ 6 ∷ [])) (replicate 1024 (place 3 1 2 true)); answer = modelOf 3 1 (totalsOf 3 1 0 (pos 1)); left = unpackLent ((0 ∷ 1 ∷ 2 ∷ [])) (replicate 1024 (place 0 0 0 false)) }
@@ -431,6 +545,33 @@ unpackRows =
     -- five fill bits, the first is one: refusal 19
     record { bytes = ((1 ∷ 0 ∷ 8 ∷ 0 ∷ 3 ∷ 0 ∷ 2 ∷ 0 ∷ 3 ∷ 0 ∷ 1 ∷ 2 ∷ 0 ∷ 1 ∷ 245 ∷ [])); lent = unpackLent (replicate 32 6) (replicate 1024 (place 3 1 2 true)); answer = refusal 19; left = unpackLent ((0 ∷ 0 ∷ 0 ∷ 0 ∷ 0 ∷ 0 ∷ []) ++ replicate 26 6) (replicate 1024 (place 0 0 0 false)) }
     ∷
+    -- 20: the shortest: refusal 20
+    record { bytes = ((1 ∷ 0 ∷ 8 ∷ 0 ∷ 5 ∷ 0 ∷ 4 ∷ 0 ∷ 5 ∷ 0 ∷ 2 ∷ 2 ∷ 0 ∷ 5 ∷ 224 ∷ 55 ∷ 0 ∷ 38 ∷ 219 ∷ [])); lent = unpackLent (replicate 32 6) (replicate 1024 (place 3 1 2 true)); answer = refusal 20; left = unpackLent (replicate 12 0 ++ replicate 20 6) (replicate 1024 (place 0 0 0 false)) }
+    ∷
+    -- 20: the shortest: refusal 20
+    record { bytes = ((1 ∷ 0 ∷ 8 ∷ 0 ∷ 5 ∷ 0 ∷ 4 ∷ 0 ∷ 5 ∷ 0 ∷ 2 ∷ 2 ∷ 0 ∷ 5 ∷ 225 ∷ 134 ∷ 224 ∷ 4 ∷ 219 ∷ [])); lent = unpackLent (replicate 32 6) (replicate 1024 (place 3 1 2 true)); answer = refusal 20; left = unpackLent (replicate 12 0 ++ replicate 20 6) (replicate 1024 (place 0 0 0 false)) }
+    ∷
+    -- 20: the shortest: refusal 20
+    record { bytes = ((1 ∷ 0 ∷ 8 ∷ 0 ∷ 5 ∷ 0 ∷ 4 ∷ 0 ∷ 6 ∷ 0 ∷ 2 ∷ 2 ∷ 0 ∷ 5 ∷ 225 ∷ 136 ∷ 1 ∷ 54 ∷ 219 ∷ [])); lent = unpackLent (replicate 32 6) (replicate 1024 (place 3 1 2 true)); answer = refusal 20; left = unpackLent (replicate 12 0 ++ replicate 20 6) (replicate 1024 (place 0 0 0 false)) }
+    ∷
+    -- 20: the shortest: refusal 20
+    record { bytes = ((1 ∷ 0 ∷ 8 ∷ 0 ∷ 5 ∷ 0 ∷ 4 ∷ 0 ∷ 5 ∷ 0 ∷ 2 ∷ 2 ∷ 0 ∷ 5 ∷ 236 ∷ 48 ∷ 224 ∷ 4 ∷ 219 ∷ [])); lent = unpackLent (replicate 32 6) (replicate 1024 (place 3 1 2 true)); answer = refusal 20; left = unpackLent (replicate 12 0 ++ replicate 20 6) (replicate 1024 (place 0 0 0 false)) }
+    ∷
+    -- 20: the shortest: refusal 20
+    record { bytes = ((1 ∷ 0 ∷ 8 ∷ 0 ∷ 5 ∷ 0 ∷ 4 ∷ 0 ∷ 6 ∷ 0 ∷ 2 ∷ 2 ∷ 0 ∷ 5 ∷ 236 ∷ 49 ∷ 0 ∷ 38 ∷ 219 ∷ [])); lent = unpackLent (replicate 32 6) (replicate 1024 (place 3 1 2 true)); answer = refusal 20; left = unpackLent (replicate 12 0 ++ replicate 20 6) (replicate 1024 (place 0 0 0 false)) }
+    ∷
+    -- 20: a place of the vertex left, the other ended in a rim later: refusal 20
+    record { bytes = ((1 ∷ 0 ∷ 8 ∷ 0 ∷ 6 ∷ 0 ∷ 5 ∷ 0 ∷ 7 ∷ 0 ∷ 2 ∷ 2 ∷ 0 ∷ 6 ∷ 225 ∷ 134 ∷ 32 ∷ 6 ∷ 219 ∷ 108 ∷ [])); lent = unpackLent (replicate 32 6) (replicate 1024 (place 3 1 2 true)); answer = refusal 20; left = unpackLent (replicate 15 0 ++ replicate 17 6) (replicate 1024 (place 0 0 0 false)) }
+    ∷
+    -- 20: both places of the vertex left: refusal 20
+    record { bytes = ((1 ∷ 0 ∷ 8 ∷ 0 ∷ 7 ∷ 0 ∷ 6 ∷ 0 ∷ 8 ∷ 0 ∷ 2 ∷ 2 ∷ 0 ∷ 7 ∷ 225 ∷ 136 ∷ 1 ∷ 0 ∷ 219 ∷ 109 ∷ 176 ∷ [])); lent = unpackLent (replicate 32 6) (replicate 1024 (place 3 1 2 true)); answer = refusal 20; left = unpackLent (replicate 18 0 ++ replicate 14 6) (replicate 1024 (place 0 0 0 false)) }
+    ∷
+    -- 19 before 20: a vertex too many: refusal 19
+    record { bytes = ((1 ∷ 0 ∷ 8 ∷ 0 ∷ 6 ∷ 0 ∷ 4 ∷ 0 ∷ 5 ∷ 0 ∷ 2 ∷ 2 ∷ 0 ∷ 5 ∷ 225 ∷ 134 ∷ 224 ∷ 4 ∷ 219 ∷ [])); lent = unpackLent (replicate 32 6) (replicate 1024 (place 3 1 2 true)); answer = refusal 19; left = unpackLent (replicate 12 0 ++ replicate 20 6) (replicate 1024 (place 0 0 0 false)) }
+    ∷
+    -- 19: the peak in full loops is stated: refusal 19
+    record { bytes = ((1 ∷ 0 ∷ 8 ∷ 0 ∷ 4 ∷ 0 ∷ 2 ∷ 0 ∷ 4 ∷ 0 ∷ 1 ∷ 2 ∷ 0 ∷ 3 ∷ 237 ∷ 134 ∷ 192 ∷ [])); lent = unpackLent (replicate 32 6) (replicate 1024 (place 3 1 2 true)); answer = refusal 19; left = unpackLent ((0 ∷ 0 ∷ 0 ∷ 0 ∷ 0 ∷ 0 ∷ []) ++ replicate 26 6) (replicate 1024 (place 0 0 0 false)) }
+    ∷
     []
 
 unfoldable pub callRows : List CallRow
@@ -450,26 +591,26 @@ callRows =
     -- M5
     record { rooms = rooms 6 1024; calls = begin (counts 6 2 3 1) ∷ operate Start ∷ operate Border ∷ operate Border ∷ operate Border ∷ operate Start ∷ operate Border ∷ operate Border ∷ operate Border ∷ end ∷ []; told = accepted ∷ triangle (tri 0 1 2) ∷ no-triangle ∷ no-triangle ∷ no-triangle ∷ triangle (tri 3 4 5) ∷ no-triangle ∷ no-triangle ∷ no-triangle ∷ numbers (totalsOf 6 2 0 (pos 2)) ∷ []; machine = ((6 ∷ 6 ∷ 3 ∷ 1 ∷ 2 ∷ 0 ∷ 2 ∷ 0 ∷ 1 ∷ 2 ∷ 3 ∷ 4 ∷ 5 ∷ [])); borders = ((5 ∷ 3 ∷ 4 ∷ 5 ∷ 3 ∷ 4 ∷ 2 ∷ 0 ∷ 1 ∷ 2 ∷ 0 ∷ 1 ∷ [])) }
     ∷
-    -- smallest forward; c is reached from the edge that enters its place only
+    -- forward at three places; c is reached from the edge that enters its place only
     record { rooms = rooms 9 1024; calls = begin (counts 4 3 4 1) ∷ operate Start ∷ operate New ∷ operate Border ∷ operate Border ∷ operate Forward ∷ operate Border ∷ end ∷ []; told = accepted ∷ triangle (tri 0 1 2) ∷ triangle (tri 1 0 3) ∷ no-triangle ∷ no-triangle ∷ triangle (tri 0 2 3) ∷ no-triangle ∷ numbers (totalsOf 6 1 0 (pos 1)) ∷ []; machine = ((4 ∷ 6 ∷ 4 ∷ 1 ∷ 1 ∷ 0 ∷ 1 ∷ 0 ∷ 1 ∷ 2 ∷ 1 ∷ 0 ∷ 3 ∷ 0 ∷ 2 ∷ 3 ∷ [])); borders = ((2 ∷ 3 ∷ 1 ∷ 2 ∷ 3 ∷ 1 ∷ [])) }
     ∷
-    -- smallest backward; c is reached from the edge that leaves its place only
-    record { rooms = rooms 15 1024; calls = begin (counts 5 5 5 1) ∷ operate Start ∷ operate New ∷ operate Border ∷ operate Border ∷ operate New ∷ operate Forward ∷ operate Backward ∷ operate Border ∷ end ∷ []; told = accepted ∷ triangle (tri 0 1 2) ∷ triangle (tri 1 0 3) ∷ no-triangle ∷ no-triangle ∷ triangle (tri 0 2 4) ∷ triangle (tri 0 4 3) ∷ triangle (tri 3 4 2) ∷ no-triangle ∷ numbers (totalsOf 9 1 0 (pos 1)) ∷ []; machine = ((5 ∷ 9 ∷ 5 ∷ 1 ∷ 1 ∷ 0 ∷ 1 ∷ 0 ∷ 1 ∷ 2 ∷ 1 ∷ 0 ∷ 3 ∷ 0 ∷ 2 ∷ 4 ∷ 0 ∷ 4 ∷ 3 ∷ 3 ∷ 4 ∷ 2 ∷ [])); borders = ((2 ∷ 3 ∷ 1 ∷ 2 ∷ 3 ∷ 1 ∷ [])) }
+    -- backward at three places; c is reached from the edge that leaves its place only
+    record { rooms = rooms 15 1024; calls = begin (counts 5 5 4 1) ∷ operate Start ∷ operate New ∷ operate Border ∷ operate Border ∷ operate New ∷ operate Forward ∷ operate Backward ∷ operate Border ∷ end ∷ []; told = accepted ∷ triangle (tri 0 1 2) ∷ triangle (tri 1 0 3) ∷ no-triangle ∷ no-triangle ∷ triangle (tri 0 2 4) ∷ triangle (tri 0 4 3) ∷ triangle (tri 3 4 2) ∷ no-triangle ∷ numbers (totalsOf 9 1 0 (pos 1)) ∷ []; machine = ((5 ∷ 9 ∷ 4 ∷ 1 ∷ 1 ∷ 0 ∷ 1 ∷ 0 ∷ 1 ∷ 2 ∷ 1 ∷ 0 ∷ 3 ∷ 0 ∷ 2 ∷ 4 ∷ 0 ∷ 4 ∷ 3 ∷ 3 ∷ 4 ∷ 2 ∷ [])); borders = ((2 ∷ 3 ∷ 1 ∷ 2 ∷ 3 ∷ 1 ∷ [])) }
     ∷
-    -- smallest split; equal halves, next to a marked edge
-    record { rooms = rooms 15 1024; calls = begin (counts 5 5 6 2) ∷ operate Start ∷ operate New ∷ operate New ∷ operate Border ∷ operate Border ∷ operate (Split 2) ∷ operate Close ∷ operate Border ∷ end ∷ []; told = accepted ∷ triangle (tri 0 1 2) ∷ triangle (tri 1 0 3) ∷ triangle (tri 1 3 4) ∷ no-triangle ∷ no-triangle ∷ triangle (tri 0 2 4) ∷ triangle (tri 0 4 3) ∷ no-triangle ∷ numbers (totalsOf 9 1 0 (pos 1)) ∷ []; machine = ((5 ∷ 9 ∷ 6 ∷ 2 ∷ 1 ∷ 0 ∷ 1 ∷ 0 ∷ 1 ∷ 2 ∷ 1 ∷ 0 ∷ 3 ∷ 1 ∷ 3 ∷ 4 ∷ 0 ∷ 2 ∷ 4 ∷ 0 ∷ 4 ∷ 3 ∷ [])); borders = ((2 ∷ 4 ∷ 1 ∷ 2 ∷ 4 ∷ 1 ∷ [])) }
+    -- split k - 2 across a link; the second part has fewer places, in full loops as many
+    record { rooms = rooms 15 1024; calls = begin (counts 5 5 5 2) ∷ operate Start ∷ operate New ∷ operate New ∷ operate Border ∷ operate Border ∷ operate (Split 2) ∷ operate Border ∷ operate Close ∷ end ∷ []; told = accepted ∷ triangle (tri 0 1 2) ∷ triangle (tri 1 0 3) ∷ triangle (tri 1 3 4) ∷ no-triangle ∷ no-triangle ∷ triangle (tri 0 2 4) ∷ no-triangle ∷ triangle (tri 0 4 3) ∷ numbers (totalsOf 9 1 0 (pos 1)) ∷ []; machine = ((5 ∷ 9 ∷ 5 ∷ 2 ∷ 1 ∷ 0 ∷ 1 ∷ 0 ∷ 1 ∷ 2 ∷ 1 ∷ 0 ∷ 3 ∷ 1 ∷ 3 ∷ 4 ∷ 0 ∷ 2 ∷ 4 ∷ 0 ∷ 4 ∷ 3 ∷ [])); borders = ((2 ∷ 4 ∷ 1 ∷ 2 ∷ 4 ∷ 1 ∷ [])) }
     ∷
     -- split, the first part is smaller
     record { rooms = rooms 18 1024; calls = begin (counts 6 6 7 2) ∷ operate Start ∷ operate New ∷ operate Border ∷ operate New ∷ operate New ∷ operate (Split 2) ∷ operate Close ∷ operate Border ∷ operate Border ∷ operate Border ∷ end ∷ []; told = accepted ∷ triangle (tri 0 1 2) ∷ triangle (tri 1 0 3) ∷ no-triangle ∷ triangle (tri 2 1 4) ∷ triangle (tri 2 4 5) ∷ triangle (tri 2 5 3) ∷ triangle (tri 2 3 0) ∷ no-triangle ∷ no-triangle ∷ no-triangle ∷ numbers (totalsOf 11 1 0 (pos 1)) ∷ []; machine = ((6 ∷ 11 ∷ 7 ∷ 2 ∷ 1 ∷ 0 ∷ 1 ∷ 0 ∷ 1 ∷ 2 ∷ 1 ∷ 0 ∷ 3 ∷ 2 ∷ 1 ∷ 4 ∷ 2 ∷ 4 ∷ 5 ∷ 2 ∷ 5 ∷ 3 ∷ 2 ∷ 3 ∷ 0 ∷ [])); borders = ((4 ∷ 5 ∷ 1 ∷ 4 ∷ 5 ∷ 3 ∷ 3 ∷ 1 ∷ [])) }
     ∷
-    -- split, the second part is smaller
-    record { rooms = rooms 18 1024; calls = begin (counts 6 6 7 2) ∷ operate Start ∷ operate New ∷ operate Border ∷ operate New ∷ operate New ∷ operate Border ∷ operate Border ∷ operate (Split 3) ∷ operate Border ∷ operate Backward ∷ operate Border ∷ operate Border ∷ end ∷ []; told = accepted ∷ triangle (tri 0 1 2) ∷ triangle (tri 1 0 3) ∷ no-triangle ∷ triangle (tri 2 1 4) ∷ triangle (tri 2 4 5) ∷ no-triangle ∷ no-triangle ∷ triangle (tri 3 0 5) ∷ no-triangle ∷ triangle (tri 3 5 4) ∷ no-triangle ∷ no-triangle ∷ numbers (totalsOf 12 2 0 (pos 0)) ∷ []; machine = ((6 ∷ 12 ∷ 7 ∷ 2 ∷ 1 ∷ 0 ∷ 2 ∷ 0 ∷ 1 ∷ 2 ∷ 1 ∷ 0 ∷ 3 ∷ 2 ∷ 1 ∷ 4 ∷ 2 ∷ 4 ∷ 5 ∷ 3 ∷ 0 ∷ 5 ∷ 3 ∷ 5 ∷ 4 ∷ [])); borders = ((1 ∷ 4 ∷ 4 ∷ 3 ∷ 0 ∷ 5 ∷ 2 ∷ 0 ∷ 5 ∷ 2 ∷ 3 ∷ 1 ∷ [])) }
+    -- split k - 2, the second part is smaller
+    record { rooms = rooms 18 1024; calls = begin (counts 6 6 6 2) ∷ operate Start ∷ operate New ∷ operate Border ∷ operate New ∷ operate New ∷ operate Border ∷ operate Border ∷ operate (Split 3) ∷ operate Border ∷ operate Backward ∷ operate Border ∷ operate Border ∷ end ∷ []; told = accepted ∷ triangle (tri 0 1 2) ∷ triangle (tri 1 0 3) ∷ no-triangle ∷ triangle (tri 2 1 4) ∷ triangle (tri 2 4 5) ∷ no-triangle ∷ no-triangle ∷ triangle (tri 3 0 5) ∷ no-triangle ∷ triangle (tri 3 5 4) ∷ no-triangle ∷ no-triangle ∷ numbers (totalsOf 12 2 0 (pos 0)) ∷ []; machine = ((6 ∷ 12 ∷ 6 ∷ 2 ∷ 1 ∷ 0 ∷ 2 ∷ 0 ∷ 1 ∷ 2 ∷ 1 ∷ 0 ∷ 3 ∷ 2 ∷ 1 ∷ 4 ∷ 2 ∷ 4 ∷ 5 ∷ 3 ∷ 0 ∷ 5 ∷ 3 ∷ 5 ∷ 4 ∷ [])); borders = ((1 ∷ 4 ∷ 4 ∷ 3 ∷ 0 ∷ 5 ∷ 2 ∷ 0 ∷ 5 ∷ 2 ∷ 3 ∷ 1 ∷ [])) }
     ∷
     -- smallest union found
     record { rooms = rooms 24 1024; calls = begin (counts 6 8 8 2) ∷ operate Start ∷ operate New ∷ operate New ∷ operate Border ∷ operate New ∷ operate (Split 3) ∷ operate (Union 1 2) ∷ operate Border ∷ operate Border ∷ operate Forward ∷ operate Border ∷ operate Forward ∷ operate Border ∷ operate Border ∷ end ∷ []; told = accepted ∷ triangle (tri 0 1 2) ∷ triangle (tri 1 0 3) ∷ triangle (tri 1 3 4) ∷ no-triangle ∷ triangle (tri 2 1 5) ∷ triangle (tri 2 5 4) ∷ triangle (tri 4 5 0) ∷ no-triangle ∷ no-triangle ∷ triangle (tri 0 5 3) ∷ no-triangle ∷ triangle (tri 4 3 2) ∷ no-triangle ∷ no-triangle ∷ numbers (totalsOf 15 1 1 (negsuc 0)) ∷ []; machine = ((6 ∷ 15 ∷ 8 ∷ 2 ∷ 1 ∷ 1 ∷ 1 ∷ 0 ∷ 1 ∷ 2 ∷ 1 ∷ 0 ∷ 3 ∷ 1 ∷ 3 ∷ 4 ∷ 2 ∷ 1 ∷ 5 ∷ 2 ∷ 5 ∷ 4 ∷ 4 ∷ 5 ∷ 0 ∷ 0 ∷ 5 ∷ 3 ∷ 4 ∷ 3 ∷ 2 ∷ [])); borders = ((2 ∷ 0 ∷ 3 ∷ 2 ∷ 5 ∷ 3 ∷ 1 ∷ 5 ∷ 0 ∷ 4 ∷ 4 ∷ 1 ∷ [])) }
     ∷
     -- union with j = 0, and two pieces more
-    record { rooms = rooms 36 1024; calls = begin (counts 11 12 10 2) ∷ operate Start ∷ operate Border ∷ operate New ∷ operate New ∷ operate New ∷ operate Border ∷ operate New ∷ operate New ∷ operate (Split 3) ∷ operate Border ∷ operate (Union 1 0) ∷ operate Backward ∷ operate Forward ∷ operate Border ∷ operate Border ∷ operate Forward ∷ operate Border ∷ operate Border ∷ operate Start ∷ operate Border ∷ operate Border ∷ operate Border ∷ end ∷ []; told = accepted ∷ triangle (tri 0 1 2) ∷ no-triangle ∷ triangle (tri 2 1 3) ∷ triangle (tri 2 3 4) ∷ triangle (tri 2 4 5) ∷ no-triangle ∷ triangle (tri 0 2 6) ∷ triangle (tri 0 6 7) ∷ triangle (tri 0 7 4) ∷ no-triangle ∷ triangle (tri 3 1 7) ∷ triangle (tri 3 7 6) ∷ triangle (tri 3 6 4) ∷ no-triangle ∷ no-triangle ∷ triangle (tri 4 7 5) ∷ no-triangle ∷ no-triangle ∷ triangle (tri 8 9 10) ∷ no-triangle ∷ no-triangle ∷ no-triangle ∷ numbers (totalsOf 23 2 1 (pos 0)) ∷ []; machine = ((11 ∷ 23 ∷ 10 ∷ 2 ∷ 2 ∷ 1 ∷ 2 ∷ 0 ∷ 1 ∷ 2 ∷ 2 ∷ 1 ∷ 3 ∷ 2 ∷ 3 ∷ 4 ∷ 2 ∷ 4 ∷ 5 ∷ 0 ∷ 2 ∷ 6 ∷ 0 ∷ 6 ∷ 7 ∷ 0 ∷ 7 ∷ 4 ∷ 3 ∷ 1 ∷ 7 ∷ 3 ∷ 7 ∷ 6 ∷ 3 ∷ 6 ∷ 4 ∷ 4 ∷ 7 ∷ 5 ∷ 8 ∷ 9 ∷ 10 ∷ [])); borders = ((10 ∷ 8 ∷ 9 ∷ 10 ∷ 8 ∷ 9 ∷ 2 ∷ 6 ∷ 7 ∷ 5 ∷ 1 ∷ 7 ∷ 6 ∷ 4 ∷ 4 ∷ 0 ∷ 5 ∷ 2 ∷ 0 ∷ 1 ∷ [])) }
+    record { rooms = rooms 36 1024; calls = begin (counts 11 12 9 2) ∷ operate Start ∷ operate Border ∷ operate New ∷ operate New ∷ operate New ∷ operate Border ∷ operate New ∷ operate New ∷ operate (Split 3) ∷ operate Border ∷ operate (Union 1 0) ∷ operate Backward ∷ operate Forward ∷ operate Border ∷ operate Border ∷ operate Forward ∷ operate Border ∷ operate Border ∷ operate Start ∷ operate Border ∷ operate Border ∷ operate Border ∷ end ∷ []; told = accepted ∷ triangle (tri 0 1 2) ∷ no-triangle ∷ triangle (tri 2 1 3) ∷ triangle (tri 2 3 4) ∷ triangle (tri 2 4 5) ∷ no-triangle ∷ triangle (tri 0 2 6) ∷ triangle (tri 0 6 7) ∷ triangle (tri 0 7 4) ∷ no-triangle ∷ triangle (tri 3 1 7) ∷ triangle (tri 3 7 6) ∷ triangle (tri 3 6 4) ∷ no-triangle ∷ no-triangle ∷ triangle (tri 4 7 5) ∷ no-triangle ∷ no-triangle ∷ triangle (tri 8 9 10) ∷ no-triangle ∷ no-triangle ∷ no-triangle ∷ numbers (totalsOf 23 2 1 (pos 0)) ∷ []; machine = ((11 ∷ 23 ∷ 9 ∷ 2 ∷ 2 ∷ 1 ∷ 2 ∷ 0 ∷ 1 ∷ 2 ∷ 2 ∷ 1 ∷ 3 ∷ 2 ∷ 3 ∷ 4 ∷ 2 ∷ 4 ∷ 5 ∷ 0 ∷ 2 ∷ 6 ∷ 0 ∷ 6 ∷ 7 ∷ 0 ∷ 7 ∷ 4 ∷ 3 ∷ 1 ∷ 7 ∷ 3 ∷ 7 ∷ 6 ∷ 3 ∷ 6 ∷ 4 ∷ 4 ∷ 7 ∷ 5 ∷ 8 ∷ 9 ∷ 10 ∷ [])); borders = ((10 ∷ 8 ∷ 9 ∷ 10 ∷ 8 ∷ 9 ∷ 2 ∷ 6 ∷ 7 ∷ 5 ∷ 1 ∷ 7 ∷ 6 ∷ 4 ∷ 4 ∷ 0 ∷ 5 ∷ 2 ∷ 0 ∷ 1 ∷ [])) }
     ∷
     -- the peak of places is reached by the union alone
     record { rooms = rooms 33 1024; calls = begin (counts 8 11 9 2) ∷ operate Start ∷ operate New ∷ operate New ∷ operate New ∷ operate New ∷ operate New ∷ operate Forward ∷ operate (Split 3) ∷ operate (Union 1 3) ∷ operate Backward ∷ operate Border ∷ operate Border ∷ operate Border ∷ operate Forward ∷ operate Border ∷ operate Border ∷ operate Border ∷ operate Border ∷ end ∷ []; told = accepted ∷ triangle (tri 0 1 2) ∷ triangle (tri 1 0 3) ∷ triangle (tri 1 3 4) ∷ triangle (tri 1 4 5) ∷ triangle (tri 1 5 6) ∷ triangle (tri 1 6 7) ∷ triangle (tri 1 7 2) ∷ triangle (tri 2 7 4) ∷ triangle (tri 2 4 6) ∷ triangle (tri 2 6 5) ∷ no-triangle ∷ no-triangle ∷ no-triangle ∷ triangle (tri 4 3 6) ∷ no-triangle ∷ no-triangle ∷ no-triangle ∷ no-triangle ∷ numbers (totalsOf 20 1 1 (negsuc 0)) ∷ []; machine = ((8 ∷ 20 ∷ 9 ∷ 2 ∷ 1 ∷ 1 ∷ 1 ∷ 0 ∷ 1 ∷ 2 ∷ 1 ∷ 0 ∷ 3 ∷ 1 ∷ 3 ∷ 4 ∷ 1 ∷ 4 ∷ 5 ∷ 1 ∷ 5 ∷ 6 ∷ 1 ∷ 6 ∷ 7 ∷ 1 ∷ 7 ∷ 2 ∷ 2 ∷ 7 ∷ 4 ∷ 2 ∷ 4 ∷ 6 ∷ 2 ∷ 6 ∷ 5 ∷ 4 ∷ 3 ∷ 6 ∷ [])); borders = ((4 ∷ 5 ∷ 7 ∷ 4 ∷ 6 ∷ 7 ∷ 3 ∷ 6 ∷ 0 ∷ 3 ∷ 2 ∷ 0 ∷ 5 ∷ 2 ∷ [])) }
@@ -481,19 +622,73 @@ callRows =
     record { rooms = rooms 45 1024; calls = begin (counts 11 15 13 3) ∷ operate Start ∷ operate New ∷ operate New ∷ operate New ∷ operate New ∷ operate New ∷ operate Forward ∷ operate (Split 3) ∷ operate New ∷ operate (Split 2) ∷ operate New ∷ operate (Union 2 3) ∷ operate New ∷ operate Border ∷ operate Border ∷ operate Border ∷ operate Border ∷ operate Border ∷ operate Border ∷ operate Border ∷ operate Border ∷ operate Forward ∷ operate Border ∷ operate Close ∷ end ∷ []; told = accepted ∷ triangle (tri 0 1 2) ∷ triangle (tri 1 0 3) ∷ triangle (tri 1 3 4) ∷ triangle (tri 1 4 5) ∷ triangle (tri 1 5 6) ∷ triangle (tri 1 6 7) ∷ triangle (tri 1 7 2) ∷ triangle (tri 2 7 4) ∷ triangle (tri 2 4 8) ∷ triangle (tri 2 8 3) ∷ triangle (tri 2 3 9) ∷ triangle (tri 2 9 6) ∷ triangle (tri 2 6 10) ∷ no-triangle ∷ no-triangle ∷ no-triangle ∷ no-triangle ∷ no-triangle ∷ no-triangle ∷ no-triangle ∷ no-triangle ∷ triangle (tri 6 5 10) ∷ no-triangle ∷ triangle (tri 3 8 4) ∷ numbers (totalsOf 27 1 1 (negsuc 0)) ∷ []; machine = ((11 ∷ 27 ∷ 13 ∷ 3 ∷ 1 ∷ 1 ∷ 1 ∷ 0 ∷ 1 ∷ 2 ∷ 1 ∷ 0 ∷ 3 ∷ 1 ∷ 3 ∷ 4 ∷ 1 ∷ 4 ∷ 5 ∷ 1 ∷ 5 ∷ 6 ∷ 1 ∷ 6 ∷ 7 ∷ 1 ∷ 7 ∷ 2 ∷ 2 ∷ 7 ∷ 4 ∷ 2 ∷ 4 ∷ 8 ∷ 2 ∷ 8 ∷ 3 ∷ 2 ∷ 3 ∷ 9 ∷ 2 ∷ 9 ∷ 6 ∷ 2 ∷ 6 ∷ 10 ∷ 6 ∷ 5 ∷ 10 ∷ 3 ∷ 8 ∷ 4 ∷ [])); borders = ((5 ∷ 10 ∷ 4 ∷ 5 ∷ 7 ∷ 4 ∷ 6 ∷ 7 ∷ 9 ∷ 6 ∷ 3 ∷ 9 ∷ 0 ∷ 3 ∷ 2 ∷ 0 ∷ 10 ∷ 2 ∷ [])) }
     ∷
     -- split to c that has a place in a waiting loop too
-    record { rooms = rooms 42 1024; calls = begin (counts 10 14 11 3) ∷ operate Start ∷ operate New ∷ operate New ∷ operate New ∷ operate Border ∷ operate Border ∷ operate New ∷ operate New ∷ operate (Split 3) ∷ operate New ∷ operate New ∷ operate Forward ∷ operate (Split 2) ∷ operate Close ∷ operate Close ∷ operate Border ∷ operate Forward ∷ operate Border ∷ end ∷ []; told = accepted ∷ triangle (tri 0 1 2) ∷ triangle (tri 1 0 3) ∷ triangle (tri 1 3 4) ∷ triangle (tri 1 4 5) ∷ no-triangle ∷ no-triangle ∷ triangle (tri 0 2 6) ∷ triangle (tri 0 6 7) ∷ triangle (tri 0 7 5) ∷ triangle (tri 0 5 8) ∷ triangle (tri 0 8 9) ∷ triangle (tri 0 9 3) ∷ triangle (tri 3 9 5) ∷ triangle (tri 3 5 4) ∷ triangle (tri 5 9 8) ∷ no-triangle ∷ triangle (tri 6 2 7) ∷ no-triangle ∷ numbers (totalsOf 23 1 0 (pos 1)) ∷ []; machine = ((10 ∷ 23 ∷ 11 ∷ 3 ∷ 1 ∷ 0 ∷ 1 ∷ 0 ∷ 1 ∷ 2 ∷ 1 ∷ 0 ∷ 3 ∷ 1 ∷ 3 ∷ 4 ∷ 1 ∷ 4 ∷ 5 ∷ 0 ∷ 2 ∷ 6 ∷ 0 ∷ 6 ∷ 7 ∷ 0 ∷ 7 ∷ 5 ∷ 0 ∷ 5 ∷ 8 ∷ 0 ∷ 8 ∷ 9 ∷ 0 ∷ 9 ∷ 3 ∷ 3 ∷ 9 ∷ 5 ∷ 3 ∷ 5 ∷ 4 ∷ 5 ∷ 9 ∷ 8 ∷ 6 ∷ 2 ∷ 7 ∷ [])); borders = ((2 ∷ 7 ∷ 7 ∷ 5 ∷ 1 ∷ 2 ∷ 5 ∷ 1 ∷ [])) }
+    record { rooms = rooms 42 1024; calls = begin (counts 10 14 10 3) ∷ operate Start ∷ operate New ∷ operate New ∷ operate New ∷ operate Border ∷ operate Border ∷ operate New ∷ operate New ∷ operate (Split 3) ∷ operate New ∷ operate New ∷ operate Forward ∷ operate (Split 2) ∷ operate Close ∷ operate Close ∷ operate Border ∷ operate Forward ∷ operate Border ∷ end ∷ []; told = accepted ∷ triangle (tri 0 1 2) ∷ triangle (tri 1 0 3) ∷ triangle (tri 1 3 4) ∷ triangle (tri 1 4 5) ∷ no-triangle ∷ no-triangle ∷ triangle (tri 0 2 6) ∷ triangle (tri 0 6 7) ∷ triangle (tri 0 7 5) ∷ triangle (tri 0 5 8) ∷ triangle (tri 0 8 9) ∷ triangle (tri 0 9 3) ∷ triangle (tri 3 9 5) ∷ triangle (tri 3 5 4) ∷ triangle (tri 5 9 8) ∷ no-triangle ∷ triangle (tri 6 2 7) ∷ no-triangle ∷ numbers (totalsOf 23 1 0 (pos 1)) ∷ []; machine = ((10 ∷ 23 ∷ 10 ∷ 3 ∷ 1 ∷ 0 ∷ 1 ∷ 0 ∷ 1 ∷ 2 ∷ 1 ∷ 0 ∷ 3 ∷ 1 ∷ 3 ∷ 4 ∷ 1 ∷ 4 ∷ 5 ∷ 0 ∷ 2 ∷ 6 ∷ 0 ∷ 6 ∷ 7 ∷ 0 ∷ 7 ∷ 5 ∷ 0 ∷ 5 ∷ 8 ∷ 0 ∷ 8 ∷ 9 ∷ 0 ∷ 9 ∷ 3 ∷ 3 ∷ 9 ∷ 5 ∷ 3 ∷ 5 ∷ 4 ∷ 5 ∷ 9 ∷ 8 ∷ 6 ∷ 2 ∷ 7 ∷ [])); borders = ((2 ∷ 7 ∷ 7 ∷ 5 ∷ 1 ∷ 2 ∷ 5 ∷ 1 ∷ [])) }
     ∷
-    -- union to c that has a place in the current loop too
-    record { rooms = rooms 39 1024; calls = begin (counts 10 13 12 2) ∷ operate Start ∷ operate Border ∷ operate New ∷ operate New ∷ operate New ∷ operate New ∷ operate Border ∷ operate Border ∷ operate (Split 3) ∷ operate New ∷ operate Border ∷ operate New ∷ operate New ∷ operate (Union 1 1) ∷ operate Backward ∷ operate Border ∷ operate Border ∷ operate Forward ∷ operate Border ∷ operate Forward ∷ operate Border ∷ operate Border ∷ end ∷ []; told = accepted ∷ triangle (tri 0 1 2) ∷ no-triangle ∷ triangle (tri 2 1 3) ∷ triangle (tri 2 3 4) ∷ triangle (tri 2 4 5) ∷ triangle (tri 2 5 6) ∷ no-triangle ∷ no-triangle ∷ triangle (tri 3 1 6) ∷ triangle (tri 3 6 7) ∷ no-triangle ∷ triangle (tri 4 3 8) ∷ triangle (tri 4 8 9) ∷ triangle (tri 4 9 6) ∷ triangle (tri 4 6 1) ∷ no-triangle ∷ no-triangle ∷ triangle (tri 6 5 7) ∷ no-triangle ∷ triangle (tri 8 3 9) ∷ no-triangle ∷ no-triangle ∷ numbers (totalsOf 24 1 1 (negsuc 0)) ∷ []; machine = ((10 ∷ 24 ∷ 12 ∷ 2 ∷ 1 ∷ 1 ∷ 1 ∷ 0 ∷ 1 ∷ 2 ∷ 2 ∷ 1 ∷ 3 ∷ 2 ∷ 3 ∷ 4 ∷ 2 ∷ 4 ∷ 5 ∷ 2 ∷ 5 ∷ 6 ∷ 3 ∷ 1 ∷ 6 ∷ 3 ∷ 6 ∷ 7 ∷ 4 ∷ 3 ∷ 8 ∷ 4 ∷ 8 ∷ 9 ∷ 4 ∷ 9 ∷ 6 ∷ 4 ∷ 6 ∷ 1 ∷ 6 ∷ 5 ∷ 7 ∷ 8 ∷ 3 ∷ 9 ∷ [])); borders = ((9 ∷ 6 ∷ 3 ∷ 9 ∷ 5 ∷ 7 ∷ 4 ∷ 5 ∷ 1 ∷ 4 ∷ 7 ∷ 3 ∷ 2 ∷ 0 ∷ 6 ∷ 2 ∷ 0 ∷ 1 ∷ [])) }
+    -- union from a loop of two places
+    record { rooms = rooms 39 1024; calls = begin (counts 10 13 8 2) ∷ operate Start ∷ operate Border ∷ operate New ∷ operate New ∷ operate New ∷ operate New ∷ operate Border ∷ operate Border ∷ operate (Split 3) ∷ operate (Union 1 2) ∷ operate New ∷ operate Border ∷ operate Border ∷ operate Border ∷ operate New ∷ operate Forward ∷ operate Border ∷ operate New ∷ operate Forward ∷ operate Backward ∷ operate Border ∷ operate Border ∷ end ∷ []; told = accepted ∷ triangle (tri 0 1 2) ∷ no-triangle ∷ triangle (tri 2 1 3) ∷ triangle (tri 2 3 4) ∷ triangle (tri 2 4 5) ∷ triangle (tri 2 5 6) ∷ no-triangle ∷ no-triangle ∷ triangle (tri 3 1 6) ∷ triangle (tri 6 1 4) ∷ triangle (tri 6 4 7) ∷ no-triangle ∷ no-triangle ∷ no-triangle ∷ triangle (tri 6 5 8) ∷ triangle (tri 6 8 3) ∷ no-triangle ∷ triangle (tri 4 3 9) ∷ triangle (tri 4 9 7) ∷ triangle (tri 7 9 3) ∷ no-triangle ∷ no-triangle ∷ numbers (totalsOf 24 1 1 (negsuc 0)) ∷ []; machine = ((10 ∷ 24 ∷ 8 ∷ 2 ∷ 1 ∷ 1 ∷ 1 ∷ 0 ∷ 1 ∷ 2 ∷ 2 ∷ 1 ∷ 3 ∷ 2 ∷ 3 ∷ 4 ∷ 2 ∷ 4 ∷ 5 ∷ 2 ∷ 5 ∷ 6 ∷ 3 ∷ 1 ∷ 6 ∷ 6 ∷ 1 ∷ 4 ∷ 6 ∷ 4 ∷ 7 ∷ 6 ∷ 5 ∷ 8 ∷ 6 ∷ 8 ∷ 3 ∷ 4 ∷ 3 ∷ 9 ∷ 4 ∷ 9 ∷ 7 ∷ 7 ∷ 9 ∷ 3 ∷ [])); borders = ((5 ∷ 8 ∷ 3 ∷ 7 ∷ 8 ∷ 3 ∷ 4 ∷ 5 ∷ 1 ∷ 4 ∷ 7 ∷ 6 ∷ 2 ∷ 0 ∷ 6 ∷ 2 ∷ 0 ∷ 1 ∷ [])) }
     ∷
-    -- split to c that has an earlier place after f
-    record { rooms = rooms 42 1024; calls = begin (counts 12 14 11 2) ∷ operate Start ∷ operate New ∷ operate New ∷ operate New ∷ operate Forward ∷ operate Border ∷ operate New ∷ operate (Split 3) ∷ operate Border ∷ operate New ∷ operate New ∷ operate Border ∷ operate Border ∷ operate (Union 1 2) ∷ operate (Split 7) ∷ operate Close ∷ operate Backward ∷ operate Border ∷ operate Border ∷ operate Border ∷ operate Start ∷ operate Border ∷ operate Border ∷ operate Border ∷ end ∷ []; told = accepted ∷ triangle (tri 0 1 2) ∷ triangle (tri 1 0 3) ∷ triangle (tri 1 3 4) ∷ triangle (tri 1 4 5) ∷ triangle (tri 1 5 2) ∷ no-triangle ∷ triangle (tri 0 2 6) ∷ triangle (tri 0 6 5) ∷ no-triangle ∷ triangle (tri 6 2 7) ∷ triangle (tri 6 7 8) ∷ no-triangle ∷ no-triangle ∷ triangle (tri 8 7 3) ∷ triangle (tri 8 3 5) ∷ triangle (tri 5 3 0) ∷ triangle (tri 8 5 4) ∷ no-triangle ∷ no-triangle ∷ no-triangle ∷ triangle (tri 9 10 11) ∷ no-triangle ∷ no-triangle ∷ no-triangle ∷ numbers (totalsOf 26 2 1 (pos 0)) ∷ []; machine = ((12 ∷ 26 ∷ 11 ∷ 2 ∷ 2 ∷ 1 ∷ 2 ∷ 0 ∷ 1 ∷ 2 ∷ 1 ∷ 0 ∷ 3 ∷ 1 ∷ 3 ∷ 4 ∷ 1 ∷ 4 ∷ 5 ∷ 1 ∷ 5 ∷ 2 ∷ 0 ∷ 2 ∷ 6 ∷ 0 ∷ 6 ∷ 5 ∷ 6 ∷ 2 ∷ 7 ∷ 6 ∷ 7 ∷ 8 ∷ 8 ∷ 7 ∷ 3 ∷ 8 ∷ 3 ∷ 5 ∷ 5 ∷ 3 ∷ 0 ∷ 8 ∷ 5 ∷ 4 ∷ 9 ∷ 10 ∷ 11 ∷ [])); borders = ((11 ∷ 9 ∷ 10 ∷ 11 ∷ 9 ∷ 10 ∷ 3 ∷ 4 ∷ 7 ∷ 3 ∷ 4 ∷ 8 ∷ 2 ∷ 7 ∷ 8 ∷ 6 ∷ 6 ∷ 5 ∷ 5 ∷ 2 ∷ [])) }
+    -- union from a loop of two places, then a split past links
+    record { rooms = rooms 42 1024; calls = begin (counts 12 14 8 2) ∷ operate Start ∷ operate New ∷ operate New ∷ operate New ∷ operate Forward ∷ operate Border ∷ operate New ∷ operate (Split 3) ∷ operate Border ∷ operate New ∷ operate New ∷ operate Border ∷ operate Border ∷ operate (Union 1 2) ∷ operate (Split 4) ∷ operate Close ∷ operate Backward ∷ operate Border ∷ operate Border ∷ operate Border ∷ operate Start ∷ operate Border ∷ operate Border ∷ operate Border ∷ end ∷ []; told = accepted ∷ triangle (tri 0 1 2) ∷ triangle (tri 1 0 3) ∷ triangle (tri 1 3 4) ∷ triangle (tri 1 4 5) ∷ triangle (tri 1 5 2) ∷ no-triangle ∷ triangle (tri 0 2 6) ∷ triangle (tri 0 6 5) ∷ no-triangle ∷ triangle (tri 6 2 7) ∷ triangle (tri 6 7 8) ∷ no-triangle ∷ no-triangle ∷ triangle (tri 8 7 3) ∷ triangle (tri 8 3 5) ∷ triangle (tri 5 3 0) ∷ triangle (tri 8 5 4) ∷ no-triangle ∷ no-triangle ∷ no-triangle ∷ triangle (tri 9 10 11) ∷ no-triangle ∷ no-triangle ∷ no-triangle ∷ numbers (totalsOf 26 2 1 (pos 0)) ∷ []; machine = ((12 ∷ 26 ∷ 8 ∷ 2 ∷ 2 ∷ 1 ∷ 2 ∷ 0 ∷ 1 ∷ 2 ∷ 1 ∷ 0 ∷ 3 ∷ 1 ∷ 3 ∷ 4 ∷ 1 ∷ 4 ∷ 5 ∷ 1 ∷ 5 ∷ 2 ∷ 0 ∷ 2 ∷ 6 ∷ 0 ∷ 6 ∷ 5 ∷ 6 ∷ 2 ∷ 7 ∷ 6 ∷ 7 ∷ 8 ∷ 8 ∷ 7 ∷ 3 ∷ 8 ∷ 3 ∷ 5 ∷ 5 ∷ 3 ∷ 0 ∷ 8 ∷ 5 ∷ 4 ∷ 9 ∷ 10 ∷ 11 ∷ [])); borders = ((11 ∷ 9 ∷ 10 ∷ 11 ∷ 9 ∷ 10 ∷ 3 ∷ 4 ∷ 7 ∷ 3 ∷ 4 ∷ 8 ∷ 2 ∷ 7 ∷ 8 ∷ 6 ∷ 6 ∷ 5 ∷ 5 ∷ 2 ∷ [])) }
     ∷
     -- union to c that has two places in the waiting loop
-    record { rooms = rooms 66 1024; calls = begin (counts 15 22 16 2) ∷ operate Start ∷ operate New ∷ operate New ∷ operate New ∷ operate New ∷ operate New ∷ operate New ∷ operate Border ∷ operate New ∷ operate New ∷ operate (Split 5) ∷ operate Border ∷ operate Border ∷ operate (Union 1 1) ∷ operate Backward ∷ operate Border ∷ operate Border ∷ operate (Split 6) ∷ operate (Union 1 5) ∷ operate New ∷ operate Border ∷ operate Border ∷ operate Border ∷ operate Forward ∷ operate Border ∷ operate New ∷ operate New ∷ operate Forward ∷ operate Backward ∷ operate New ∷ operate Border ∷ operate Border ∷ operate Forward ∷ operate Border ∷ operate Border ∷ operate Border ∷ end ∷ []; told = accepted ∷ triangle (tri 0 1 2) ∷ triangle (tri 1 0 3) ∷ triangle (tri 1 3 4) ∷ triangle (tri 1 4 5) ∷ triangle (tri 1 5 6) ∷ triangle (tri 1 6 7) ∷ triangle (tri 1 7 8) ∷ no-triangle ∷ triangle (tri 2 1 9) ∷ triangle (tri 2 9 10) ∷ triangle (tri 2 10 6) ∷ no-triangle ∷ no-triangle ∷ triangle (tri 3 0 6) ∷ triangle (tri 3 6 10) ∷ no-triangle ∷ no-triangle ∷ triangle (tri 5 4 8) ∷ triangle (tri 8 4 6) ∷ triangle (tri 8 6 11) ∷ no-triangle ∷ no-triangle ∷ no-triangle ∷ triangle (tri 6 4 7) ∷ no-triangle ∷ triangle (tri 8 7 12) ∷ triangle (tri 8 12 13) ∷ triangle (tri 8 13 5) ∷ triangle (tri 5 13 12) ∷ triangle (tri 5 12 14) ∷ no-triangle ∷ no-triangle ∷ triangle (tri 6 0 11) ∷ no-triangle ∷ no-triangle ∷ no-triangle ∷ numbers (totalsOf 40 1 2 (negsuc 2)) ∷ []; machine = ((15 ∷ 40 ∷ 16 ∷ 2 ∷ 1 ∷ 2 ∷ 1 ∷ 0 ∷ 1 ∷ 2 ∷ 1 ∷ 0 ∷ 3 ∷ 1 ∷ 3 ∷ 4 ∷ 1 ∷ 4 ∷ 5 ∷ 1 ∷ 5 ∷ 6 ∷ 1 ∷ 6 ∷ 7 ∷ 1 ∷ 7 ∷ 8 ∷ 2 ∷ 1 ∷ 9 ∷ 2 ∷ 9 ∷ 10 ∷ 2 ∷ 10 ∷ 6 ∷ 3 ∷ 0 ∷ 6 ∷ 3 ∷ 6 ∷ 10 ∷ 5 ∷ 4 ∷ 8 ∷ 8 ∷ 4 ∷ 6 ∷ 8 ∷ 6 ∷ 11 ∷ 6 ∷ 4 ∷ 7 ∷ 8 ∷ 7 ∷ 12 ∷ 8 ∷ 12 ∷ 13 ∷ 8 ∷ 13 ∷ 5 ∷ 5 ∷ 13 ∷ 12 ∷ 5 ∷ 12 ∷ 14 ∷ 6 ∷ 0 ∷ 11 ∷ [])); borders = ((12 ∷ 14 ∷ 7 ∷ 12 ∷ 0 ∷ 11 ∷ 5 ∷ 6 ∷ 14 ∷ 5 ∷ 4 ∷ 7 ∷ 9 ∷ 10 ∷ 1 ∷ 9 ∷ 11 ∷ 8 ∷ 3 ∷ 4 ∷ 10 ∷ 3 ∷ 2 ∷ 0 ∷ 6 ∷ 2 ∷ 8 ∷ 1 ∷ [])) }
+    record { rooms = rooms 66 1024; calls = begin (counts 15 22 13 2) ∷ operate Start ∷ operate New ∷ operate New ∷ operate New ∷ operate New ∷ operate New ∷ operate New ∷ operate Border ∷ operate New ∷ operate New ∷ operate (Split 5) ∷ operate Border ∷ operate Border ∷ operate (Union 1 1) ∷ operate Backward ∷ operate Border ∷ operate Border ∷ operate (Split 5) ∷ operate (Union 1 4) ∷ operate New ∷ operate Border ∷ operate Border ∷ operate Border ∷ operate Forward ∷ operate Border ∷ operate New ∷ operate New ∷ operate Forward ∷ operate Backward ∷ operate New ∷ operate Border ∷ operate Border ∷ operate Forward ∷ operate Border ∷ operate Border ∷ operate Border ∷ end ∷ []; told = accepted ∷ triangle (tri 0 1 2) ∷ triangle (tri 1 0 3) ∷ triangle (tri 1 3 4) ∷ triangle (tri 1 4 5) ∷ triangle (tri 1 5 6) ∷ triangle (tri 1 6 7) ∷ triangle (tri 1 7 8) ∷ no-triangle ∷ triangle (tri 2 1 9) ∷ triangle (tri 2 9 10) ∷ triangle (tri 2 10 6) ∷ no-triangle ∷ no-triangle ∷ triangle (tri 3 0 6) ∷ triangle (tri 3 6 10) ∷ no-triangle ∷ no-triangle ∷ triangle (tri 5 4 8) ∷ triangle (tri 8 4 6) ∷ triangle (tri 8 6 11) ∷ no-triangle ∷ no-triangle ∷ no-triangle ∷ triangle (tri 6 4 7) ∷ no-triangle ∷ triangle (tri 8 7 12) ∷ triangle (tri 8 12 13) ∷ triangle (tri 8 13 5) ∷ triangle (tri 5 13 12) ∷ triangle (tri 5 12 14) ∷ no-triangle ∷ no-triangle ∷ triangle (tri 6 0 11) ∷ no-triangle ∷ no-triangle ∷ no-triangle ∷ numbers (totalsOf 40 1 2 (negsuc 2)) ∷ []; machine = ((15 ∷ 40 ∷ 13 ∷ 2 ∷ 1 ∷ 2 ∷ 1 ∷ 0 ∷ 1 ∷ 2 ∷ 1 ∷ 0 ∷ 3 ∷ 1 ∷ 3 ∷ 4 ∷ 1 ∷ 4 ∷ 5 ∷ 1 ∷ 5 ∷ 6 ∷ 1 ∷ 6 ∷ 7 ∷ 1 ∷ 7 ∷ 8 ∷ 2 ∷ 1 ∷ 9 ∷ 2 ∷ 9 ∷ 10 ∷ 2 ∷ 10 ∷ 6 ∷ 3 ∷ 0 ∷ 6 ∷ 3 ∷ 6 ∷ 10 ∷ 5 ∷ 4 ∷ 8 ∷ 8 ∷ 4 ∷ 6 ∷ 8 ∷ 6 ∷ 11 ∷ 6 ∷ 4 ∷ 7 ∷ 8 ∷ 7 ∷ 12 ∷ 8 ∷ 12 ∷ 13 ∷ 8 ∷ 13 ∷ 5 ∷ 5 ∷ 13 ∷ 12 ∷ 5 ∷ 12 ∷ 14 ∷ 6 ∷ 0 ∷ 11 ∷ [])); borders = ((12 ∷ 14 ∷ 7 ∷ 12 ∷ 0 ∷ 11 ∷ 5 ∷ 6 ∷ 14 ∷ 5 ∷ 4 ∷ 7 ∷ 9 ∷ 10 ∷ 1 ∷ 9 ∷ 11 ∷ 8 ∷ 3 ∷ 4 ∷ 10 ∷ 3 ∷ 2 ∷ 0 ∷ 6 ∷ 2 ∷ 8 ∷ 1 ∷ [])) }
     ∷
     -- torus of seven vertices
     record { rooms = rooms 42 1024; calls = begin (counts 7 14 8 2) ∷ operate Start ∷ operate New ∷ operate New ∷ operate New ∷ operate New ∷ operate Forward ∷ operate (Split 3) ∷ operate (Union 1 2) ∷ operate Forward ∷ operate Backward ∷ operate (Split 3) ∷ operate Close ∷ operate Forward ∷ operate Close ∷ end ∷ []; told = accepted ∷ triangle (tri 0 1 2) ∷ triangle (tri 1 0 3) ∷ triangle (tri 1 3 4) ∷ triangle (tri 1 4 5) ∷ triangle (tri 1 5 6) ∷ triangle (tri 1 6 2) ∷ triangle (tri 2 6 4) ∷ triangle (tri 4 6 0) ∷ triangle (tri 4 0 5) ∷ triangle (tri 5 0 2) ∷ triangle (tri 5 2 3) ∷ triangle (tri 3 2 4) ∷ triangle (tri 5 3 6) ∷ triangle (tri 6 3 0) ∷ numbers (totalsOf 21 0 1 (pos 0)) ∷ []; machine = ((7 ∷ 21 ∷ 8 ∷ 2 ∷ 1 ∷ 1 ∷ 0 ∷ 0 ∷ 1 ∷ 2 ∷ 1 ∷ 0 ∷ 3 ∷ 1 ∷ 3 ∷ 4 ∷ 1 ∷ 4 ∷ 5 ∷ 1 ∷ 5 ∷ 6 ∷ 1 ∷ 6 ∷ 2 ∷ 2 ∷ 6 ∷ 4 ∷ 4 ∷ 6 ∷ 0 ∷ 4 ∷ 0 ∷ 5 ∷ 5 ∷ 0 ∷ 2 ∷ 5 ∷ 2 ∷ 3 ∷ 3 ∷ 2 ∷ 4 ∷ 5 ∷ 3 ∷ 6 ∷ 6 ∷ 3 ∷ 0 ∷ [])); borders = [] }
+    ∷
+    -- a loop of two places, which new makes longer; f leaves; three places are the peak, in full loops four
+    record { rooms = rooms 6 1024; calls = begin (counts 4 2 3 1) ∷ operate Start ∷ operate Border ∷ operate Border ∷ operate New ∷ operate Border ∷ operate Border ∷ end ∷ []; told = accepted ∷ triangle (tri 0 1 2) ∷ no-triangle ∷ no-triangle ∷ triangle (tri 0 2 3) ∷ no-triangle ∷ no-triangle ∷ numbers (totalsOf 5 1 0 (pos 1)) ∷ []; machine = ((4 ∷ 5 ∷ 3 ∷ 1 ∷ 1 ∷ 0 ∷ 1 ∷ 0 ∷ 1 ∷ 2 ∷ 0 ∷ 2 ∷ 3 ∷ [])); borders = ((2 ∷ 3 ∷ 3 ∷ 0 ∷ 1 ∷ 2 ∷ 0 ∷ 1 ∷ [])) }
+    ∷
+    -- both places of an edge leave
+    record { rooms = rooms 6 1024; calls = begin (counts 4 2 4 1) ∷ operate Start ∷ operate Border ∷ operate New ∷ operate Border ∷ operate Border ∷ operate Border ∷ end ∷ []; told = accepted ∷ triangle (tri 0 1 2) ∷ no-triangle ∷ triangle (tri 2 1 3) ∷ no-triangle ∷ no-triangle ∷ no-triangle ∷ numbers (totalsOf 5 1 0 (pos 1)) ∷ []; machine = ((4 ∷ 5 ∷ 4 ∷ 1 ∷ 1 ∷ 0 ∷ 1 ∷ 0 ∷ 1 ∷ 2 ∷ 2 ∷ 1 ∷ 3 ∷ [])); borders = ((1 ∷ 3 ∷ 2 ∷ 0 ∷ 3 ∷ 2 ∷ 0 ∷ 1 ∷ [])) }
+    ∷
+    -- split 1 across a link
+    record { rooms = rooms 18 1024; calls = begin (counts 6 6 6 2) ∷ operate Start ∷ operate New ∷ operate Border ∷ operate Border ∷ operate New ∷ operate Border ∷ operate New ∷ operate (Split 1) ∷ operate Border ∷ operate Forward ∷ operate Border ∷ operate Border ∷ end ∷ []; told = accepted ∷ triangle (tri 0 1 2) ∷ triangle (tri 1 0 3) ∷ no-triangle ∷ no-triangle ∷ triangle (tri 0 2 4) ∷ no-triangle ∷ triangle (tri 3 0 5) ∷ triangle (tri 3 5 2) ∷ no-triangle ∷ triangle (tri 2 5 4) ∷ no-triangle ∷ no-triangle ∷ numbers (totalsOf 12 2 0 (pos 0)) ∷ []; machine = ((6 ∷ 12 ∷ 6 ∷ 2 ∷ 1 ∷ 0 ∷ 2 ∷ 0 ∷ 1 ∷ 2 ∷ 1 ∷ 0 ∷ 3 ∷ 0 ∷ 2 ∷ 4 ∷ 3 ∷ 0 ∷ 5 ∷ 3 ∷ 5 ∷ 2 ∷ 2 ∷ 5 ∷ 4 ∷ [])); borders = ((0 ∷ 5 ∷ 5 ∷ 4 ∷ 2 ∷ 3 ∷ 4 ∷ 0 ∷ 1 ∷ 2 ∷ 3 ∷ 1 ∷ [])) }
+    ∷
+    -- split of equal halves, next to a marked edge
+    record { rooms = rooms 15 1024; calls = begin (counts 5 5 6 2) ∷ operate Start ∷ operate New ∷ operate Border ∷ operate New ∷ operate (Split 2) ∷ operate Close ∷ operate Border ∷ operate Border ∷ end ∷ []; told = accepted ∷ triangle (tri 0 1 2) ∷ triangle (tri 1 0 3) ∷ no-triangle ∷ triangle (tri 2 1 4) ∷ triangle (tri 2 4 3) ∷ triangle (tri 2 3 0) ∷ no-triangle ∷ no-triangle ∷ numbers (totalsOf 9 1 0 (pos 1)) ∷ []; machine = ((5 ∷ 9 ∷ 6 ∷ 2 ∷ 1 ∷ 0 ∷ 1 ∷ 0 ∷ 1 ∷ 2 ∷ 1 ∷ 0 ∷ 3 ∷ 2 ∷ 1 ∷ 4 ∷ 2 ∷ 4 ∷ 3 ∷ 2 ∷ 3 ∷ 0 ∷ [])); borders = ((1 ∷ 4 ∷ 4 ∷ 3 ∷ 3 ∷ 1 ∷ [])) }
+    ∷
+    -- split 2 past a link; of halves equal in places the first goes on, in full loops the second would
+    record { rooms = rooms 18 1024; calls = begin (counts 6 6 6 2) ∷ operate Start ∷ operate New ∷ operate Border ∷ operate Border ∷ operate New ∷ operate Border ∷ operate New ∷ operate (Split 2) ∷ operate Backward ∷ operate Border ∷ operate Border ∷ operate Border ∷ end ∷ []; told = accepted ∷ triangle (tri 0 1 2) ∷ triangle (tri 1 0 3) ∷ no-triangle ∷ no-triangle ∷ triangle (tri 0 2 4) ∷ no-triangle ∷ triangle (tri 3 0 5) ∷ triangle (tri 3 5 4) ∷ triangle (tri 3 4 2) ∷ no-triangle ∷ no-triangle ∷ no-triangle ∷ numbers (totalsOf 12 2 0 (pos 0)) ∷ []; machine = ((6 ∷ 12 ∷ 6 ∷ 2 ∷ 1 ∷ 0 ∷ 2 ∷ 0 ∷ 1 ∷ 2 ∷ 1 ∷ 0 ∷ 3 ∷ 0 ∷ 2 ∷ 4 ∷ 3 ∷ 0 ∷ 5 ∷ 3 ∷ 5 ∷ 4 ∷ 3 ∷ 4 ∷ 2 ∷ [])); borders = ((0 ∷ 5 ∷ 5 ∷ 4 ∷ 2 ∷ 3 ∷ 4 ∷ 0 ∷ 1 ∷ 2 ∷ 3 ∷ 1 ∷ [])) }
+    ∷
+    -- split 1; the first part has fewer places, in full loops as many
+    record { rooms = rooms 21 1024; calls = begin (counts 6 7 5 2) ∷ operate Start ∷ operate New ∷ operate Border ∷ operate Border ∷ operate New ∷ operate New ∷ operate Forward ∷ operate (Split 1) ∷ operate Border ∷ operate Close ∷ end ∷ []; told = accepted ∷ triangle (tri 0 1 2) ∷ triangle (tri 1 0 3) ∷ no-triangle ∷ no-triangle ∷ triangle (tri 0 2 4) ∷ triangle (tri 0 4 5) ∷ triangle (tri 0 5 3) ∷ triangle (tri 3 5 2) ∷ no-triangle ∷ triangle (tri 2 5 4) ∷ numbers (totalsOf 12 1 0 (pos 1)) ∷ []; machine = ((6 ∷ 12 ∷ 5 ∷ 2 ∷ 1 ∷ 0 ∷ 1 ∷ 0 ∷ 1 ∷ 2 ∷ 1 ∷ 0 ∷ 3 ∷ 0 ∷ 2 ∷ 4 ∷ 0 ∷ 4 ∷ 5 ∷ 0 ∷ 5 ∷ 3 ∷ 3 ∷ 5 ∷ 2 ∷ 2 ∷ 5 ∷ 4 ∷ [])); borders = ((2 ∷ 3 ∷ 1 ∷ 2 ∷ 3 ∷ 1 ∷ [])) }
+    ∷
+    -- split 1; the first part has fewer places, in full loops more
+    record { rooms = rooms 24 1024; calls = begin (counts 7 8 5 2) ∷ operate Start ∷ operate New ∷ operate New ∷ operate Border ∷ operate Border ∷ operate Border ∷ operate New ∷ operate Forward ∷ operate New ∷ operate (Split 1) ∷ operate Border ∷ operate Close ∷ end ∷ []; told = accepted ∷ triangle (tri 0 1 2) ∷ triangle (tri 1 0 3) ∷ triangle (tri 1 3 4) ∷ no-triangle ∷ no-triangle ∷ no-triangle ∷ triangle (tri 3 0 5) ∷ triangle (tri 3 5 4) ∷ triangle (tri 4 5 6) ∷ triangle (tri 4 6 0) ∷ no-triangle ∷ triangle (tri 0 6 5) ∷ numbers (totalsOf 14 1 0 (pos 1)) ∷ []; machine = ((7 ∷ 14 ∷ 5 ∷ 2 ∷ 1 ∷ 0 ∷ 1 ∷ 0 ∷ 1 ∷ 2 ∷ 1 ∷ 0 ∷ 3 ∷ 1 ∷ 3 ∷ 4 ∷ 3 ∷ 0 ∷ 5 ∷ 3 ∷ 5 ∷ 4 ∷ 4 ∷ 5 ∷ 6 ∷ 4 ∷ 6 ∷ 0 ∷ 0 ∷ 6 ∷ 5 ∷ [])); borders = ((0 ∷ 4 ∷ 2 ∷ 0 ∷ 1 ∷ 2 ∷ 4 ∷ 1 ∷ [])) }
+    ∷
+    -- split 2 where the edge after f is marked
+    record { rooms = rooms 18 1024; calls = begin (counts 6 6 7 2) ∷ operate Start ∷ operate Border ∷ operate New ∷ operate New ∷ operate Border ∷ operate New ∷ operate (Split 2) ∷ operate Border ∷ operate Border ∷ operate Forward ∷ operate Border ∷ operate Border ∷ end ∷ []; told = accepted ∷ triangle (tri 0 1 2) ∷ no-triangle ∷ triangle (tri 2 1 3) ∷ triangle (tri 2 3 4) ∷ no-triangle ∷ triangle (tri 0 2 5) ∷ triangle (tri 0 5 3) ∷ no-triangle ∷ no-triangle ∷ triangle (tri 3 5 4) ∷ no-triangle ∷ no-triangle ∷ numbers (totalsOf 12 2 0 (pos 0)) ∷ []; machine = ((6 ∷ 12 ∷ 7 ∷ 2 ∷ 1 ∷ 0 ∷ 2 ∷ 0 ∷ 1 ∷ 2 ∷ 2 ∷ 1 ∷ 3 ∷ 2 ∷ 3 ∷ 4 ∷ 0 ∷ 2 ∷ 5 ∷ 0 ∷ 5 ∷ 3 ∷ 3 ∷ 5 ∷ 4 ∷ [])); borders = ((2 ∷ 5 ∷ 5 ∷ 4 ∷ 1 ∷ 3 ∷ 3 ∷ 0 ∷ 4 ∷ 2 ∷ 0 ∷ 1 ∷ [])) }
+    ∷
+    -- split k - 3 where the edge into e is marked
+    record { rooms = rooms 18 1024; calls = begin (counts 6 6 6 2) ∷ operate Start ∷ operate New ∷ operate New ∷ operate New ∷ operate Border ∷ operate Border ∷ operate (Split 2) ∷ operate Close ∷ operate Border ∷ operate Border ∷ end ∷ []; told = accepted ∷ triangle (tri 0 1 2) ∷ triangle (tri 1 0 3) ∷ triangle (tri 1 3 4) ∷ triangle (tri 1 4 5) ∷ no-triangle ∷ no-triangle ∷ triangle (tri 0 2 4) ∷ triangle (tri 0 4 3) ∷ no-triangle ∷ no-triangle ∷ numbers (totalsOf 11 1 0 (pos 1)) ∷ []; machine = ((6 ∷ 11 ∷ 6 ∷ 2 ∷ 1 ∷ 0 ∷ 1 ∷ 0 ∷ 1 ∷ 2 ∷ 1 ∷ 0 ∷ 3 ∷ 1 ∷ 3 ∷ 4 ∷ 1 ∷ 4 ∷ 5 ∷ 0 ∷ 2 ∷ 4 ∷ 0 ∷ 4 ∷ 3 ∷ [])); borders = ((4 ∷ 5 ∷ 2 ∷ 4 ∷ 1 ∷ 2 ∷ 5 ∷ 1 ∷ [])) }
+    ∷
+    -- seven places, in full loops six: the other half of the split goes on
+    record { rooms = rooms 21 1024; calls = begin (counts 7 7 7 2) ∷ operate Start ∷ operate New ∷ operate New ∷ operate Border ∷ operate Border ∷ operate (Split 2) ∷ operate New ∷ operate New ∷ operate Border ∷ operate Border ∷ operate Border ∷ operate Close ∷ end ∷ []; told = accepted ∷ triangle (tri 0 1 2) ∷ triangle (tri 1 0 3) ∷ triangle (tri 1 3 4) ∷ no-triangle ∷ no-triangle ∷ triangle (tri 0 2 4) ∷ triangle (tri 4 2 5) ∷ triangle (tri 4 5 6) ∷ no-triangle ∷ no-triangle ∷ no-triangle ∷ triangle (tri 0 4 3) ∷ numbers (totalsOf 13 1 0 (pos 1)) ∷ []; machine = ((7 ∷ 13 ∷ 7 ∷ 2 ∷ 1 ∷ 0 ∷ 1 ∷ 0 ∷ 1 ∷ 2 ∷ 1 ∷ 0 ∷ 3 ∷ 1 ∷ 3 ∷ 4 ∷ 0 ∷ 2 ∷ 4 ∷ 4 ∷ 2 ∷ 5 ∷ 4 ∷ 5 ∷ 6 ∷ 0 ∷ 4 ∷ 3 ∷ [])); borders = ((5 ∷ 6 ∷ 2 ∷ 5 ∷ 6 ∷ 4 ∷ 1 ∷ 2 ∷ 4 ∷ 1 ∷ [])) }
+    ∷
+    -- union from a loop of two places, with j = 0
+    record { rooms = rooms 24 1024; calls = begin (counts 6 8 7 2) ∷ operate Start ∷ operate Border ∷ operate New ∷ operate Border ∷ operate New ∷ operate (Split 2) ∷ operate New ∷ operate Border ∷ operate Forward ∷ operate (Union 1 0) ∷ operate Backward ∷ operate Border ∷ operate Border ∷ operate Border ∷ end ∷ []; told = accepted ∷ triangle (tri 0 1 2) ∷ no-triangle ∷ triangle (tri 2 1 3) ∷ no-triangle ∷ triangle (tri 0 2 4) ∷ triangle (tri 0 4 3) ∷ triangle (tri 0 3 5) ∷ no-triangle ∷ triangle (tri 3 1 5) ∷ triangle (tri 5 1 4) ∷ triangle (tri 5 4 2) ∷ no-triangle ∷ no-triangle ∷ no-triangle ∷ numbers (totalsOf 15 1 1 (negsuc 0)) ∷ []; machine = ((6 ∷ 15 ∷ 7 ∷ 2 ∷ 1 ∷ 1 ∷ 1 ∷ 0 ∷ 1 ∷ 2 ∷ 2 ∷ 1 ∷ 3 ∷ 0 ∷ 2 ∷ 4 ∷ 0 ∷ 4 ∷ 3 ∷ 0 ∷ 3 ∷ 5 ∷ 3 ∷ 1 ∷ 5 ∷ 5 ∷ 1 ∷ 4 ∷ 5 ∷ 4 ∷ 2 ∷ [])); borders = ((4 ∷ 3 ∷ 1 ∷ 4 ∷ 2 ∷ 5 ∷ 5 ∷ 0 ∷ 3 ∷ 2 ∷ 0 ∷ 1 ∷ [])) }
+    ∷
+    -- union and split past a link
+    record { rooms = rooms 27 1024; calls = begin (counts 7 9 7 2) ∷ operate Start ∷ operate New ∷ operate New ∷ operate Border ∷ operate Border ∷ operate New ∷ operate New ∷ operate Border ∷ operate Border ∷ operate (Split 3) ∷ operate (Union 1 2) ∷ operate Border ∷ operate Forward ∷ operate Border ∷ operate Forward ∷ operate Border ∷ end ∷ []; told = accepted ∷ triangle (tri 0 1 2) ∷ triangle (tri 1 0 3) ∷ triangle (tri 1 3 4) ∷ no-triangle ∷ no-triangle ∷ triangle (tri 0 2 5) ∷ triangle (tri 0 5 6) ∷ no-triangle ∷ no-triangle ∷ triangle (tri 4 3 6) ∷ triangle (tri 6 3 2) ∷ no-triangle ∷ triangle (tri 2 3 5) ∷ no-triangle ∷ triangle (tri 6 5 4) ∷ no-triangle ∷ numbers (totalsOf 17 1 1 (negsuc 0)) ∷ []; machine = ((7 ∷ 17 ∷ 7 ∷ 2 ∷ 1 ∷ 1 ∷ 1 ∷ 0 ∷ 1 ∷ 2 ∷ 1 ∷ 0 ∷ 3 ∷ 1 ∷ 3 ∷ 4 ∷ 0 ∷ 2 ∷ 5 ∷ 0 ∷ 5 ∷ 6 ∷ 4 ∷ 3 ∷ 6 ∷ 6 ∷ 3 ∷ 2 ∷ 2 ∷ 3 ∷ 5 ∷ 6 ∷ 5 ∷ 4 ∷ [])); borders = ((5 ∷ 4 ∷ 3 ∷ 5 ∷ 2 ∷ 6 ∷ 0 ∷ 3 ∷ 6 ∷ 0 ∷ 1 ∷ 2 ∷ 4 ∷ 1 ∷ [])) }
+    ∷
+    -- union 2 of two waiting loops, in shortened loops
+    record { rooms = rooms 33 1024; calls = begin (counts 8 11 10 3) ∷ operate Start ∷ operate Border ∷ operate New ∷ operate Border ∷ operate New ∷ operate New ∷ operate (Split 2) ∷ operate New ∷ operate New ∷ operate Border ∷ operate (Split 2) ∷ operate (Union 2 3) ∷ operate Backward ∷ operate Border ∷ operate Border ∷ operate Border ∷ operate Border ∷ operate Close ∷ end ∷ []; told = accepted ∷ triangle (tri 0 1 2) ∷ no-triangle ∷ triangle (tri 2 1 3) ∷ no-triangle ∷ triangle (tri 0 2 4) ∷ triangle (tri 0 4 5) ∷ triangle (tri 0 5 3) ∷ triangle (tri 0 3 6) ∷ triangle (tri 0 6 7) ∷ no-triangle ∷ triangle (tri 3 1 7) ∷ triangle (tri 7 1 4) ∷ triangle (tri 7 4 2) ∷ no-triangle ∷ no-triangle ∷ no-triangle ∷ no-triangle ∷ triangle (tri 3 7 6) ∷ numbers (totalsOf 20 1 1 (negsuc 0)) ∷ []; machine = ((8 ∷ 20 ∷ 10 ∷ 3 ∷ 1 ∷ 1 ∷ 1 ∷ 0 ∷ 1 ∷ 2 ∷ 2 ∷ 1 ∷ 3 ∷ 0 ∷ 2 ∷ 4 ∷ 0 ∷ 4 ∷ 5 ∷ 0 ∷ 5 ∷ 3 ∷ 0 ∷ 3 ∷ 6 ∷ 0 ∷ 6 ∷ 7 ∷ 3 ∷ 1 ∷ 7 ∷ 7 ∷ 1 ∷ 4 ∷ 7 ∷ 4 ∷ 2 ∷ 3 ∷ 7 ∷ 6 ∷ [])); borders = ((5 ∷ 3 ∷ 4 ∷ 5 ∷ 1 ∷ 4 ∷ 2 ∷ 7 ∷ 7 ∷ 0 ∷ 3 ∷ 2 ∷ 0 ∷ 1 ∷ [])) }
+    ∷
+    -- union to c that has a place in the current loop too, before it
+    record { rooms = rooms 30 1024; calls = begin (counts 8 10 10 2) ∷ operate Start ∷ operate New ∷ operate New ∷ operate New ∷ operate Border ∷ operate New ∷ operate (Split 3) ∷ operate Border ∷ operate New ∷ operate (Union 1 1) ∷ operate Backward ∷ operate Border ∷ operate Border ∷ operate Border ∷ operate Border ∷ operate Forward ∷ operate Border ∷ operate Border ∷ end ∷ []; told = accepted ∷ triangle (tri 0 1 2) ∷ triangle (tri 1 0 3) ∷ triangle (tri 1 3 4) ∷ triangle (tri 1 4 5) ∷ no-triangle ∷ triangle (tri 2 1 6) ∷ triangle (tri 2 6 4) ∷ no-triangle ∷ triangle (tri 0 2 7) ∷ triangle (tri 0 7 4) ∷ triangle (tri 0 4 6) ∷ no-triangle ∷ no-triangle ∷ no-triangle ∷ no-triangle ∷ triangle (tri 4 7 5) ∷ no-triangle ∷ no-triangle ∷ numbers (totalsOf 19 1 1 (negsuc 0)) ∷ []; machine = ((8 ∷ 19 ∷ 10 ∷ 2 ∷ 1 ∷ 1 ∷ 1 ∷ 0 ∷ 1 ∷ 2 ∷ 1 ∷ 0 ∷ 3 ∷ 1 ∷ 3 ∷ 4 ∷ 1 ∷ 4 ∷ 5 ∷ 2 ∷ 1 ∷ 6 ∷ 2 ∷ 6 ∷ 4 ∷ 0 ∷ 2 ∷ 7 ∷ 0 ∷ 7 ∷ 4 ∷ 0 ∷ 4 ∷ 6 ∷ 4 ∷ 7 ∷ 5 ∷ [])); borders = ((1 ∷ 6 ∷ 7 ∷ 5 ∷ 2 ∷ 7 ∷ 3 ∷ 4 ∷ 0 ∷ 3 ∷ 6 ∷ 0 ∷ 4 ∷ 2 ∷ 5 ∷ 1 ∷ [])) }
+    ∷
+    -- split to c that has an earlier place in the loop: the first place that has c does not do
+    record { rooms = rooms 33 1024; calls = begin (counts 8 11 10 2) ∷ operate Start ∷ operate New ∷ operate New ∷ operate New ∷ operate New ∷ operate New ∷ operate Border ∷ operate Border ∷ operate (Split 3) ∷ operate Border ∷ operate (Union 1 3) ∷ operate (Split 6) ∷ operate Close ∷ operate Backward ∷ operate Border ∷ operate Border ∷ operate Border ∷ operate Border ∷ end ∷ []; told = accepted ∷ triangle (tri 0 1 2) ∷ triangle (tri 1 0 3) ∷ triangle (tri 1 3 4) ∷ triangle (tri 1 4 5) ∷ triangle (tri 1 5 6) ∷ triangle (tri 1 6 7) ∷ no-triangle ∷ no-triangle ∷ triangle (tri 0 2 5) ∷ no-triangle ∷ triangle (tri 3 0 7) ∷ triangle (tri 3 7 5) ∷ triangle (tri 5 7 6) ∷ triangle (tri 3 5 2) ∷ no-triangle ∷ no-triangle ∷ no-triangle ∷ no-triangle ∷ numbers (totalsOf 20 1 1 (negsuc 0)) ∷ []; machine = ((8 ∷ 20 ∷ 10 ∷ 2 ∷ 1 ∷ 1 ∷ 1 ∷ 0 ∷ 1 ∷ 2 ∷ 1 ∷ 0 ∷ 3 ∷ 1 ∷ 3 ∷ 4 ∷ 1 ∷ 4 ∷ 5 ∷ 1 ∷ 5 ∷ 6 ∷ 1 ∷ 6 ∷ 7 ∷ 0 ∷ 2 ∷ 5 ∷ 3 ∷ 0 ∷ 7 ∷ 3 ∷ 7 ∷ 5 ∷ 5 ∷ 7 ∷ 6 ∷ 3 ∷ 5 ∷ 2 ∷ [])); borders = ((0 ∷ 7 ∷ 4 ∷ 5 ∷ 3 ∷ 4 ∷ 2 ∷ 3 ∷ 5 ∷ 0 ∷ 1 ∷ 2 ∷ 7 ∷ 1 ∷ [])) }
+    ∷
+    -- split to c that has a later place in the loop
+    record { rooms = rooms 39 1024; calls = begin (counts 9 13 10 2) ∷ operate Start ∷ operate New ∷ operate New ∷ operate New ∷ operate New ∷ operate Border ∷ operate Border ∷ operate (Split 3) ∷ operate (Union 1 2) ∷ operate New ∷ operate Forward ∷ operate New ∷ operate (Split 2) ∷ operate Backward ∷ operate Border ∷ operate Border ∷ operate Border ∷ operate Border ∷ operate Border ∷ operate Forward ∷ operate Border ∷ operate Border ∷ end ∷ []; told = accepted ∷ triangle (tri 0 1 2) ∷ triangle (tri 1 0 3) ∷ triangle (tri 1 3 4) ∷ triangle (tri 1 4 5) ∷ triangle (tri 1 5 6) ∷ no-triangle ∷ no-triangle ∷ triangle (tri 0 2 5) ∷ triangle (tri 5 2 3) ∷ triangle (tri 5 3 7) ∷ triangle (tri 5 7 6) ∷ triangle (tri 6 7 8) ∷ triangle (tri 6 8 3) ∷ triangle (tri 6 3 2) ∷ no-triangle ∷ no-triangle ∷ no-triangle ∷ no-triangle ∷ no-triangle ∷ triangle (tri 3 0 7) ∷ no-triangle ∷ no-triangle ∷ numbers (totalsOf 24 2 1 (negsuc 1)) ∷ []; machine = ((9 ∷ 24 ∷ 10 ∷ 2 ∷ 1 ∷ 1 ∷ 2 ∷ 0 ∷ 1 ∷ 2 ∷ 1 ∷ 0 ∷ 3 ∷ 1 ∷ 3 ∷ 4 ∷ 1 ∷ 4 ∷ 5 ∷ 1 ∷ 5 ∷ 6 ∷ 0 ∷ 2 ∷ 5 ∷ 5 ∷ 2 ∷ 3 ∷ 5 ∷ 3 ∷ 7 ∷ 5 ∷ 7 ∷ 6 ∷ 6 ∷ 7 ∷ 8 ∷ 6 ∷ 8 ∷ 3 ∷ 6 ∷ 3 ∷ 2 ∷ 3 ∷ 0 ∷ 7 ∷ [])); borders = ((7 ∷ 8 ∷ 0 ∷ 7 ∷ 5 ∷ 0 ∷ 4 ∷ 5 ∷ 3 ∷ 4 ∷ 8 ∷ 3 ∷ 2 ∷ 6 ∷ 1 ∷ 2 ∷ 6 ∷ 1 ∷ [])) }
+    ∷
+    -- backward to c that has an earlier place in the loop
+    record { rooms = rooms 30 1024; calls = begin (counts 8 10 9 2) ∷ operate Start ∷ operate New ∷ operate New ∷ operate New ∷ operate Border ∷ operate New ∷ operate (Split 3) ∷ operate Border ∷ operate (Union 1 2) ∷ operate Backward ∷ operate New ∷ operate Border ∷ operate Border ∷ operate Border ∷ operate Border ∷ operate Border ∷ operate Forward ∷ operate Border ∷ end ∷ []; told = accepted ∷ triangle (tri 0 1 2) ∷ triangle (tri 1 0 3) ∷ triangle (tri 1 3 4) ∷ triangle (tri 1 4 5) ∷ no-triangle ∷ triangle (tri 2 1 6) ∷ triangle (tri 2 6 4) ∷ no-triangle ∷ triangle (tri 0 2 5) ∷ triangle (tri 0 5 4) ∷ triangle (tri 0 4 7) ∷ no-triangle ∷ no-triangle ∷ no-triangle ∷ no-triangle ∷ no-triangle ∷ triangle (tri 4 6 7) ∷ no-triangle ∷ numbers (totalsOf 19 1 1 (negsuc 0)) ∷ []; machine = ((8 ∷ 19 ∷ 9 ∷ 2 ∷ 1 ∷ 1 ∷ 1 ∷ 0 ∷ 1 ∷ 2 ∷ 1 ∷ 0 ∷ 3 ∷ 1 ∷ 3 ∷ 4 ∷ 1 ∷ 4 ∷ 5 ∷ 2 ∷ 1 ∷ 6 ∷ 2 ∷ 6 ∷ 4 ∷ 0 ∷ 2 ∷ 5 ∷ 0 ∷ 5 ∷ 4 ∷ 0 ∷ 4 ∷ 7 ∷ 4 ∷ 6 ∷ 7 ∷ [])); borders = ((6 ∷ 7 ∷ 1 ∷ 6 ∷ 2 ∷ 5 ∷ 3 ∷ 4 ∷ 0 ∷ 3 ∷ 7 ∷ 0 ∷ 4 ∷ 2 ∷ 5 ∷ 1 ∷ [])) }
+    ∷
+    -- forward to c that has a later place in the loop
+    record { rooms = rooms 27 1024; calls = begin (counts 7 9 9 2) ∷ operate Start ∷ operate New ∷ operate New ∷ operate Border ∷ operate New ∷ operate Border ∷ operate (Split 2) ∷ operate (Union 1 3) ∷ operate New ∷ operate Border ∷ operate Border ∷ operate Forward ∷ operate Border ∷ operate Border ∷ operate Forward ∷ operate Border ∷ end ∷ []; told = accepted ∷ triangle (tri 0 1 2) ∷ triangle (tri 1 0 3) ∷ triangle (tri 1 3 4) ∷ no-triangle ∷ triangle (tri 2 1 5) ∷ no-triangle ∷ triangle (tri 0 2 4) ∷ triangle (tri 0 4 5) ∷ triangle (tri 0 5 6) ∷ no-triangle ∷ no-triangle ∷ triangle (tri 4 3 5) ∷ no-triangle ∷ no-triangle ∷ triangle (tri 5 1 6) ∷ no-triangle ∷ numbers (totalsOf 17 1 1 (negsuc 0)) ∷ []; machine = ((7 ∷ 17 ∷ 9 ∷ 2 ∷ 1 ∷ 1 ∷ 1 ∷ 0 ∷ 1 ∷ 2 ∷ 1 ∷ 0 ∷ 3 ∷ 1 ∷ 3 ∷ 4 ∷ 2 ∷ 1 ∷ 5 ∷ 0 ∷ 2 ∷ 4 ∷ 0 ∷ 4 ∷ 5 ∷ 0 ∷ 5 ∷ 6 ∷ 4 ∷ 3 ∷ 5 ∷ 5 ∷ 1 ∷ 6 ∷ [])); borders = ((1 ∷ 6 ∷ 2 ∷ 4 ∷ 3 ∷ 5 ∷ 0 ∷ 3 ∷ 6 ∷ 0 ∷ 5 ∷ 2 ∷ 4 ∷ 1 ∷ [])) }
     ∷
     -- M10
     record { rooms = rooms 24576 1024; calls = begin (counts 4096 8192 1024 100) ∷ operate Start ∷ operate New ∷ operate New ∷ operate (Split 2) ∷ []; told = accepted ∷ triangle (tri 0 1 2) ∷ triangle (tri 1 0 3) ∷ triangle (tri 1 3 4) ∷ refusal 18 ∷ []; machine = ((5 ∷ 7 ∷ 5 ∷ 1 ∷ 1 ∷ 0 ∷ 0 ∷ 0 ∷ 1 ∷ 2 ∷ 1 ∷ 0 ∷ 3 ∷ 1 ∷ 3 ∷ 4 ∷ 5 ∷ 4 ∷ 1 ∷ 1 ∷ 1 ∷ 2 ∷ 1 ∷ 0 ∷ 1 ∷ 3 ∷ 1 ∷ [])); borders = [] }
@@ -507,11 +702,11 @@ callRows =
     -- c is a; c is b
     record { rooms = rooms 24576 1024; calls = begin (counts 4096 8192 1024 100) ∷ operate Start ∷ operate New ∷ operate New ∷ operate Border ∷ operate New ∷ operate (Split 3) ∷ operate (Union 1 0) ∷ []; told = accepted ∷ triangle (tri 0 1 2) ∷ triangle (tri 1 0 3) ∷ triangle (tri 1 3 4) ∷ no-triangle ∷ triangle (tri 2 1 5) ∷ triangle (tri 2 5 4) ∷ refusal 18 ∷ []; machine = ((6 ∷ 11 ∷ 7 ∷ 2 ∷ 1 ∷ 0 ∷ 0 ∷ 0 ∷ 1 ∷ 2 ∷ 1 ∷ 0 ∷ 3 ∷ 1 ∷ 3 ∷ 4 ∷ 2 ∷ 1 ∷ 5 ∷ 2 ∷ 5 ∷ 4 ∷ 3 ∷ 5 ∷ 1 ∷ 4 ∷ 0 ∷ 1 ∷ 1 ∷ 4 ∷ 4 ∷ 1 ∷ 2 ∷ 1 ∷ 0 ∷ 1 ∷ 3 ∷ 1 ∷ [])); borders = ((4 ∷ 1 ∷ [])) }
     ∷
-    -- forward across a marked edge
+    -- a loop of two places takes neither forward, backward nor close
     record { rooms = rooms 24576 1024; calls = begin (counts 4096 8192 1024 100) ∷ operate Start ∷ operate New ∷ operate Border ∷ operate Border ∷ operate Border ∷ operate Forward ∷ operate Backward ∷ operate Close ∷ operate Border ∷ operate Border ∷ operate Start ∷ end ∷ []; told = accepted ∷ triangle (tri 0 1 2) ∷ triangle (tri 1 0 3) ∷ no-triangle ∷ no-triangle ∷ no-triangle ∷ refusal 16 ∷ refusal 16 ∷ refusal 16 ∷ no-triangle ∷ refusal 16 ∷ triangle (tri 4 5 6) ∷ refusal 15 ∷ []; machine = ((7 ∷ 8 ∷ 4 ∷ 1 ∷ 2 ∷ 0 ∷ 1 ∷ 0 ∷ 1 ∷ 2 ∷ 1 ∷ 0 ∷ 3 ∷ 4 ∷ 5 ∷ 6 ∷ 3 ∷ 4 ∷ 1 ∷ 5 ∷ 1 ∷ 6 ∷ 1 ∷ [])); borders = ((0 ∷ 3 ∷ 2 ∷ 0 ∷ 1 ∷ 2 ∷ 3 ∷ 1 ∷ [])) }
     ∷
     -- a loop of three with a marked edge does not close
-    record { rooms = rooms 6 1024; calls = begin (counts 3 2 3 1) ∷ operate Start ∷ operate Border ∷ operate Close ∷ operate Forward ∷ operate Backward ∷ operate Border ∷ operate Border ∷ end ∷ []; told = accepted ∷ triangle (tri 0 1 2) ∷ no-triangle ∷ refusal 16 ∷ refusal 16 ∷ refusal 16 ∷ no-triangle ∷ no-triangle ∷ refusal 15 ∷ []; machine = ((3 ∷ 3 ∷ 3 ∷ 1 ∷ 1 ∷ 0 ∷ 1 ∷ 0 ∷ 1 ∷ 2 ∷ [])); borders = ((2 ∷ 0 ∷ 1 ∷ 2 ∷ 0 ∷ 1 ∷ [])) }
+    record { rooms = rooms 6 1024; calls = begin (counts 3 2 3 1) ∷ operate Start ∷ operate Border ∷ operate Close ∷ operate Forward ∷ operate Backward ∷ operate Border ∷ operate Border ∷ end ∷ []; told = accepted ∷ triangle (tri 0 1 2) ∷ no-triangle ∷ refusal 16 ∷ refusal 18 ∷ refusal 16 ∷ no-triangle ∷ no-triangle ∷ refusal 15 ∷ []; machine = ((3 ∷ 3 ∷ 3 ∷ 1 ∷ 1 ∷ 0 ∷ 1 ∷ 0 ∷ 1 ∷ 2 ∷ [])); borders = ((2 ∷ 0 ∷ 1 ∷ 2 ∷ 0 ∷ 1 ∷ [])) }
     ∷
     -- waiting loops and union numbers out of range
     record { rooms = rooms 24576 1024; calls = begin (counts 4096 8192 1024 100) ∷ operate Start ∷ operate (Union 0 0) ∷ operate (Union 1 0) ∷ operate New ∷ operate Border ∷ operate New ∷ operate (Split 1) ∷ operate (Split 3) ∷ operate (Split 2) ∷ operate (Union 0 0) ∷ operate (Union 2 0) ∷ operate (Union 1 3) ∷ operate (Union 1 2) ∷ []; told = accepted ∷ triangle (tri 0 1 2) ∷ refusal 16 ∷ refusal 16 ∷ triangle (tri 1 0 3) ∷ no-triangle ∷ triangle (tri 2 1 4) ∷ refusal 16 ∷ refusal 16 ∷ triangle (tri 2 4 3) ∷ refusal 16 ∷ refusal 16 ∷ refusal 16 ∷ refusal 18 ∷ []; machine = ((5 ∷ 9 ∷ 6 ∷ 2 ∷ 1 ∷ 0 ∷ 0 ∷ 0 ∷ 1 ∷ 2 ∷ 1 ∷ 0 ∷ 3 ∷ 2 ∷ 1 ∷ 4 ∷ 2 ∷ 4 ∷ 3 ∷ 3 ∷ 3 ∷ 1 ∷ 2 ∷ 1 ∷ 0 ∷ 1 ∷ 3 ∷ 4 ∷ 1 ∷ 3 ∷ 0 ∷ 1 ∷ 1 ∷ [])); borders = ((3 ∷ 1 ∷ [])) }
@@ -529,10 +724,10 @@ callRows =
     record { rooms = rooms 6 1023; calls = begin (counts 3 1 3 1) ∷ []; told = refusal 14 ∷ []; machine = ((0 ∷ 0 ∷ 0 ∷ 0 ∷ 0 ∷ 0 ∷ 0 ∷ [])); borders = [] }
     ∷
     -- refused by 20
-    record { rooms = rooms 12 1024; calls = begin (counts 5 4 6 2) ∷ operate Start ∷ operate New ∷ operate New ∷ operate Border ∷ operate Border ∷ operate (Split 2) ∷ operate Border ∷ operate Border ∷ operate Border ∷ operate Border ∷ end ∷ []; told = accepted ∷ triangle (tri 0 1 2) ∷ triangle (tri 1 0 3) ∷ triangle (tri 1 3 4) ∷ no-triangle ∷ no-triangle ∷ triangle (tri 0 2 4) ∷ no-triangle ∷ no-triangle ∷ no-triangle ∷ no-triangle ∷ refusal 20 ∷ []; machine = ((5 ∷ 9 ∷ 6 ∷ 2 ∷ 1 ∷ 0 ∷ 2 ∷ 0 ∷ 1 ∷ 2 ∷ 1 ∷ 0 ∷ 3 ∷ 1 ∷ 3 ∷ 4 ∷ 0 ∷ 2 ∷ 4 ∷ [])); borders = ((2 ∷ 4 ∷ 3 ∷ 4 ∷ 0 ∷ 3 ∷ 4 ∷ 0 ∷ 1 ∷ 2 ∷ 4 ∷ 1 ∷ [])) }
+    record { rooms = rooms 12 1024; calls = begin (counts 5 4 5 2) ∷ operate Start ∷ operate New ∷ operate New ∷ operate Border ∷ operate Border ∷ operate (Split 2) ∷ operate Border ∷ operate Border ∷ operate Border ∷ operate Border ∷ end ∷ []; told = accepted ∷ triangle (tri 0 1 2) ∷ triangle (tri 1 0 3) ∷ triangle (tri 1 3 4) ∷ no-triangle ∷ no-triangle ∷ triangle (tri 0 2 4) ∷ no-triangle ∷ no-triangle ∷ no-triangle ∷ no-triangle ∷ refusal 20 ∷ []; machine = ((5 ∷ 9 ∷ 5 ∷ 2 ∷ 1 ∷ 0 ∷ 2 ∷ 0 ∷ 1 ∷ 2 ∷ 1 ∷ 0 ∷ 3 ∷ 1 ∷ 3 ∷ 4 ∷ 0 ∷ 2 ∷ 4 ∷ [])); borders = ((3 ∷ 4 ∷ 0 ∷ 3 ∷ 4 ∷ 0 ∷ 2 ∷ 4 ∷ 1 ∷ 2 ∷ 4 ∷ 1 ∷ [])) }
     ∷
     -- 19 before 20: a vertex too many
-    record { rooms = rooms 12 1024; calls = begin (counts 6 4 6 2) ∷ operate Start ∷ operate New ∷ operate New ∷ operate Border ∷ operate Border ∷ operate (Split 2) ∷ operate Border ∷ operate Border ∷ operate Border ∷ operate Border ∷ end ∷ []; told = accepted ∷ triangle (tri 0 1 2) ∷ triangle (tri 1 0 3) ∷ triangle (tri 1 3 4) ∷ no-triangle ∷ no-triangle ∷ triangle (tri 0 2 4) ∷ no-triangle ∷ no-triangle ∷ no-triangle ∷ no-triangle ∷ refusal 19 ∷ []; machine = ((5 ∷ 9 ∷ 6 ∷ 2 ∷ 1 ∷ 0 ∷ 2 ∷ 0 ∷ 1 ∷ 2 ∷ 1 ∷ 0 ∷ 3 ∷ 1 ∷ 3 ∷ 4 ∷ 0 ∷ 2 ∷ 4 ∷ [])); borders = ((2 ∷ 4 ∷ 3 ∷ 4 ∷ 0 ∷ 3 ∷ 4 ∷ 0 ∷ 1 ∷ 2 ∷ 4 ∷ 1 ∷ [])) }
+    record { rooms = rooms 12 1024; calls = begin (counts 6 4 5 2) ∷ operate Start ∷ operate New ∷ operate New ∷ operate Border ∷ operate Border ∷ operate (Split 2) ∷ operate Border ∷ operate Border ∷ operate Border ∷ operate Border ∷ end ∷ []; told = accepted ∷ triangle (tri 0 1 2) ∷ triangle (tri 1 0 3) ∷ triangle (tri 1 3 4) ∷ no-triangle ∷ no-triangle ∷ triangle (tri 0 2 4) ∷ no-triangle ∷ no-triangle ∷ no-triangle ∷ no-triangle ∷ refusal 19 ∷ []; machine = ((5 ∷ 9 ∷ 5 ∷ 2 ∷ 1 ∷ 0 ∷ 2 ∷ 0 ∷ 1 ∷ 2 ∷ 1 ∷ 0 ∷ 3 ∷ 1 ∷ 3 ∷ 4 ∷ 0 ∷ 2 ∷ 4 ∷ [])); borders = ((3 ∷ 4 ∷ 0 ∷ 3 ∷ 4 ∷ 0 ∷ 2 ∷ 4 ∷ 1 ∷ 2 ∷ 4 ∷ 1 ∷ [])) }
     ∷
     -- 19: the peak of places
     record { rooms = rooms 6 1024; calls = begin (counts 3 1 4 1) ∷ operate Start ∷ operate Border ∷ operate Border ∷ operate Border ∷ operate Start ∷ operate New ∷ end ∷ []; told = accepted ∷ triangle (tri 0 1 2) ∷ no-triangle ∷ no-triangle ∷ no-triangle ∷ refusal 17 ∷ refusal 16 ∷ refusal 19 ∷ []; machine = ((3 ∷ 3 ∷ 3 ∷ 1 ∷ 1 ∷ 0 ∷ 1 ∷ 0 ∷ 1 ∷ 2 ∷ [])); borders = ((2 ∷ 0 ∷ 1 ∷ 2 ∷ 0 ∷ 1 ∷ [])) }
@@ -546,7 +741,7 @@ callRows =
     -- T triangles are built and a loop is live: not complete
     record { rooms = rooms 3 1024; calls = begin (counts 3 1 3 1) ∷ operate Start ∷ end ∷ operate Border ∷ operate New ∷ operate Border ∷ operate Border ∷ end ∷ operate Start ∷ operate New ∷ operate Forward ∷ operate Backward ∷ operate Border ∷ operate Close ∷ operate (Split 2) ∷ operate (Union 1 0) ∷ []; told = accepted ∷ triangle (tri 0 1 2) ∷ refusal 15 ∷ no-triangle ∷ refusal 17 ∷ no-triangle ∷ no-triangle ∷ numbers (totalsOf 3 1 0 (pos 1)) ∷ refusal 17 ∷ refusal 16 ∷ refusal 16 ∷ refusal 16 ∷ refusal 16 ∷ refusal 16 ∷ refusal 16 ∷ refusal 16 ∷ []; machine = ((3 ∷ 3 ∷ 3 ∷ 1 ∷ 1 ∷ 0 ∷ 1 ∷ 0 ∷ 1 ∷ 2 ∷ [])); borders = ((2 ∷ 0 ∷ 1 ∷ 2 ∷ 0 ∷ 1 ∷ [])) }
     ∷
-    -- a loop of three takes neither forward, backward nor split; one of four does not close
+    -- a loop of three open edges takes neither forward, backward nor split; one of four does not close
     record { rooms = rooms 27 1024; calls = begin (counts 9 9 9 9) ∷ operate Start ∷ operate Forward ∷ operate Backward ∷ operate (Split 0) ∷ operate (Split 1) ∷ operate (Split 2) ∷ operate New ∷ operate Close ∷ operate (Split 1) ∷ operate (Split 2) ∷ operate Backward ∷ operate Backward ∷ end ∷ []; told = accepted ∷ triangle (tri 0 1 2) ∷ refusal 16 ∷ refusal 16 ∷ refusal 16 ∷ refusal 16 ∷ refusal 16 ∷ triangle (tri 1 0 3) ∷ refusal 16 ∷ refusal 16 ∷ refusal 16 ∷ refusal 18 ∷ refusal 18 ∷ refusal 15 ∷ []; machine = ((4 ∷ 5 ∷ 4 ∷ 1 ∷ 1 ∷ 0 ∷ 0 ∷ 0 ∷ 1 ∷ 2 ∷ 1 ∷ 0 ∷ 3 ∷ 4 ∷ 3 ∷ 1 ∷ 1 ∷ 1 ∷ 2 ∷ 1 ∷ 0 ∷ 1 ∷ [])); borders = [] }
     ∷
     -- 18: a→c is used, its opposite is not
@@ -558,8 +753,20 @@ callRows =
     -- 18: c→b alone, at a backward
     record { rooms = rooms 180 1024; calls = begin (counts 60 60 60 9) ∷ operate Start ∷ operate New ∷ operate Backward ∷ []; told = accepted ∷ triangle (tri 0 1 2) ∷ triangle (tri 1 0 3) ∷ refusal 18 ∷ []; machine = ((4 ∷ 5 ∷ 4 ∷ 1 ∷ 1 ∷ 0 ∷ 0 ∷ 0 ∷ 1 ∷ 2 ∷ 1 ∷ 0 ∷ 3 ∷ 4 ∷ 3 ∷ 1 ∷ 1 ∷ 1 ∷ 2 ∷ 1 ∷ 0 ∷ 1 ∷ [])); borders = [] }
     ∷
-    -- the next open edge is beyond two marked ones
-    record { rooms = rooms 180 1024; calls = begin (counts 60 60 60 9) ∷ operate Start ∷ operate Border ∷ operate Border ∷ operate New ∷ operate Border ∷ []; told = accepted ∷ triangle (tri 0 1 2) ∷ no-triangle ∷ no-triangle ∷ triangle (tri 0 2 3) ∷ no-triangle ∷ []; machine = ((4 ∷ 5 ∷ 4 ∷ 1 ∷ 1 ∷ 0 ∷ 0 ∷ 0 ∷ 1 ∷ 2 ∷ 0 ∷ 2 ∷ 3 ∷ 4 ∷ 2 ∷ 1 ∷ 3 ∷ 0 ∷ 0 ∷ 0 ∷ 1 ∷ 0 ∷ [])); borders = ((3 ∷ 0 ∷ 1 ∷ 2 ∷ 0 ∷ 1 ∷ [])) }
+    -- f leaves: the next open edge is beyond a link
+    record { rooms = rooms 180 1024; calls = begin (counts 60 60 60 9) ∷ operate Start ∷ operate Border ∷ operate Border ∷ operate New ∷ operate Border ∷ []; told = accepted ∷ triangle (tri 0 1 2) ∷ no-triangle ∷ no-triangle ∷ triangle (tri 0 2 3) ∷ no-triangle ∷ []; machine = ((4 ∷ 5 ∷ 3 ∷ 1 ∷ 1 ∷ 0 ∷ 0 ∷ 0 ∷ 1 ∷ 2 ∷ 0 ∷ 2 ∷ 3 ∷ 2 ∷ 2 ∷ 1 ∷ 3 ∷ 0 ∷ [])); borders = ((3 ∷ 0 ∷ 1 ∷ 2 ∷ 0 ∷ 1 ∷ [])) }
+    ∷
+    -- neither place leaves
+    record { rooms = rooms 180 1024; calls = begin (counts 60 60 60 9) ∷ operate Start ∷ operate Border ∷ operate New ∷ operate New ∷ operate Border ∷ []; told = accepted ∷ triangle (tri 0 1 2) ∷ no-triangle ∷ triangle (tri 2 1 3) ∷ triangle (tri 2 3 4) ∷ no-triangle ∷ []; machine = ((5 ∷ 7 ∷ 5 ∷ 1 ∷ 1 ∷ 0 ∷ 0 ∷ 0 ∷ 1 ∷ 2 ∷ 2 ∷ 1 ∷ 3 ∷ 2 ∷ 3 ∷ 4 ∷ 5 ∷ 2 ∷ 1 ∷ 0 ∷ 0 ∷ 1 ∷ 1 ∷ 3 ∷ 1 ∷ 4 ∷ 0 ∷ [])); borders = ((4 ∷ 2 ∷ 0 ∷ 1 ∷ [])) }
+    ∷
+    -- both places leave: a link joins the places beside them
+    record { rooms = rooms 180 1024; calls = begin (counts 60 60 60 9) ∷ operate Start ∷ operate Border ∷ operate New ∷ operate New ∷ operate Border ∷ operate Border ∷ []; told = accepted ∷ triangle (tri 0 1 2) ∷ no-triangle ∷ triangle (tri 2 1 3) ∷ triangle (tri 2 3 4) ∷ no-triangle ∷ no-triangle ∷ []; machine = ((5 ∷ 7 ∷ 5 ∷ 1 ∷ 1 ∷ 0 ∷ 0 ∷ 0 ∷ 1 ∷ 2 ∷ 2 ∷ 1 ∷ 3 ∷ 2 ∷ 3 ∷ 4 ∷ 3 ∷ 1 ∷ 1 ∷ 3 ∷ 1 ∷ 4 ∷ 0 ∷ [])); borders = ((2 ∷ 0 ∷ 4 ∷ 2 ∷ 0 ∷ 1 ∷ [])) }
+    ∷
+    -- e leaves
+    record { rooms = rooms 180 1024; calls = begin (counts 60 60 60 9) ∷ operate Start ∷ operate New ∷ operate Border ∷ operate Border ∷ []; told = accepted ∷ triangle (tri 0 1 2) ∷ triangle (tri 1 0 3) ∷ no-triangle ∷ no-triangle ∷ []; machine = ((4 ∷ 5 ∷ 4 ∷ 1 ∷ 1 ∷ 0 ∷ 0 ∷ 0 ∷ 1 ∷ 2 ∷ 1 ∷ 0 ∷ 3 ∷ 3 ∷ 2 ∷ 1 ∷ 0 ∷ 1 ∷ 3 ∷ 0 ∷ [])); borders = ((1 ∷ 2 ∷ 3 ∷ 1 ∷ [])) }
+    ∷
+    -- a rim ends with two places
+    record { rooms = rooms 9 1024; calls = begin (counts 5 3 5 1) ∷ operate Start ∷ operate Border ∷ operate New ∷ operate New ∷ operate Border ∷ operate Border ∷ operate Border ∷ operate Border ∷ end ∷ []; told = accepted ∷ triangle (tri 0 1 2) ∷ no-triangle ∷ triangle (tri 2 1 3) ∷ triangle (tri 2 3 4) ∷ no-triangle ∷ no-triangle ∷ no-triangle ∷ no-triangle ∷ numbers (totalsOf 7 1 0 (pos 1)) ∷ []; machine = ((5 ∷ 7 ∷ 5 ∷ 1 ∷ 1 ∷ 0 ∷ 1 ∷ 0 ∷ 1 ∷ 2 ∷ 2 ∷ 1 ∷ 3 ∷ 2 ∷ 3 ∷ 4 ∷ [])); borders = ((3 ∷ 4 ∷ 1 ∷ 3 ∷ 2 ∷ 0 ∷ 4 ∷ 2 ∷ 0 ∷ 1 ∷ [])) }
     ∷
     -- the second loop of a split goes on, the first waits as the latest of two
     record { rooms = rooms 180 1024; calls = begin (counts 60 60 60 9) ∷ operate Start ∷ operate New ∷ operate Border ∷ operate New ∷ operate (Split 2) ∷ operate New ∷ operate New ∷ operate Border ∷ operate New ∷ operate (Split 3) ∷ []; told = accepted ∷ triangle (tri 0 1 2) ∷ triangle (tri 1 0 3) ∷ no-triangle ∷ triangle (tri 2 1 4) ∷ triangle (tri 2 4 3) ∷ triangle (tri 2 3 5) ∷ triangle (tri 2 5 6) ∷ no-triangle ∷ triangle (tri 0 2 7) ∷ triangle (tri 0 7 6) ∷ []; machine = ((8 ∷ 17 ∷ 10 ∷ 3 ∷ 1 ∷ 0 ∷ 0 ∷ 0 ∷ 1 ∷ 2 ∷ 1 ∷ 0 ∷ 3 ∷ 2 ∷ 1 ∷ 4 ∷ 2 ∷ 4 ∷ 3 ∷ 2 ∷ 3 ∷ 5 ∷ 2 ∷ 5 ∷ 6 ∷ 0 ∷ 2 ∷ 7 ∷ 0 ∷ 7 ∷ 6 ∷ 3 ∷ 7 ∷ 1 ∷ 6 ∷ 0 ∷ 2 ∷ 1 ∷ 4 ∷ 6 ∷ 1 ∷ 0 ∷ 1 ∷ 3 ∷ 1 ∷ 5 ∷ 1 ∷ 3 ∷ 4 ∷ 1 ∷ 3 ∷ 0 ∷ 1 ∷ 1 ∷ [])); borders = ((6 ∷ 2 ∷ 3 ∷ 1 ∷ [])) }
@@ -573,8 +780,41 @@ callRows =
     -- 17: a place too many
     record { rooms = rooms 27 1024; calls = begin (counts 9 9 3 9) ∷ operate Start ∷ operate New ∷ []; told = accepted ∷ triangle (tri 0 1 2) ∷ refusal 17 ∷ []; machine = ((3 ∷ 3 ∷ 3 ∷ 1 ∷ 1 ∷ 0 ∷ 0 ∷ 0 ∷ 1 ∷ 2 ∷ 3 ∷ 0 ∷ 1 ∷ 1 ∷ 1 ∷ 2 ∷ 1 ∷ [])); borders = [] }
     ∷
+    -- 17: places are counted in shortened loops
+    record { rooms = rooms 27 1024; calls = begin (counts 9 9 3 9) ∷ operate Start ∷ operate Border ∷ operate Border ∷ operate New ∷ operate New ∷ operate Border ∷ operate New ∷ []; told = accepted ∷ triangle (tri 0 1 2) ∷ no-triangle ∷ no-triangle ∷ triangle (tri 0 2 3) ∷ refusal 17 ∷ no-triangle ∷ triangle (tri 3 2 4) ∷ []; machine = ((5 ∷ 7 ∷ 3 ∷ 1 ∷ 1 ∷ 0 ∷ 0 ∷ 0 ∷ 1 ∷ 2 ∷ 0 ∷ 2 ∷ 3 ∷ 3 ∷ 2 ∷ 4 ∷ 3 ∷ 4 ∷ 1 ∷ 3 ∷ 0 ∷ 2 ∷ 1 ∷ [])); borders = ((3 ∷ 0 ∷ 1 ∷ 2 ∷ 0 ∷ 1 ∷ [])) }
+    ∷
+    -- 19: the peak in full loops is stated
+    record { rooms = rooms 6 1024; calls = begin (counts 4 2 4 1) ∷ operate Start ∷ operate Border ∷ operate Border ∷ operate New ∷ operate Border ∷ operate Border ∷ end ∷ []; told = accepted ∷ triangle (tri 0 1 2) ∷ no-triangle ∷ no-triangle ∷ triangle (tri 0 2 3) ∷ no-triangle ∷ no-triangle ∷ refusal 19 ∷ []; machine = ((4 ∷ 5 ∷ 3 ∷ 1 ∷ 1 ∷ 0 ∷ 1 ∷ 0 ∷ 1 ∷ 2 ∷ 0 ∷ 2 ∷ 3 ∷ [])); borders = ((2 ∷ 3 ∷ 3 ∷ 0 ∷ 1 ∷ 2 ∷ 0 ∷ 1 ∷ [])) }
+    ∷
+    -- forward and backward across a marked edge; splits along a marked edge of the model
+    record { rooms = rooms 180 1024; calls = begin (counts 60 60 60 9) ∷ operate Start ∷ operate Border ∷ operate New ∷ operate Border ∷ operate Forward ∷ operate Backward ∷ operate (Split 0) ∷ operate (Split 1) ∷ operate (Split 2) ∷ operate (Split 3) ∷ operate Close ∷ []; told = accepted ∷ triangle (tri 0 1 2) ∷ no-triangle ∷ triangle (tri 2 1 3) ∷ no-triangle ∷ refusal 16 ∷ refusal 16 ∷ refusal 16 ∷ refusal 18 ∷ refusal 18 ∷ refusal 16 ∷ refusal 16 ∷ []; machine = ((4 ∷ 5 ∷ 4 ∷ 1 ∷ 1 ∷ 0 ∷ 0 ∷ 0 ∷ 1 ∷ 2 ∷ 2 ∷ 1 ∷ 3 ∷ 4 ∷ 2 ∷ 1 ∷ 0 ∷ 0 ∷ 1 ∷ 1 ∷ 3 ∷ 0 ∷ [])); borders = ((3 ∷ 2 ∷ 0 ∷ 1 ∷ [])) }
+    ∷
+    -- splits beyond an open edge, and as far as k - 2
+    record { rooms = rooms 180 1024; calls = begin (counts 60 60 60 9) ∷ operate Start ∷ operate New ∷ operate New ∷ operate (Split 0) ∷ operate (Split 1) ∷ operate (Split 2) ∷ operate (Split 3) ∷ operate (Split 4) ∷ operate New ∷ operate (Split 1) ∷ operate (Split 2) ∷ operate (Split 3) ∷ operate (Split 4) ∷ operate (Split 5) ∷ []; told = accepted ∷ triangle (tri 0 1 2) ∷ triangle (tri 1 0 3) ∷ triangle (tri 1 3 4) ∷ refusal 16 ∷ refusal 16 ∷ refusal 18 ∷ refusal 16 ∷ refusal 16 ∷ triangle (tri 1 4 5) ∷ refusal 16 ∷ refusal 18 ∷ refusal 18 ∷ refusal 16 ∷ refusal 16 ∷ []; machine = ((6 ∷ 9 ∷ 6 ∷ 1 ∷ 1 ∷ 0 ∷ 0 ∷ 0 ∷ 1 ∷ 2 ∷ 1 ∷ 0 ∷ 3 ∷ 1 ∷ 3 ∷ 4 ∷ 1 ∷ 4 ∷ 5 ∷ 6 ∷ 5 ∷ 1 ∷ 1 ∷ 1 ∷ 2 ∷ 1 ∷ 0 ∷ 1 ∷ 3 ∷ 1 ∷ 4 ∷ 1 ∷ [])); borders = [] }
+    ∷
+    -- a loop of three with a marked edge, before e and after f
+    record { rooms = rooms 180 1024; calls = begin (counts 60 60 60 9) ∷ operate Start ∷ operate Border ∷ operate Forward ∷ operate Backward ∷ operate (Split 1) ∷ operate Close ∷ operate Border ∷ operate New ∷ operate Forward ∷ operate Backward ∷ operate (Split 1) ∷ operate Close ∷ []; told = accepted ∷ triangle (tri 0 1 2) ∷ no-triangle ∷ refusal 18 ∷ refusal 16 ∷ refusal 16 ∷ refusal 16 ∷ no-triangle ∷ triangle (tri 0 2 3) ∷ refusal 16 ∷ refusal 18 ∷ refusal 16 ∷ refusal 16 ∷ []; machine = ((4 ∷ 5 ∷ 3 ∷ 1 ∷ 1 ∷ 0 ∷ 0 ∷ 0 ∷ 1 ∷ 2 ∷ 0 ∷ 2 ∷ 3 ∷ 3 ∷ 3 ∷ 1 ∷ 0 ∷ 0 ∷ 2 ∷ 1 ∷ [])); borders = ((1 ∷ 2 ∷ 0 ∷ 1 ∷ [])) }
+    ∷
+    -- a loop of two places takes new and border only
+    record { rooms = rooms 180 1024; calls = begin (counts 60 60 60 9) ∷ operate Start ∷ operate Border ∷ operate Border ∷ operate Forward ∷ operate Backward ∷ operate (Split 0) ∷ operate (Split 1) ∷ operate Close ∷ operate (Union 1 0) ∷ operate Start ∷ end ∷ operate Border ∷ []; told = accepted ∷ triangle (tri 0 1 2) ∷ no-triangle ∷ no-triangle ∷ refusal 16 ∷ refusal 16 ∷ refusal 16 ∷ refusal 16 ∷ refusal 16 ∷ refusal 16 ∷ refusal 16 ∷ refusal 15 ∷ no-triangle ∷ []; machine = ((3 ∷ 3 ∷ 3 ∷ 1 ∷ 1 ∷ 0 ∷ 1 ∷ 0 ∷ 1 ∷ 2 ∷ [])); borders = ((2 ∷ 0 ∷ 1 ∷ 2 ∷ 0 ∷ 1 ∷ [])) }
+    ∷
+    -- after a forward a→c is current
+    record { rooms = rooms 180 1024; calls = begin (counts 60 60 60 9) ∷ operate Start ∷ operate New ∷ operate Forward ∷ []; told = accepted ∷ triangle (tri 0 1 2) ∷ triangle (tri 1 0 3) ∷ triangle (tri 1 3 2) ∷ []; machine = ((4 ∷ 6 ∷ 4 ∷ 1 ∷ 1 ∷ 0 ∷ 0 ∷ 0 ∷ 1 ∷ 2 ∷ 1 ∷ 0 ∷ 3 ∷ 1 ∷ 3 ∷ 2 ∷ 3 ∷ 3 ∷ 1 ∷ 2 ∷ 1 ∷ 0 ∷ 1 ∷ [])); borders = [] }
+    ∷
+    -- after a backward c→b is current
+    record { rooms = rooms 180 1024; calls = begin (counts 60 60 60 9) ∷ operate Start ∷ operate New ∷ operate New ∷ operate Forward ∷ operate Backward ∷ []; told = accepted ∷ triangle (tri 0 1 2) ∷ triangle (tri 1 0 3) ∷ triangle (tri 1 3 4) ∷ triangle (tri 1 4 2) ∷ triangle (tri 2 4 3) ∷ []; machine = ((5 ∷ 9 ∷ 5 ∷ 1 ∷ 1 ∷ 0 ∷ 0 ∷ 0 ∷ 1 ∷ 2 ∷ 1 ∷ 0 ∷ 3 ∷ 1 ∷ 3 ∷ 4 ∷ 1 ∷ 4 ∷ 2 ∷ 2 ∷ 4 ∷ 3 ∷ 3 ∷ 3 ∷ 1 ∷ 2 ∷ 1 ∷ 0 ∷ 1 ∷ [])); borders = [] }
+    ∷
+    -- a forward at three places leaves two
+    record { rooms = rooms 180 1024; calls = begin (counts 60 60 60 9) ∷ operate Start ∷ operate New ∷ operate Border ∷ operate Border ∷ operate Forward ∷ []; told = accepted ∷ triangle (tri 0 1 2) ∷ triangle (tri 1 0 3) ∷ no-triangle ∷ no-triangle ∷ triangle (tri 0 2 3) ∷ []; machine = ((4 ∷ 6 ∷ 4 ∷ 1 ∷ 1 ∷ 0 ∷ 0 ∷ 0 ∷ 1 ∷ 2 ∷ 1 ∷ 0 ∷ 3 ∷ 0 ∷ 2 ∷ 3 ∷ 2 ∷ 2 ∷ 1 ∷ 3 ∷ 0 ∷ [])); borders = ((1 ∷ 2 ∷ 3 ∷ 1 ∷ [])) }
+    ∷
+    -- a backward at three places leaves two
+    record { rooms = rooms 180 1024; calls = begin (counts 60 60 60 9) ∷ operate Start ∷ operate New ∷ operate Border ∷ operate Border ∷ operate New ∷ operate Forward ∷ operate Backward ∷ []; told = accepted ∷ triangle (tri 0 1 2) ∷ triangle (tri 1 0 3) ∷ no-triangle ∷ no-triangle ∷ triangle (tri 0 2 4) ∷ triangle (tri 0 4 3) ∷ triangle (tri 3 4 2) ∷ []; machine = ((5 ∷ 9 ∷ 4 ∷ 1 ∷ 1 ∷ 0 ∷ 0 ∷ 0 ∷ 1 ∷ 2 ∷ 1 ∷ 0 ∷ 3 ∷ 0 ∷ 2 ∷ 4 ∷ 0 ∷ 4 ∷ 3 ∷ 3 ∷ 4 ∷ 2 ∷ 2 ∷ 2 ∷ 1 ∷ 3 ∷ 0 ∷ [])); borders = ((1 ∷ 2 ∷ 3 ∷ 1 ∷ [])) }
+    ∷
+    -- after a union c→b is current
+    record { rooms = rooms 180 1024; calls = begin (counts 60 60 60 9) ∷ operate Start ∷ operate New ∷ operate New ∷ operate Border ∷ operate New ∷ operate (Split 3) ∷ operate (Union 1 2) ∷ []; told = accepted ∷ triangle (tri 0 1 2) ∷ triangle (tri 1 0 3) ∷ triangle (tri 1 3 4) ∷ no-triangle ∷ triangle (tri 2 1 5) ∷ triangle (tri 2 5 4) ∷ triangle (tri 4 5 0) ∷ []; machine = ((6 ∷ 13 ∷ 8 ∷ 2 ∷ 1 ∷ 1 ∷ 0 ∷ 0 ∷ 1 ∷ 2 ∷ 1 ∷ 0 ∷ 3 ∷ 1 ∷ 3 ∷ 4 ∷ 2 ∷ 1 ∷ 5 ∷ 2 ∷ 5 ∷ 4 ∷ 4 ∷ 5 ∷ 0 ∷ 8 ∷ 0 ∷ 1 ∷ 4 ∷ 0 ∷ 1 ∷ 1 ∷ 5 ∷ 1 ∷ 0 ∷ 1 ∷ 3 ∷ 1 ∷ 4 ∷ 1 ∷ 2 ∷ 1 ∷ [])); borders = ((4 ∷ 1 ∷ [])) }
+    ∷
     []
 
 pub table : T (allRight packRight packRows && allRight unpackRight unpackRows && allRight callsRight callRows)
-unfolding equal equalPlaces equalAnswers packRight unpackRight writtenRing writtenRings writtenEdges callsRight allRight trianglesOf corners edgesOf same hit occurs count different pairs about leaving entering turnOn turnBack oneRun oneFanEach inTriangle across allBelow allDistinct noneTwice allUsed passes checkTriangles check allOpen vertexAt lastOpen lastVertex front onward places loopAt without allowed inOrder atEdge atRest effect test done beginning finish answers afterAll logAll bits valueOf bitsOfBytes bytesWithin readNumber allZero operationBits operationsBits kindIn readOperation packBytes takeField fieldsOf has dropTriangle turnIn turnOut edgeIn spotOf choosePlace limited taking chooseAt chooseIn cleared chooseAll indexOf newNumbers packChosen packChecked runAll numbersOf unpackRun unpackFields follow followed nodes placesOf openAmong loopsOf trianglesBuilt view sizesOf apart placesFit loopsFit linksFit sound packRows unpackRows callRows
+unfolding equal equalPlaces equalAnswers packRight unpackRight writtenRing writtenRings writtenEdges callsRight allRight trianglesOf corners edgesOf same hit occurs count different pairs about leaving entering turnOn turnBack oneRun oneFanEach inTriangle across allBelow allDistinct noneTwice allUsed passes checkTriangles check allOpen vertexAt lastOpen lastVertex front onward reached places loopAt without allowed inOrder atEdge atRest effect test done beginning finish answers afterAll logAll bits valueOf bitsOfBytes bytesWithin readNumber allZero operationBits operationsBits kindIn readOperation packBytes takeField fieldsOf has dropTriangle turnIn turnOut edgeIn spotOf choosePlace limited taking chooseAt chooseIn cleared chooseAll indexOf newNumbers packChosen packChecked runAll numbersOf unpackRun unpackFields follow followed nodes placesOf openAmong loopsOf trianglesBuilt view sizesOf apart placesFit loopsFit linksFit sound packRows unpackRows callRows
 table = tt

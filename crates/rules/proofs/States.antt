@@ -13,7 +13,7 @@ use Rattle.rules.specs.declared.Operation.the-variants.{New, Border, Spl
 use Rattle.rules.specs.Triangle.{tri, corners, edgesOf}
 use Rattle.rules.specs.Count.{same, hit, occurs, count}
 use Rattle.rules.specs.Check.{allBelow}
-use Rattle.rules.specs.Ring.{allOpen, vertexAt, lastOpen, lastVertex, front, onward, places, loopAt, without}
+use Rattle.rules.specs.Ring.{allOpen, vertexAt, lastOpen, lastVertex, front, onward, reached, places, loopAt, without}
 use Rattle.rules.specs.Table.{allowed, inOrder, atEdge, atRest, effect}
 use Rattle.rules.specs.Machine.{Step, refused, begun, built, declared, finished, test, done, beginning, finish}
 use Rattle.rules.specs.Unpack.{numbersOf}
@@ -163,6 +163,16 @@ stateRows =
     withParts false (parts 5 4 6 2 2 (3 ∷ 5 ∷ 0 ∷ 0 ∷ []) three)
     ∷ withParts false (parts 5 4 6 2 2 (5 ∷ 3 ∷ 0 ∷ 0 ∷ []) three)
     ∷
+    -- a place with both edges marked, in the waiting loop and in the current one; a marked edge in each loop
+    withPlaces false
+    (place 0 2 5 true ∷ place 1 3 4 false ∷ place 2 5 0 true ∷ place 3 4 1 false ∷ place 4 1 3 true ∷ place 3 0 2 true ∷ replicate 1018 freePlace)
+    ∷ withPlaces false
+    (place 0 2 5 false ∷ place 1 3 4 true ∷ place 2 5 0 false ∷ place 3 4 1 false ∷ place 4 1 3 true ∷ place 3 0 2 true ∷ replicate 1018 freePlace)
+    ∷ withPlaces true
+    (place 0 2 5 false ∷ place 1 3 4 true ∷ place 2 5 0 true ∷ place 3 4 1 false ∷ place 4 1 3 true ∷ place 3 0 2 true ∷ replicate 1018 freePlace)
+    ∷ withPlaces true
+    (place 0 2 5 true ∷ place 1 3 4 true ∷ place 2 5 0 false ∷ place 3 4 1 false ∷ place 4 1 3 true ∷ place 3 0 2 true ∷ replicate 1018 freePlace)
+    ∷
     -- a vertex number that is not below the count so far, at a place and in a triangle
     withPlaces false
     (place 0 2 5 true ∷ place 5 3 4 true ∷ place 2 5 0 true ∷ place 3 4 1 false ∷ place 4 1 3 true ∷ place 3 0 2 true ∷ replicate 1018 freePlace)
@@ -184,7 +194,7 @@ viewRight =
     .machine))
 
 pub states : T (allRight stateRight stateRows && viewRight)
-unfolding same hit corners edgesOf numbersOf occurs count allBelow allOpen vertexAt lastOpen lastVertex front onward places loopAt without allowed inOrder atEdge atRest effect test done beginning afterAll follow followed nodes loopsOf trianglesBuilt view placesOf sizesOf apart placesFit loopsFit linksFit sound equal allRight stateRows writtenRing writtenRings viewRight
+unfolding same hit corners edgesOf numbersOf occurs count allBelow allOpen vertexAt lastOpen lastVertex front onward reached places loopAt without allowed inOrder atEdge atRest effect test done beginning afterAll follow followed nodes loopsOf trianglesBuilt view placesOf sizesOf apart placesFit loopsFit linksFit sound equal allRight stateRows writtenRing writtenRings viewRight
 states = tt
 
 -- The building calls: 21 before 16 and before 15, on a state that does not pass; 16 and 15 on one that does.
@@ -210,5 +220,5 @@ callsRight =
     && equal (begunBuffers whole .triangles) numbers && equalPlaces (begunBuffers whole .places) (replicate 1024 freePlace)
 
 pub calls : T callsRight
-unfolding same hit corners edgesOf numbersOf occurs count allBelow allOpen vertexAt lastOpen lastVertex front onward places loopAt without allowed inOrder atEdge atRest effect test done finish follow followed placesOf nodes loopsOf trianglesBuilt view sizesOf apart placesFit loopsFit linksFit sound equal equalPlaces cleared callsRight
+unfolding same hit corners edgesOf numbersOf occurs count allBelow allOpen vertexAt lastOpen lastVertex front onward reached places loopAt without allowed inOrder atEdge atRest effect test done finish follow followed placesOf nodes loopsOf trianglesBuilt view sizesOf apart placesFit loopsFit linksFit sound equal equalPlaces cleared callsRight
 calls = tt

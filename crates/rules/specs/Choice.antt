@@ -3,15 +3,15 @@
 use Prim.Native.Nat.{ℕ, zero, suc, _+_, _-_, max}
 use mathlib.Core.Bool.{Bool, true, false, _&&_}
 use mathlib.Core.List.{List, [], _∷_, _++_}
-use lib.ListN.{length}
+use lib.ListN.{length, drop}
 use lib.Dec.{eqb, leb}
 use Rattle.rules.specs.declared.Triangle.{Triangle}
 use Rattle.rules.specs.declared.Across.the-variants.{Found, Nothing}
 use Rattle.rules.specs.declared.Operation.{Operation}
 use Rattle.rules.specs.declared.Operation.the-variants.{New, Forward, Backward, Border, Split, Close, Union, Start}
 use Rattle.rules.specs.Across.{inTriangle, across}
-use Rattle.rules.specs.Ring.{Node, opened, Ring, vertex, isOpen, startOr, places, loopAt}
-use Rattle.rules.specs.Table.{Effect, not-allowed, builds, marks, atEdge}
+use Rattle.rules.specs.Ring.{Node, opened, Ring, vertex, isOpen, firstOpen, lastOpen, startOr, places, loopAt}
+use Rattle.rules.specs.Table.{Effect, not-allowed, builds, marks, closes, atEdge}
 
 pub record Packing : Type 0 where
   pub mesh : List Triangle
@@ -68,14 +68,22 @@ unfoldable pub spotOf : ℕ → ℕ → ℕ → List Ring → Spot
 spotOf l x y [] = nowhere
 spotOf l x y (w ∷ ws) = elim (edgeIn (startOr 0 w) 0 x y w) [ absent ↦ spotOf (suc l) x y ws | at i ↦ spot l i ]
 
--- the operation for place i of loop l, where the current loop has k places; i counts from e, a split's index from f
-abbrev pub operationFor : ℕ → ℕ → ℕ → Operation
-operationFor k zero i =
-    elim (eqb k 3) [
+-- the operation for place i of loop l, where ps are the current loop's places after e; i counts from e, a split's index from f
+abbrev pub operationFor : List Node → ℕ → ℕ → Operation
+operationFor ps zero i =
+    let k = suc (length ps) in
+    elim (closes ps) [
       | true ↦ Close
-      | false ↦ elim (eqb i 2) [ true ↦ Forward | false ↦ elim (eqb (i + 1) k) [ true ↦ Backward | false ↦ Split (i - 1) ] ]
+      | false ↦ elim (eqb i 2 && firstOpen ps) [
+        | true ↦ Forward
+        | false ↦ elim (eqb (i + 1) k && lastOpen ps) [ true ↦ Backward | false ↦ Split (i - 1) ]
+      ]
     ]
-operationFor k (suc l) i = Union (suc l) i
+operationFor ps (suc l) i = Union (suc l) i
+
+-- the current loop's places after e
+abbrev pub afterCurrent : List Ring → List Node
+afterCurrent ls = drop 1 (loopAt ls 0)
 
 abbrev pub sizeOf : List Ring → ℕ → ℕ
 sizeOf ls n = length (loopAt ls n)
@@ -89,10 +97,10 @@ following k i = elim (eqb (i + 1) k) [ true ↦ 0 | false ↦ i + 1 ]
 -- accepted list one of the two is found, so that the last branch is never met (`one-place-is-right`, crate roundtrip).
 unfoldable pub choosePlace : ℕ → ℕ → ℕ → List Triangle → List Ring → Operation
 choosePlace a b c ts ls =
-    let k = sizeOf ls 0 in
+    let ps = afterCurrent ls in
     elim (spotOf 0 (turnIn (length ts) c b ts) c ls) [
-      | spot l i ↦ operationFor k l (following (sizeOf ls l) i)
-      | nowhere ↦ elim (spotOf 0 c (turnOut (length ts) c a ts) ls) [ spot l i ↦ operationFor k l i | nowhere ↦ Border ]
+      | spot l i ↦ operationFor ps l (following (sizeOf ls l) i)
+      | nowhere ↦ elim (spotOf 0 c (turnOut (length ts) c a ts) ls) [ spot l i ↦ operationFor ps l i | nowhere ↦ Border ]
     ]
 
 -- what the packer does next: nothing is left to do (or, never met, nothing can be done), it is refused, or it takes an operation

@@ -63,6 +63,19 @@ onward back [] = []
 onward back (opened v ∷ ps) = opened v ∷ (ps ++ back)
 onward back (marked v ∷ ps) = onward (back ++ (marked v ∷ [])) ps
 
+-- of a run of nodes, where m tells whether the edge before them is marked: a place between two marked edges leaves its loop
+unfoldable pub reached : List Node → Bool → List Node
+reached [] m = []
+reached (opened v ∷ ps) m = opened v ∷ reached ps false
+reached (marked v ∷ ps) true = reached ps true
+reached (marked v ∷ ps) false = marked v ∷ reached ps true
+
+-- a ring whose first edge is open, without the places that no open edge enters or leaves: their neighbours are joined by a
+-- marked link, which is no edge of the model
+abbrev pub shown : Ring → Ring
+shown [] = []
+shown (p ∷ ps) = p ∷ reached ps false
+
 -- all places of the loops
 unfoldable pub places : List Ring → ℕ
 places [] = 0

@@ -10,7 +10,7 @@ use Rattle.rules.specs.declared.Operation.{Operation}
 use Rattle.rules.specs.declared.Operation.the-variants.{New, Forward, Backward, Border, Split, Close, Union, Start}
 use Rattle.rules.specs.Triangle.{tri, distinct, Edge, edge, edgesOf}
 use Rattle.rules.specs.Count.{unjoined}
-use Rattle.rules.specs.Ring.{Node, opened, marked, Ring, vertex, firstOpen, allOpen, startOr, vertexAt, lastOpen, lastVertex, front, onward, loopAt, without}
+use Rattle.rules.specs.Ring.{Node, opened, marked, Ring, vertex, firstOpen, allOpen, startOr, vertexAt, lastOpen, lastVertex, front, onward, shown, loopAt, without}
 
 -- an edge of a new triangle glues an open edge, or it is a new open edge
 pub data Side : Type 0 where
@@ -41,26 +41,37 @@ abbrev pub marking : Ring → List Ring → Edge → Effect
 marking [] ws d = marks ws d 1
 marking (p ∷ ps) ws d = marks ((p ∷ ps) ∷ ws) d 0
 
+-- Of the current loop, ps are the places after e, f first. Three places, all edges open: close builds then, and neither forward nor
+-- backward.
+abbrev pub closes : List Node → Bool
+closes ps = eqb (suc (length ps)) 3 && allOpen ps
+
+-- place i after f is beyond an open edge next to the current one, the edge after f or the edge into e
+abbrev pub besideNext : List Node → ℕ → Bool
+besideNext ps i = eqb i 1 && firstOpen ps
+
+abbrev pub besideLast : List Node → ℕ → Bool
+besideLast ps i = eqb (i + 2) (suc (length ps)) && lastOpen ps
+
 -- The current edge goes from a to b; ps are the places after its own, f first, round to it; ws wait; u is the next unused
 -- number. The current edge itself is open: 21 refuses a state in which it is not.
 unfoldable pub atEdge : Operation → ℕ → ℕ → List Node → List Ring → Effect
 atEdge New u a ps ws = builds ((opened u ∷ (ps ++ (opened a ∷ []))) ∷ ws) (tri (startOr a ps) a u) glued fresh fresh 1 0 0
 atEdge Forward u a ps ws =
     let k = suc (length ps) in
-    allowed (leb 4 k && firstOpen ps) (builds ((opened a ∷ drop 1 ps) ∷ ws) (tri (startOr a ps) a (vertexAt ps 1)) glued fresh glued 0 0 0)
+    allowed (leb 3 k && firstOpen ps && not (closes ps))
+    (builds ((opened a ∷ drop 1 ps) ∷ ws) (tri (startOr a ps) a (vertexAt ps 1)) glued fresh glued 0 0 0)
 atEdge Backward u a ps ws =
     let k = suc (length ps) in
     let c = lastVertex ps in
-    allowed (leb 4 k && lastOpen ps) (builds ((opened c ∷ front ps) ∷ ws) (tri (startOr a ps) a c) glued glued fresh 0 0 0)
-atEdge Border u a ps ws = marking (onward [] (ps ++ (marked a ∷ []))) ws (edge a (startOr a ps))
+    allowed (leb 3 k && lastOpen ps && not (closes ps)) (builds ((opened c ∷ front ps) ∷ ws) (tri (startOr a ps) a c) glued glued fresh 0 0 0)
+atEdge Border u a ps ws = marking (shown (onward [] (ps ++ (marked a ∷ [])))) ws (edge a (startOr a ps))
 atEdge (Split i) u a ps ws =
     let k = suc (length ps) in
     let c = vertexAt ps i in
-    allowed (leb 2 i && leb (i + 3) k)
+    allowed (leb 1 i && leb (i + 2) k && not (besideNext ps i) && not (besideLast ps i))
     (builds (shorterFirst (opened c ∷ take i ps) (opened a ∷ drop i ps) ws) (tri (startOr a ps) a c) glued fresh fresh 0 0 0)
-atEdge Close u a ps ws =
-    let k = suc (length ps) in
-    allowed (eqb k 3 && allOpen ps) (builds ws (tri (startOr a ps) a (vertexAt ps 1)) glued glued glued 0 0 0)
+atEdge Close u a ps ws = allowed (closes ps) (builds ws (tri (startOr a ps) a (vertexAt ps 1)) glued glued glued 0 0 0)
 atEdge (Union n j) u a ps ws =
     let w = loopAt ws (n - 1) in
     let c = vertexAt w j in

@@ -1,7 +1,7 @@
 -- The test of 21: whether a building call can go on with the state and the buffers that it is lent.
 -- Assumes nothing.
 use Prim.Native.Nat.{ℕ, zero, suc, _+_, _*_}
-use mathlib.Core.Bool.{Bool, true, _&&_}
+use mathlib.Core.Bool.{Bool, true, _&&_, _||_}
 use mathlib.Core.List.{List, [], _∷_}
 use lib.ListN.{getD, take}
 use lib.Dec.{eqb, ltb, leb}
@@ -37,9 +37,13 @@ unfoldable pub apart : List ℕ → Bool
 apart [] = true
 apart (i ∷ is) = eqb (occurs i is) 0 && apart is
 
--- the link back from the next place agrees, and the vertex is below n, at each place of the list
+-- at each place of the list the link back from the next place agrees, the vertex is below n, and of the next place's two edges, the one
+-- that comes from here and its own, one is open
 abbrev pub placeFits : List Place → ℕ → ℕ → Bool
-placeFits ps n i = eqb (placeAt ps (placeAt ps i .after) .before) i && ltb (placeAt ps i .vertex) n
+placeFits ps n i =
+    let here = placeAt ps i in
+    let next = placeAt ps (here .after) in
+    eqb (next .before) i && ltb (here .vertex) n && (here .«open» || next .«open»)
 
 unfoldable pub placesFit : List Place → ℕ → List ℕ → Bool
 placesFit ps n [] = true

@@ -1,11 +1,16 @@
 //! The building calls compared with the builder's book of the second program.
 
-use crate::{count, met, words, Tally};
+use crate::{count, met, Tally};
+use compare::expected::{self, LEVEL};
+use compare::kinds::{self, Kinds};
 use compare::{Building, RECORDS};
 use cutborder::book::Book;
 use cutborder::gen;
 use cutborder::ops::{Counts, Op};
 use cutborder::rng::Rng;
+
+/// Lists of calls, the second program's and our own; a beginning begins a list.
+const LISTS: [&str; 2] = [include_str!("../../../reference/vectors/calls.txt"), include_str!("../../definitions/calls.txt")];
 
 /// One of the three calls.
 enum Call {
@@ -21,7 +26,7 @@ fn parsed(line: &str) -> (Call, Option<(usize, usize)>) {
     match w[0] {
         "begin" => (Call::Begin(Counts { v: n(1), t: n(2), places: n(3), loops: n(4) }), Some((n(5) as usize, n(6) as usize))),
         "finish" => (Call::Finish, None),
-        _ => (Call::Operate(words::operation(&w)), None),
+        _ => (Call::Operate(expected::operation(&w)), None),
     }
 }
 
@@ -39,8 +44,7 @@ fn same(b: &Building, book: &Book) {
 }
 
 /// A list of calls; the answers are counted.
-fn list(rng: &mut Rng, max_t: usize, tally: &mut Tally) -> usize {
-    let lines = gen::calls(rng, max_t);
+fn list(rng: &mut Rng, lines: &[String], tally: &mut Tally, kinds: &mut Kinds) -> usize {
     let Some((entries, records)) = lines.iter().find_map(|l| parsed(l).1) else { return 0 };
     let mut b = Building::new(entries, records, rng.below(65_536) as u16);
     let mut book: Option<Book> = None;
@@ -52,7 +56,7 @@ fn list(rng: &mut Rng, max_t: usize, tally: &mut Tally) -> usize {
         let before = b.clone();
         let refused = match parsed(line).0 {
             Call::Begin(c) => {
-                let expected = Book::begin(c, entries, records);
+                let expected = expected::begin(c, entries, records);
                 let answer = b.begin(c);
                 assert_eq!(answer, expected.as_ref().map(|_| ()).map_err(|&n| n), "{line}");
                 count(tally, &answer);
@@ -64,6 +68,9 @@ fn list(rng: &mut Rng, max_t: usize, tally: &mut Tally) -> usize {
                 answer.is_err()
             }
             Call::Operate(o) => {
+                if let Some(x) = &book {
+                    kinds::note(kinds, x, o);
+                }
                 let expected = book.as_mut().map_or(Err(21), |x| x.op(o));
                 let answer = b.operate(o);
                 assert_eq!(answer, expected, "{line}");
@@ -96,18 +103,34 @@ fn records_of(b: &Building) -> Vec<(u16, usize, usize, bool)> {
     (0..b.records.min(1_024)).map(|i| b.record(i)).collect()
 }
 
-pub fn lists(rng: &mut Rng, rounds: usize) -> (usize, Tally) {
+/// How many calls, and how many lists.
+pub fn lists(rng: &mut Rng, rounds: usize, kinds: &mut Kinds) -> (usize, usize, Tally) {
     let mut tally = Tally::new();
-    let mut n = 0;
+    let (mut n, mut known) = (0, Vec::<Vec<String>>::new());
+    for line in LISTS.iter().flat_map(|text| text.lines()).filter(|l| !l.starts_with('#')) {
+        if line.starts_with("begin") {
+            known.push(Vec::new());
+        }
+        known.last_mut().expect("a beginning").push(line.to_owned());
+    }
+    for lines in &known {
+        n += list(rng, lines, &mut tally, kinds);
+    }
     for i in 0..rounds {
-        n += list(rng, [6, 20, 60, 300][i % 4], &mut tally);
+        let lines = expected::random_calls(rng, [6, 20, 60, 300][i % 4]);
+        n += list(rng, &lines, &mut tally, kinds);
     }
     met(&tally, &[0, 13, 14, 15, 16, 17, 18, 19, 20, 21]);
-    (n, tally)
+    (n, rounds + known.len(), tally)
 }
 
-/// Whether 21 lets a state pass, by its sentence.
-fn passes(b: &Building) -> bool {
+/// Whether a live loop has a place with both edges marked.
+fn between_marks(b: &Building) -> bool {
+    b.rings().iter().any(|r| (0..r.len()).any(|i| !r[i].open && !r[(i + 1) % r.len()].open))
+}
+
+/// Whether 21 lets a state pass, by its sentence, but for places with both edges marked.
+fn passes_but_for_marks(b: &Building) -> bool {
     let s = |i: usize| b.state[i] as usize;
     let (v, t, places, loops) = (s(0), s(1), s(2), s(3));
     let ranges = (3..=4_096).contains(&v) && (1..=8_192).contains(&t) && (3..=1_024).contains(&places) && (1..=100).contains(&loops);
@@ -180,17 +203,24 @@ fn damage(rng: &mut Rng, b: &mut Building) {
     }
 }
 
+/// What 21 says of a state: it passes, a place between two marked edges is its only fault, or it has another.
+enum Fault {
+    None,
+    BetweenMarks,
+    Other,
+}
+
 /// A state that is built up, damaged, and called once more.
-fn damaged_call(rng: &mut Rng, tally: &mut Tally) -> bool {
+fn damaged_call(rng: &mut Rng, tally: &mut Tally) -> Fault {
     let size = rng.range(1, 30);
-    let w = gen::walk(rng, size, 100);
+    let w = gen::walk_at(LEVEL, rng, size, 100);
     let mut c = w.counts();
     c.v = (c.v + rng.below(3) as u32).clamp(3, 4_096);
     c.t = (c.t + rng.below(3) as u32).clamp(1, 8_192);
     c.places = (c.places + rng.below(3) as u32).clamp(3, 1_024);
     c.loops = (c.loops + rng.below(2) as u32).clamp(1, 100);
     let mut b = Building::new(3 * c.t as usize, 1_024, 0);
-    let mut book = Book::empty(c);
+    let mut book = Book::empty_at(LEVEL, c);
     b.begin(c).expect("a beginning");
     for &o in &w.ops[..rng.below(w.ops.len() + 1)] {
         let built = book.op(o).expect("an operation");
@@ -201,8 +231,18 @@ fn damaged_call(rng: &mut Rng, tally: &mut Tally) -> bool {
         damage(rng, &mut b);
     }
     let before = b.clone();
-    let passes = passes(&b);
-    let op = if rng.chance(1, 2) && w.ops.len() > book.triangles.len() { w.ops[rng.below(w.ops.len())] } else { [Op::New, Op::Border, Op::Forward, Op::Backward, Op::Split(2), Op::Union(1, 0), Op::Close, Op::Start][rng.below(8)] };
+    let fault = if !passes_but_for_marks(&b) {
+        Fault::Other
+    } else if between_marks(&b) {
+        Fault::BetweenMarks
+    } else {
+        Fault::None
+    };
+    let passes = matches!(fault, Fault::None);
+    let places = b.state[113 + (b.state[12] as usize).clamp(1, 100) - 1];
+    let near = Op::Split(u32::from(places.saturating_sub(2)));
+    let some = [Op::New, Op::Border, Op::Forward, Op::Backward, Op::Split(1), Op::Split(2), near, Op::Union(1, 0), Op::Close, Op::Start];
+    let op = if rng.chance(1, 2) && w.ops.len() > book.triangles.len() { w.ops[rng.below(w.ops.len())] } else { some[rng.below(some.len())] };
     if !passes {
         assert_eq!(b.finish(), Err(21), "finish of {:?}", before.state);
         let answer = b.operate(op);
@@ -227,12 +267,21 @@ fn damaged_call(rng: &mut Rng, tally: &mut Tally) -> bool {
         assert!(b.state == before.state && b.triangles == before.triangles, "changed");
         assert_eq!(records_of(&b), records_of(&before), "records changed");
     }
-    passes
+    fault
 }
 
-pub fn damaged(rng: &mut Rng, rounds: usize) -> (usize, usize, Tally) {
+/// How many states, how many pass, and how many have a place between two marked edges and no other fault.
+pub fn damaged(rng: &mut Rng, rounds: usize) -> (usize, usize, usize, Tally) {
     let mut tally = Tally::new();
-    let passed = (0..rounds).filter(|_| damaged_call(rng, &mut tally)).count();
+    let (mut passed, mut between) = (0, 0);
+    for _ in 0..rounds {
+        match damaged_call(rng, &mut tally) {
+            Fault::None => passed += 1,
+            Fault::BetweenMarks => between += 1,
+            Fault::Other => (),
+        }
+    }
     met(&tally, &[0, 16, 17, 18, 21]);
-    (rounds, passed, tally)
+    assert!(between > 0, "no state had a place between two marked edges alone");
+    (rounds, passed, between, tally)
 }

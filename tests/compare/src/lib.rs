@@ -1,8 +1,12 @@
-//! The cores of the service as Rust sees them: each exported function behind a safe one.
+//! The cores of the service as Rust sees them: each exported function behind a safe one. And what is expected of them.
+
+#[path = "../../expected.rs"]
+pub mod expected;
+pub mod kinds;
 
 use cutborder::book::{Finish, Spot};
 use cutborder::ops::{Counts, Op};
-use cutborder::{Answer, Refusal};
+use cutborder::{Answer, Place, Refusal, MAX_INPUT};
 
 /// The plain memory of an unpacking: four numbers for each of 1,024 place records, and room to work in.
 pub const MEMORY: usize = 5_320;
@@ -213,5 +217,28 @@ impl Building {
                     .collect()
             })
             .collect()
+    }
+}
+
+/// All that the program `unpack` must print for some bytes.
+pub fn printed(input: &[u8]) -> String {
+    let (mut triangles, mut places) = (vec![0; 24_576], vec![Place::default(); 1_024]);
+    let answer = if input.len() > MAX_INPUT { Err(12) } else { expected::unpack(input, &mut triangles, &mut places) };
+    match answer {
+        Err(n) => format!("refused {n}\n"),
+        Ok(a) => {
+            let head = format!("model {} {} {} {} {}\n", a.v, a.t, a.edges, a.rims, a.unions);
+            let line = |t: &[u16]| format!("{} {} {}\n", t[0], t[1], t[2]);
+            head + &triangles[..3 * a.t as usize].chunks(3).map(line).collect::<String>()
+        }
+    }
+}
+
+/// All that the program `pack` must write for a model: the pack, or the line of a refusal.
+pub fn written(v: u64, list: &[u16]) -> Vec<u8> {
+    let (mut numbering, mut places, mut room) = (vec![0; v.min(4_096) as usize], vec![Place::default(); 1_024], vec![0; 65_536]);
+    match expected::pack(v, list, &mut numbering, &mut places, &mut room) {
+        Ok(n) => room[..n].to_vec(),
+        Err(n) => format!("refused {n}\n").into_bytes(),
     }
 }

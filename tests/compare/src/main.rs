@@ -3,18 +3,32 @@
 //! Prints a line for each part; stops at the first difference with the input that shows it.
 
 mod building;
-#[path = "../../words.rs"]
-mod words;
 
+use compare::expected::{self, LEVEL, LIMITS};
+use compare::kinds::{self, Kinds};
 use compare::{check, fields, pack, read, read_in_pack, unpack, write, MEMORY, RECORDS};
+use cutborder::fast::{Packer, Unpacker};
 use cutborder::gen::{self, Model};
-use cutborder::ops::{encode_ops, split_fields, BitReader, Op};
+use cutborder::ops::{encode_ops, BitReader, Op};
+use cutborder::proto::unhex;
 use cutborder::rng::Rng;
 use cutborder::{plain, Place};
 use std::collections::BTreeMap;
 use std::time::Instant;
 
+const MODELS: [&str; 2] = [include_str!("../../../reference/vectors/models.txt"), include_str!("../../definitions/models.txt")];
+const PACKS: &str = include_str!("../../../reference/vectors/packs.txt");
+
 type Tally = BTreeMap<u8, usize>;
+
+/// The models of the vectors, the second program's and our own.
+fn models() -> Vec<Model> {
+    let line = |l: &str| {
+        let w: Vec<u64> = l.split(' ').map(|w| w.parse().expect("a number")).collect();
+        Model { v: w[0], list: w[1..].iter().map(|&x| x as u16).collect() }
+    };
+    MODELS.iter().flat_map(|text| text.lines().filter(|l| !l.starts_with('#')).map(line)).collect()
+}
 
 /// Counts an answer, 0 for acceptance.
 fn count<T>(tally: &mut Tally, answer: &Result<T, u8>) {
@@ -105,13 +119,19 @@ fn lists(rng: &mut Rng, rounds: usize) -> (usize, Tally) {
 
 /// A pack, sound or spoilt, or any bytes.
 fn bytes(rng: &mut Rng) -> Vec<u8> {
-    let mut b = if rng.chance(1, 6) { (0..rng.below(40)).map(|_| rng.below(256) as u8).collect() } else { gen::pack(rng, 40) };
+    let mut b = if rng.chance(1, 6) { (0..rng.below(40)).map(|_| rng.below(256) as u8).collect() } else { expected::random_pack(rng, 40) };
     match rng.below(6) {
         0 if !b.is_empty() => b.truncate(rng.below(b.len())),
         1 => b.extend((0..rng.range(1, 4)).map(|_| rng.below(256) as u8)),
         2 if !b.is_empty() => {
             let i = rng.below(b.len().min(20));
             b[i] ^= 1 << rng.below(8);
+        }
+        // A whole field, or what looks like one.
+        3 if rng.chance(1, 2) => {
+            let n = rng.below(5) as u8;
+            b.extend([rng.range(1, 5) as u8, 0, n]);
+            b.extend((0..n).map(|_| rng.below(256) as u8));
         }
         _ => {}
     }
@@ -122,7 +142,7 @@ fn packs(rng: &mut Rng, rounds: usize) -> (usize, Tally) {
     let mut tally = Tally::new();
     for _ in 0..rounds {
         let b = bytes(rng);
-        let expected = split_fields(&b).and_then(|(c, ops)| if c.in_range() { Ok((c, ops)) } else { Err(13) });
+        let expected = expected::fields(&b).and_then(|(c, ops)| if c.in_range() { Ok((c, ops)) } else { Err(13) });
         let found = fields(&b);
         assert_eq!(found.map(|(c, from, to)| (c, &b[from..to])), expected, "pack {b:02x?}");
         count(&mut tally, &expected);
@@ -202,35 +222,71 @@ fn writes(rng: &mut Rng, rounds: usize) -> usize {
     n
 }
 
-/// Packs of all kinds, sound and spoilt, in buffers of all lengths: the answer and every buffer afterwards.
-fn unpacks(rng: &mut Rng, rounds: usize) -> (usize, Tally) {
+/// Packs of all kinds, sound and spoilt, in buffers of all lengths: the answer and every buffer afterwards, and the same of the
+/// second program's fast engine.
+fn unpacks(rng: &mut Rng, rounds: usize, kinds: &mut Kinds) -> (usize, Tally) {
     let mut tally = Tally::new();
-    for i in 0..rounds {
-        let b = match i % 4 {
-            0 => bytes(rng),
-            1 => gen::packed(&gen::sound(rng, 200)).unwrap_or_default(),
-            _ => gen::pack(rng, 120),
+    let mut packs: Vec<Vec<u8>> = PACKS.lines().filter(|l| !l.starts_with('#')).map(|l| unhex(l).expect("hexadecimal")).collect();
+    packs.extend(models().iter().filter_map(expected::packed));
+    let mut fast = Unpacker::new();
+    for i in 0..rounds + packs.len() {
+        let b = match i.checked_sub(packs.len()) {
+            None => packs[i].clone(),
+            Some(n) if n % 4 == 0 => bytes(rng),
+            Some(n) if n % 4 == 1 => expected::packed(&gen::sound(rng, 200)).unwrap_or_default(),
+            _ => expected::random_pack(rng, 120),
         };
-        let t = split_fields(&b).map_or(1, |(c, _)| c.t as usize);
+        let known = expected::fields(&b);
+        let t = known.map_or(1, |(c, _)| c.t as usize);
         let room = if rng.chance(1, 16) { rng.below(3 * t + 1) } else { 3 * t + rng.below(4) };
         let records = if rng.chance(1, 16) { rng.below(1_025) } else { 1_024 };
         let (mut triangles, mut expected) = (vec![7u16; room], vec![7u16; room]);
         let mut m = [9u16; MEMORY];
         let mut places = vec![Place { vertex: 9, before: 9, after: 9, open: true }; records];
-        let answer = plain::unpack(&b, &mut expected, &mut places);
+        let (mut fast_triangles, mut fast_places) = (expected.clone(), places.clone());
+        let answer = expected::unpack(&b, &mut expected, &mut places);
         assert_eq!(unpack(&b, &mut triangles, &mut m, records), answer, "pack {b:02x?}");
         assert_eq!(triangles, expected, "triangles of pack {b:02x?}");
         let cleared = records == 1_024 && places[0] == Place::default();
         assert!(m[..RECORDS].iter().all(|&x| x == if cleared { 0 } else { 9 }), "memory after pack {b:02x?}");
+        assert_eq!(fast.unpack_at(LEVEL, &b, &mut fast_triangles, &mut fast_places), answer, "fast engine, pack {b:02x?}");
+        assert_eq!((fast_triangles, fast_places), (expected, places), "fast engine, pack {b:02x?}");
         count(&mut tally, &answer);
+        if let Some(book) = known.ok().and_then(|(c, _)| expected::begin(c, room, records).ok()) {
+            kinds::note_all(kinds, book, &gen::read_ops(&b[14..]));
+        }
     }
     met(&tally, &[0, 12, 13, 14, 15, 16, 17, 18, 19, 20]);
-    (rounds, tally)
+    (rounds + packs.len(), tally)
+}
+
+/// A flat model with a long rim or many of them, which full loops would hardly hold.
+fn filigree(rng: &mut Rng) -> Model {
+    let m = match rng.below(3) {
+        0 => Model::of(&gen::grid(rng.range(200, 1_000), 1, false, false, || true)),
+        1 => {
+            let w = rng.range(300, 1_000);
+            Model::of(&gen::grid(w, rng.range(1, (4_096 / (w + 1)).max(2) - 1), false, false, || true))
+        }
+        _ => {
+            let w = rng.range(30, 50);
+            let share = rng.range(5, 45);
+            let mut t = gen::grid(w, w, false, false, || true);
+            t.retain(|_| rng.below(100) >= share);
+            gen::fan_split(&t)
+        }
+    };
+    if rng.chance(1, 2) { gen::relist(rng, &m) } else { m }
 }
 
 /// Models of all kinds, good and bad, packed in buffers of all lengths: the answer and every buffer afterwards.
-fn packings(rng: &mut Rng, rounds: usize) -> (usize, Tally) {
+fn packings(rng: &mut Rng, rounds: usize, kinds: &mut Kinds) -> (usize, Tally) {
     let mut tally = Tally::new();
+    let mut fast = Packer::new();
+    let known = models();
+    for m in &known {
+        packing(rng, m, &mut fast, &mut tally, kinds);
+    }
     for i in 0..rounds {
         let max_t = [6, 20, 60, 200, 600][rng.below(5)];
         let m = match i {
@@ -238,6 +294,7 @@ fn packings(rng: &mut Rng, rounds: usize) -> (usize, Tally) {
             1 => gen::fan(1_025),
             _ if i % 400 == 2 => gen::limit(rng),
             _ if i % 1_000 == 3 => gen::branches(rng, 101).unwrap_or_else(|| gen::sound(rng, max_t)),
+            _ if i % 100 == 4 => filigree(rng),
             _ => match i % 6 {
                 0 => gen::model(rng, max_t),
                 1 => gen::damaged(rng, max_t),
@@ -245,18 +302,18 @@ fn packings(rng: &mut Rng, rounds: usize) -> (usize, Tally) {
                 _ => gen::sound(rng, max_t),
             },
         };
-        packing(rng, &m, &mut tally);
+        packing(rng, &m, &mut fast, &mut tally, kinds);
     }
     met(&tally, &[0, 1, 2, 3, 4, 5, 6, 7, 8, 9, 10, 11]);
-    (rounds, tally)
+    (rounds + known.len(), tally)
 }
 
-/// One packing of a model.
-fn packing(rng: &mut Rng, m: &Model, tally: &mut Tally) {
+/// One packing of a model, and the same by the second program's fast engine.
+fn packing(rng: &mut Rng, m: &Model, fast: &mut Packer, tally: &mut Tally, kinds: &mut Kinds) {
     let v = (m.v as usize).min(5_000);
     let numbering = if rng.chance(1, 20) { rng.below(v + 1) } else { v + rng.below(3) };
     let records = if rng.chance(1, 30) { rng.below(1_025) } else { 1_024 };
-    let long = gen::packed(m).map_or(20, |p| p.len());
+    let long = expected::packed(m).map_or(20, |p| p.len());
     let room = match rng.below(8) {
         0 => rng.below(long + 1),
         1 => long,
@@ -266,14 +323,28 @@ fn packing(rng: &mut Rng, m: &Model, tally: &mut Tally) {
     let (mut bs, mut expected_bs) = (vec![5u8; room], vec![5u8; room]);
     let mut memory = [9u16; MEMORY];
     let mut places = vec![Place { vertex: 9, before: 9, after: 9, open: true }; records];
-    let expected = plain::pack(m.v, &m.list, &mut expected_ns, &mut places, &mut expected_bs);
+    let (mut fast_ns, mut fast_bs, mut fast_places) = (ns.clone(), bs.clone(), places.clone());
+    let expected = expected::pack(m.v, &m.list, &mut expected_ns, &mut places, &mut expected_bs);
     let answer = pack(m.v as usize, &m.list, &mut ns, &mut bs, &mut memory, records);
     assert_eq!(answer, expected, "model {}", m.line());
     assert_eq!(ns, expected_ns, "numbering of model {}", m.line());
     assert_eq!(bs, expected_bs, "pack of model {}", m.line());
     let cleared = records == 1_024 && places[0] == Place::default();
     assert!(memory[..RECORDS].iter().all(|&x| x == if cleared { 0 } else { 9 }), "memory after model {}", m.line());
+    let answer = fast.pack_at(LEVEL, m.v, &m.list, &mut fast_ns, &mut fast_places, &mut fast_bs);
+    assert_eq!(answer, expected, "fast engine, model {}", m.line());
+    assert!(fast_ns == expected_ns && fast_bs == expected_bs && fast_places == places, "fast engine, buffers of model {}", m.line());
     count(tally, &answer);
+    if matches!(expected, Ok(_) | Err(11)) {
+        let (ops, chosen) = expected::choose(m.v, &m.list, LIMITS).expect("a packing");
+        kinds::note_all(kinds, expected::begin(chosen.book.counts, m.list.len(), 1_024).expect("counts"), &ops);
+    }
+}
+
+/// What happened in shortened loops: all that can.
+fn shortened(kinds: &Kinds) {
+    println!("    shortened loops: {kinds:?}");
+    kinds::met(kinds);
 }
 
 fn main() {
@@ -294,17 +365,26 @@ fn main() {
     let t = Instant::now();
     println!("reads: {} alike, {:.1} s", reads(&mut rng, 2_000 * scale), t.elapsed().as_secs_f64());
     let t = Instant::now();
-    let (n, tally) = unpacks(&mut rng, 4_000 * scale);
+    let mut kinds = Kinds::new();
+    let (n, tally) = unpacks(&mut rng, 4_000 * scale, &mut kinds);
     println!("unpacks: {n} alike, answers {tally:?}, {:.1} s", t.elapsed().as_secs_f64());
+    shortened(&kinds);
     let t = Instant::now();
-    let (n, tally) = packings(&mut rng, 2_000 * scale);
+    let mut kinds = Kinds::new();
+    let (n, tally) = packings(&mut rng, 2_000 * scale, &mut kinds);
     println!("packings: {n} alike, answers {tally:?}, {:.1} s", t.elapsed().as_secs_f64());
+    shortened(&kinds);
     let t = Instant::now();
-    let (n, tally) = building::lists(&mut rng, 1_000 * scale);
-    println!("building: {n} calls in {} lists alike, answers {tally:?}, {:.1} s", 1_000 * scale, t.elapsed().as_secs_f64());
+    let mut kinds = Kinds::new();
+    let (n, lists, tally) = building::lists(&mut rng, 1_000 * scale, &mut kinds);
+    println!("building: {n} calls in {lists} lists alike, answers {tally:?}, {:.1} s", t.elapsed().as_secs_f64());
+    shortened(&kinds);
     let t = Instant::now();
-    let (n, passed, tally) = building::damaged(&mut rng, 5_000 * scale);
-    println!("damaged states: {n} alike, {passed} pass 21, answers {tally:?}, {:.1} s", t.elapsed().as_secs_f64());
+    let (n, passed, between, tally) = building::damaged(&mut rng, 5_000 * scale);
+    println!(
+        "damaged states: {n} alike, {passed} pass 21, {between} have a place between two marked edges and no other fault, answers {tally:?}, {:.1} s",
+        t.elapsed().as_secs_f64()
+    );
     let t = Instant::now();
     println!("writes: {} alike, {:.1} s", writes(&mut rng, 2_000 * scale), t.elapsed().as_secs_f64());
 }

@@ -1,10 +1,10 @@
 //! Random cases: models, damaged lists, packs, damaged packs and lists of calls.
 
 use crate::antt;
+use crate::expected::{self, LIMITS};
 use crate::prelude::{prelude, Home};
-use crate::second::{Building, PackRooms, Packing, UnpackRooms, Unpacking, LIMITS};
+use crate::second::{Building, PackRooms, Packing, UnpackRooms, Unpacking};
 use cutborder::gen;
-use cutborder::ops::split_fields;
 use cutborder::rng::Rng;
 use cutborder::Place;
 
@@ -23,10 +23,20 @@ fn places(rng: &mut Rng) -> Vec<Place> {
     vec![p; length(rng, 1_024)]
 }
 
+/// Draws until there are at most n numbers, bytes or calls: a walk now and then goes on for long, and the prover has a limit.
+fn short<T, U>(n: usize, mut draw: impl FnMut() -> T, items: impl Fn(&T) -> &Vec<U>) -> T {
+    loop {
+        let x = draw();
+        if items(&x).len() <= n {
+            return x;
+        }
+    }
+}
+
 pub fn packing(rng: &mut Rng, max_t: usize) -> Packing {
-    let m = gen::model(rng, max_t);
+    let m = short(300, || gen::model(rng, max_t), |m| &m.list);
     let limits = if rng.chance(1, 4) { (rng.range(3, 9) as u32, rng.range(1, 3) as u32) } else { LIMITS };
-    let size = gen::packed(&m).map_or(20, |p| p.len());
+    let size = expected::packed(&m).map_or(20, |p| p.len());
     let lent = PackRooms {
         numbering: vec![7; length(rng, m.v.min(5_000) as usize)],
         places: places(rng),
@@ -36,8 +46,8 @@ pub fn packing(rng: &mut Rng, max_t: usize) -> Packing {
 }
 
 pub fn unpacking(rng: &mut Rng, max_t: usize) -> Unpacking {
-    let bytes = gen::pack(rng, max_t);
-    let t = split_fields(&bytes).map_or(1, |(c, _)| c.t as usize);
+    let bytes = short(150, || expected::random_pack(rng, max_t), |b| b);
+    let t = expected::fields(&bytes).map_or(1, |(c, _)| c.t as usize);
     // A count near the limits is tried; its buffers are not: they would only be long.
     let n = if t > 400 { 5 } else { length(rng, 3 * t) };
     let lent = UnpackRooms { triangles: vec![6; n], places: places(rng) };
@@ -45,7 +55,7 @@ pub fn unpacking(rng: &mut Rng, max_t: usize) -> Unpacking {
 }
 
 pub fn building(rng: &mut Rng, max_t: usize) -> Building {
-    Building::new(&gen::calls(rng, max_t))
+    Building::new(&short(300, || expected::random_calls(rng, max_t), |c| c))
 }
 
 /// A theorem for each case, so that a refusal names it.

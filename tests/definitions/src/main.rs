@@ -9,11 +9,11 @@
 mod antt;
 mod cases;
 mod edit;
+#[path = "../../expected.rs"]
+mod expected;
 mod prelude;
 mod second;
 mod table;
-#[path = "../../words.rs"]
-mod words;
 
 fn main() {
     let args: Vec<String> = std::env::args().skip(1).collect();

@@ -1,13 +1,9 @@
 //! Calls of the second program, with all that goes in and comes out.
 
-use crate::words;
+use crate::expected::{self, Calls, LIMITS};
 use cutborder::book::Book;
 use cutborder::ops::{encode_ops, pack_bytes, Counts};
-use cutborder::proto::Calls;
 use cutborder::{plain, Answer, Place, Refusal};
-
-/// The limits of the rules.
-pub const LIMITS: (u32, u32) = (1_024, 100);
 
 #[derive(Clone)]
 pub struct PackRooms {
@@ -29,7 +25,7 @@ impl Packing {
     pub fn new(limits: (u32, u32), v: u64, list: &[u16], lent: PackRooms) -> Packing {
         let mut left = lent.clone();
         let answer = if limits == LIMITS {
-            plain::pack(v, list, &mut left.numbering, &mut left.places, &mut left.pack)
+            expected::pack(v, list, &mut left.numbering, &mut left.places, &mut left.pack)
         } else {
             pack_within(limits, v, list, &mut left)
         };
@@ -37,23 +33,23 @@ impl Packing {
     }
 }
 
-/// `plain::pack` with other limits on places and loops.
+/// Packing with other limits on places and loops.
 fn pack_within(limits: (u32, u32), v: u64, list: &[u16], r: &mut PackRooms) -> Result<usize, Refusal> {
     plain::check(v, list)?;
     let n = v as usize;
     if r.numbering.len() < n || r.places.len() < 1_024 {
         return Err(8);
     }
-    let mut trace = plain::Trace::default();
-    let chosen = plain::choose_within(v as u32, list, &mut trace, limits.0, limits.1);
+    let chosen = expected::choose(v, list, limits);
     r.places[..1_024].fill(Place::default());
-    let result = chosen.and_then(|(book, number)| {
+    let result = chosen.and_then(|(ops, chosen)| {
+        let book = &chosen.book;
         let c = Counts { v: v as u32, t: (list.len() / 3) as u32, places: book.peak_places, loops: book.peak_loops };
-        let bytes = pack_bytes(c, &encode_ops(&trace.ops));
+        let bytes = pack_bytes(c, &encode_ops(&ops));
         if bytes.len() > r.pack.len() {
             Err(11)
         } else {
-            Ok((bytes, number))
+            Ok((bytes, chosen.number))
         }
     });
     match result {
@@ -86,7 +82,7 @@ pub struct Unpacking {
 impl Unpacking {
     pub fn new(bytes: &[u8], lent: UnpackRooms) -> Unpacking {
         let mut left = lent.clone();
-        let answer = plain::unpack(bytes, &mut left.triangles, &mut left.places);
+        let answer = expected::unpack(bytes, &mut left.triangles, &mut left.places);
         Unpacking { bytes: bytes.to_vec(), lent, answer, left }
     }
 }
@@ -108,26 +104,8 @@ impl Building {
         let all: Vec<_> = calls.iter().filter_map(rooms).collect();
         assert!(calls[0].starts_with("begin") && all.iter().all(|r| *r == all[0]), "one pair of rooms: {calls:?}");
         let mut lines = Calls::default();
-        let told: Vec<String> = calls.iter().map(|c| lines.line(c)).collect();
-        let mut book = Book::empty(Counts { v: 0, t: 0, places: 0, loops: 0 });
-        for (c, t) in calls.iter().zip(&told) {
-            if !t.starts_with("refused") {
-                book = after(book, c);
-            }
-        }
+        let told = calls.iter().map(|c| lines.line(c)).collect();
+        let book = lines.book.unwrap_or_else(|| Book::empty(Counts { v: 0, t: 0, places: 0, loops: 0 }));
         Building { rooms: all[0], calls: calls.to_vec(), told, book }
     }
-}
-
-/// The book after an accepted call.
-fn after(mut book: Book, call: &str) -> Book {
-    let w: Vec<&str> = call.split(' ').collect();
-    let n = |i: usize| w[i].parse::<u32>().unwrap();
-    if w[0] == "begin" {
-        return Book::empty(Counts { v: n(1), t: n(2), places: n(3), loops: n(4) });
-    }
-    if w[0] == "op" {
-        book.op(words::operation(&w)).expect("an accepted operation");
-    }
-    book
 }

@@ -1,16 +1,41 @@
 //! The table of the rules: M1 to M10 and rows that pin the other rules.
 
 use crate::antt;
+use crate::expected::{self, LIMITS};
 use crate::prelude::{prelude, Home};
-use crate::second::{Building, PackRooms, Packing, UnpackRooms, Unpacking, LIMITS};
-use cutborder::ops::Op;
+use crate::second::{Building, PackRooms, Packing, UnpackRooms, Unpacking};
+use cutborder::gen::op_words;
 use cutborder::proto::unhex;
 use cutborder::{plain, Place};
 
 const MODELS: &str = include_str!("../../../reference/vectors/models.txt");
 const PACKS: &str = include_str!("../../../reference/vectors/packs.txt");
 const CALLS: &str = include_str!("../../../reference/vectors/calls.txt");
+const MORE_MODELS: &str = include_str!("../models.txt");
 const MORE_CALLS: &str = include_str!("../calls.txt");
+
+/// What the second program's vectors show in shortened loops, where that is not what their remarks say.
+const NOW: [(&str, &str); 8] = [
+    (
+        "smallest forward; c is reached from the edge that enters its place only",
+        "forward at three places; c is reached from the edge that enters its place only",
+    ),
+    (
+        "smallest backward; c is reached from the edge that leaves its place only",
+        "backward at three places; c is reached from the edge that leaves its place only",
+    ),
+    ("smallest split; equal halves, next to a marked edge", "split k - 2 across a link; the second part has fewer places, in full loops as many"),
+    ("split, the second part is smaller", "split k - 2, the second part is smaller"),
+    ("union to c that has a place in the current loop too", "union from a loop of two places"),
+    ("split to c that has an earlier place after f", "union from a loop of two places, then a split past links"),
+    ("20: the shortest", "operations and peaks of full loops, in which these were 20"),
+    ("forward across a marked edge", "a loop of two places takes neither forward, backward nor close"),
+];
+
+/// A remark of a vector file, as it is now.
+fn now(remark: &str) -> String {
+    NOW.iter().find(|r| r.0 == remark).map_or(remark, |r| r.1).to_owned()
+}
 
 /// The lines of a vector file, each with the remark above it.
 fn lines(text: &str) -> Vec<(String, String)> {
@@ -18,11 +43,16 @@ fn lines(text: &str) -> Vec<(String, String)> {
     let mut out = Vec::new();
     for line in text.lines() {
         match line.strip_prefix("# ") {
-            Some(remark) => name = remark.to_owned(),
+            Some(remark) => name = now(remark),
             None => out.push((name.clone(), line.to_owned())),
         }
     }
     out
+}
+
+/// The models of the second program's vectors, then our own.
+fn models() -> Vec<(String, String)> {
+    [MODELS, MORE_MODELS].iter().flat_map(|text| lines(text)).collect()
 }
 
 const USED: Place = Place { vertex: 3, before: 1, after: 2, open: true };
@@ -50,16 +80,19 @@ fn pack_row(name: &str, limits: (u32, u32), line: &str, change: impl Fn(&mut Pac
 }
 
 /// A split makes two loops at six places; seven places come one operation later.
-const LOOPS_FIRST: &str = "6 4 3 5 4 0 3 4 5 2 1 4 2 0 2 3 0 1 2";
+const LOOPS_FIRST: &str = "6 0 1 2 0 2 3 1 4 5 1 5 2 4 0 5 0 3 5";
+
+/// Three places are the peak, in full loops four.
+const SHORT: &str = "4 0 2 1 1 3 0";
 
 /// A split makes two loops and a seventh place.
 const SPLIT: &str = "6 1 3 2 2 4 5 2 3 4 1 0 3 2 5 0 0 1 2";
 
 fn packings() -> Vec<(String, String)> {
     let same = |_: &mut PackRooms| ();
-    let mut rows: Vec<_> = lines(MODELS).iter().map(|(name, line)| pack_row(name, LIMITS, line, same)).collect();
+    let mut rows: Vec<_> = models().iter().map(|(name, line)| pack_row(name, LIMITS, line, same)).collect();
     for (name, line) in [
-        ("the first place that has c does not do", "7 0 1 2 3 1 4 1 5 6 5 1 3 5 0 2 4 5 2 1 0 4 6 5 4 0 6 4"),
+        ("union from a loop with a link; the peak of places is reached by it", "7 0 1 2 3 1 4 1 5 6 5 1 3 5 0 2 4 5 2 1 0 4 6 5 4 0 6 4"),
         ("1: four numbers", "4 0 1 2 3"),
         ("1 before 2", "2"),
         ("2: V 2", "2 0 1 0"),
@@ -100,6 +133,8 @@ fn packings() -> Vec<(String, String)> {
     rows.push(pack_row("9 before 10 at one operation", (6, 1), SPLIT, same));
     rows.push(pack_row("10 at an operation before that of 9", (6, 1), LOOPS_FIRST, same));
     rows.push(pack_row("9 alone, later", (6, 100), LOOPS_FIRST, same));
+    rows.push(pack_row("no 9: places are counted in shortened loops", (3, 1), SHORT, same));
+    rows.push(pack_row("9: one place less", (2, 1), SHORT, same));
     rows.push(pack_row("9 before 11", (3, 1), "4 0 1 2 1 0 3", |r| r.pack.clear()));
     rows.push(pack_row("10 before 11", (1_024, 1), SPLIT, |r| r.pack.clear()));
     rows.push(pack_row("11", LIMITS, "3 0 1 2", |r| r.pack.truncate(15)));
@@ -119,7 +154,7 @@ fn unpack_row(name: &str, hex: &str, triangles: usize, places: usize) -> (String
 fn unpackings() -> Vec<(String, String)> {
     let mut rows: Vec<_> = lines(PACKS).iter().map(|(name, hex)| unpack_row(name, hex, if name == "18: M10" { 24_577 } else { 32 }, 1_026)).collect();
     // The packs of the models.
-    for (name, line) in lines(MODELS) {
+    for (name, line) in models() {
         let (v, list) = model(&line);
         let x = Packing::new(LIMITS, v, &list, ample(v as usize));
         if let Ok(n) = x.answer {
@@ -142,6 +177,15 @@ fn unpackings() -> Vec<(String, String)> {
         ("counts of 4,096, 8,192, 1,024 and 100, and no operations", "0100081000200004000064020000", 24_576, 1_024),
         ("eight bits left over", "0100080006000200030001020004edbedb00", 32, 1_024),
         ("five fill bits, the first is one", "0100080003000200030001020001f5", 32, 1_024),
+        ("20: the shortest", "0100080005000400050002020005e0370026db", 32, 1_024),
+        ("20: the shortest", "0100080005000400050002020005e186e004db", 32, 1_024),
+        ("20: the shortest", "0100080005000400060002020005e1880136db", 32, 1_024),
+        ("20: the shortest", "0100080005000400050002020005ec30e004db", 32, 1_024),
+        ("20: the shortest", "0100080005000400060002020005ec310026db", 32, 1_024),
+        ("20: a place of the vertex left, the other ended in a rim later", "0100080006000500070002020006e1862006db6c", 32, 1_024),
+        ("20: both places of the vertex left", "0100080007000600080002020007e1880100db6db0", 32, 1_024),
+        ("19 before 20: a vertex too many", "0100080006000400050002020005e186e004db", 32, 1_024),
+        ("19: the peak in full loops is stated", "0100080004000200040001020003ed86c0", 32, 1_024),
     ] {
         rows.push(unpack_row(name, hex, triangles, places));
     }
@@ -152,25 +196,17 @@ fn unpackings() -> Vec<(String, String)> {
 fn built(name: &str, line: &str) -> Option<(String, String)> {
     let (v, list) = model(line);
     plain::check(v, &list).ok()?;
-    let mut trace = plain::Trace::default();
-    let (book, _) = plain::choose(v as u32, &list, &mut trace).ok()?;
+    let (ops, chosen) = expected::choose(v, &list, LIMITS).ok()?;
+    let book = chosen.book;
     let mut calls = vec![format!("begin {v} {} {} {} {} 1024", list.len() / 3, book.peak_places, book.peak_loops, list.len())];
-    calls.extend(trace.ops.iter().map(|o| words(*o)));
+    calls.extend(ops.iter().map(|o| op_words(*o)));
     calls.push("finish".to_owned());
     Some((name.to_owned(), antt::building(&Building::new(&calls))))
 }
 
-fn words(o: Op) -> String {
-    match o {
-        Op::Split(i) => format!("op split {i}"),
-        Op::Union(p, j) => format!("op union {p} {j}"),
-        _ => format!("op {o:?}").to_lowercase(),
-    }
-}
-
 /// Lists of calls; each begins at a remark, those of the second program at a beginning too.
 fn buildings() -> Vec<(String, String)> {
-    let mut rows: Vec<_> = lines(MODELS).iter().filter_map(|(name, line)| built(name, line)).collect();
+    let mut rows: Vec<_> = models().iter().filter_map(|(name, line)| built(name, line)).collect();
     for text in [CALLS, MORE_CALLS] {
         let mut name = String::new();
         let mut calls: Vec<String> = Vec::new();
@@ -183,7 +219,7 @@ fn buildings() -> Vec<(String, String)> {
         for line in text.lines().map(str::trim) {
             if let Some(remark) = line.strip_prefix("# ") {
                 end(&name, &mut calls);
-                name = remark.to_owned();
+                name = now(remark);
             } else if line.starts_with("begin") && std::ptr::eq(text, CALLS) {
                 end(&name, &mut calls);
             }

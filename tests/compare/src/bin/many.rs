@@ -2,8 +2,9 @@
 //!
 //! Each answer is compared with that of the second program's book; nothing but beginnings touches the builder between two models.
 
+use compare::expected::{self, LEVEL};
+use compare::kinds::{self, Kinds};
 use compare::Building;
-use cutborder::book::Book;
 use cutborder::gen;
 use cutborder::ops::{Counts, Op};
 use cutborder::rng::Rng;
@@ -33,9 +34,10 @@ fn main() {
     let mut builder = Building::new(24_576, 1_024, 9);
     let mut tally: BTreeMap<u8, u64> = BTreeMap::new();
     let mut note = |n: u8| *tally.entry(n).or_default() += 1;
+    let mut met = Kinds::new();
     // Some hundred operation lists, each used again and again with other refused calls among them.
     let size = |rng: &mut Rng| if rng.chance(1, 20) { rng.range(10, 60) } else { rng.range(1, 6) };
-    let walks: Vec<gen::Walk> = (0..500).map(|_| size(&mut rng)).collect::<Vec<_>>().iter().map(|&n| gen::walk(&mut rng, n, 100)).collect();
+    let walks: Vec<gen::Walk> = (0..500).map(|_| size(&mut rng)).collect::<Vec<_>>().iter().map(|&n| gen::walk_at(LEVEL, &mut rng, n, 100)).collect();
     for _ in 0..models {
         let w = &walks[rng.below(walks.len())];
         let c = w.counts();
@@ -44,7 +46,7 @@ fn main() {
             assert_eq!(builder.begin(bad), Err(13));
             note(13);
         }
-        let mut book = Book::begin(c, 24_576, 1_024).expect("a beginning");
+        let mut book = expected::begin(c, 24_576, 1_024).expect("a beginning");
         builder.begin(c).expect("a beginning");
         for &o in &w.ops {
             if rng.chance(1, 4) {
@@ -56,6 +58,7 @@ fn main() {
                     note(n);
                 }
             }
+            kinds::note(&mut met, &book, o);
             assert_eq!(builder.operate(o), book.op(o));
             note(0);
         }
@@ -63,5 +66,5 @@ fn main() {
         assert_eq!(builder.finish(), expected);
         note(expected.err().unwrap_or(0));
     }
-    println!("{models} models through one builder, answers {tally:?}, {:.0} s", start.elapsed().as_secs_f64());
+    println!("{models} models through one builder, answers {tally:?}, {met:?}, {:.0} s", start.elapsed().as_secs_f64());
 }

@@ -3,8 +3,9 @@
 //! Every pack and model of the second program's vectors, random ones, sound and spoilt, input that is too long, and input that is none;
 //! packs in files that are named; files that are not there.
 
+use compare::expected;
 use cutborder::gen::{self, Model};
-use cutborder::proto::{unhex, Engine, Service};
+use cutborder::proto::unhex;
 use cutborder::rng::Rng;
 use std::ffi::{c_char, CStr};
 use std::fs::{self, File, OpenOptions};
@@ -14,6 +15,7 @@ use std::process::{Command, Stdio};
 
 const PACKS: &str = include_str!("../../../../reference/vectors/packs.txt");
 const MODELS: &str = include_str!("../../../../reference/vectors/models.txt");
+const MORE_MODELS: &str = include_str!("../../../definitions/models.txt");
 const NO_MODEL: &str = "no model: V and the vertex numbers are expected, decimal, with white space between\n";
 
 /// What the program writes for some bytes.
@@ -40,30 +42,22 @@ fn printed_from(command: &str, program: &str, input: Stdio) -> String {
 }
 
 /// The program `unpack` on packs of all kinds.
-fn unpacks(program: &str, second: &mut Service) -> usize {
+fn unpacks(program: &str) -> usize {
     let mut packs: Vec<Vec<u8>> = PACKS.lines().filter(|l| !l.starts_with('#')).map(|l| unhex(l).expect("hexadecimal")).collect();
     let mut rng = Rng::new(7);
-    packs.extend((0..150).map(|_| gen::pack(&mut rng, 100)));
-    packs.push(gen::packed(&gen::Model::of(&gen::grid(64, 64, true, true, || true))).expect("a pack"));
+    packs.extend((0..150).map(|_| expected::random_pack(&mut rng, 100)));
+    packs.push(expected::packed(&Model::of(&gen::grid(64, 64, true, true, || true))).expect("a pack"));
     packs.extend([vec![0; 65_536], vec![0; 65_537], vec![1; 200_000]]);
     for p in &packs {
-        assert_eq!(printed(program, p), second.program(p), "pack of {} bytes: {:02x?}", p.len(), &p[..p.len().min(60)]);
+        assert_eq!(printed(program, p), compare::printed(p), "pack of {} bytes: {:02x?}", p.len(), &p[..p.len().min(60)]);
     }
     packs.len()
 }
 
-/// What the second program answers to a model: the pack's bytes, or the line of a refusal.
-fn expected(second: &mut Service, v: u64, list: &[u16]) -> Vec<u8> {
-    match second.pack(v, list) {
-        Ok((bytes, _)) => bytes,
-        Err(n) => format!("refused {n}\n").into_bytes(),
-    }
-}
-
 /// The program `pack` on models of all kinds, the paper's and both fans among them; and what `unpack` prints for its packs.
-fn packs(folder: &str, second: &mut Service) -> usize {
+fn packs(folder: &str) -> usize {
     let (pack, unpack) = (format!("{folder}/pack"), format!("{folder}/unpack"));
-    let mut texts: Vec<String> = MODELS.lines().filter(|l| !l.starts_with('#')).map(String::from).collect();
+    let mut texts: Vec<String> = MODELS.lines().chain(MORE_MODELS.lines()).filter(|l| !l.starts_with('#')).map(String::from).collect();
     let mut rng = Rng::new(11);
     texts.extend([gen::fan(1_024), gen::fan(1_025), Model::of(&gen::grid(64, 64, true, true, || true))].iter().map(Model::line));
     texts.extend((0..100).map(|_| gen::model(&mut rng, 150).line()));
@@ -72,9 +66,9 @@ fn packs(folder: &str, second: &mut Service) -> usize {
         let words: Vec<u64> = text.split_ascii_whitespace().filter_map(|w| w.parse().ok()).collect();
         let list: Vec<u16> = words[1..].iter().map(|&x| x as u16).collect();
         let answer = written(&pack, text.replace(' ', if n % 2 == 0 { " " } else { "\n\t" }).as_bytes());
-        assert_eq!(answer, expected(second, words[0], &list), "model {text}");
+        assert_eq!(answer, compare::written(words[0], &list), "model {text}");
         if !answer.starts_with(b"refused") {
-            assert_eq!(printed(&unpack, &answer), second.program(&answer), "model {text}");
+            assert_eq!(printed(&unpack, &answer), compare::printed(&answer), "model {text}");
         }
         n += 1;
     }
@@ -130,7 +124,7 @@ fn odd(program: &str, line: &str) -> usize {
 }
 
 /// The program `unpack` on files: those that are there print as they would alone, each other gets a line of its own on standard error.
-fn named(unpack: &str, second: &mut Service) -> usize {
+fn named(unpack: &str) -> usize {
     let folder = std::env::temp_dir().join(format!("unpack-{}", std::process::id()));
     fs::create_dir_all(&folder).expect("a folder");
     let packs: Vec<Vec<u8>> = PACKS.lines().filter(|l| !l.starts_with('#')).take(9).map(|l| unhex(l).expect("hexadecimal")).collect();
@@ -139,10 +133,10 @@ fn named(unpack: &str, second: &mut Service) -> usize {
         let file = folder.join(i.to_string());
         fs::write(&file, p).expect("a pack");
         command.arg(&file).arg(folder.join(format!("no{i}")));
-        expected += &second.program(p);
+        expected += &compare::printed(p);
     }
     let out = command.arg("").arg("x".repeat(5_000)).arg(&folder).stdin(Stdio::null()).output().expect("the program starts");
-    expected += &second.program(&[]);
+    expected += &compare::printed(&[]);
     fs::remove_dir_all(&folder).expect("the folder");
     assert!(out.status.success(), "status {:?}", out.status);
     assert_eq!(String::from_utf8_lossy(&out.stdout), expected);
@@ -157,10 +151,9 @@ fn main() {
         eprintln!("usage: programs FOLDER");
         std::process::exit(2);
     };
-    let mut second = Service::new(Engine::Plain);
     let unpack = format!("{folder}/unpack");
-    let alike = unpacks(&unpack, &mut second) + named(&unpack, &mut second) + odd(&unpack, "refused 12\n");
+    let alike = unpacks(&unpack) + named(&unpack) + odd(&unpack, "refused 12\n");
     println!("program unpack: {alike} inputs alike");
-    let alike = packs(&folder, &mut second) + odd(&format!("{folder}/pack"), NO_MODEL);
+    let alike = packs(&folder) + odd(&format!("{folder}/pack"), NO_MODEL);
     println!("program pack: {alike} inputs alike");
 }

@@ -1,14 +1,18 @@
 //! What the stored programs of crates/ are run on, and what they must print: `stored FOLDER` writes stdin, args, data and stdout of
 //! each into FOLDER, from the second program's vectors and answers. The test command holds them against the stored ones.
 
-use cutborder::gen;
-use cutborder::proto::{unhex, Calls, Engine, Service};
+use compare::expected::{self, Calls};
+use compare::{printed, written};
+use cutborder::proto::unhex;
 use cutborder::rng::Rng;
 use std::fs;
 use std::path::Path;
 
 const PACKS: &str = include_str!("../../../../reference/vectors/packs.txt");
 const CALLS: &str = include_str!("../../../../reference/vectors/calls.txt");
+
+/// A pack that 20 refuses; those of the vectors have the peaks of full loops.
+const TWENTY: &str = "0100080005000400050002020005e0370026db";
 
 /// M2 of the paper.
 const M2: [u16; 12] = [0, 1, 2, 1, 0, 3, 2, 1, 3, 0, 2, 3];
@@ -23,13 +27,13 @@ fn store(folder: &Path, program: &str, input: &[u8], output: &[u8]) {
 
 /// The files that the program `unpack` is given beside M2 on standard input, and all that it must print: the other models of the
 /// vectors that are accepted, and the first pack of each refusal.
-fn unpacks(folder: &Path, second: &mut Service, m2: &[u8]) {
-    let (mut args, mut output) = (String::from("-\n"), second.program(m2));
+fn unpacks(folder: &Path, m2: &[u8]) {
+    let (mut args, mut output) = (String::from("-\n"), printed(m2));
     fs::create_dir_all(folder.join("unpack/data")).expect("a folder");
-    for (i, line) in PACKS.lines().filter(|l| !l.starts_with('#')).enumerate() {
+    for (i, line) in PACKS.lines().filter(|l| !l.starts_with('#')).chain([TWENTY]).enumerate() {
         let pack = unhex(line).expect("hexadecimal");
-        let printed = second.program(&pack);
-        let name = match printed.strip_prefix("refused ") {
+        let text = printed(&pack);
+        let name = match text.strip_prefix("refused ") {
             Some(n) => format!("refused-{}", n.trim_end()),
             None => format!("accepted-{}", i + 1),
         };
@@ -37,7 +41,7 @@ fn unpacks(folder: &Path, second: &mut Service, m2: &[u8]) {
         if pack != m2 && !file.exists() {
             fs::write(file, &pack).expect("a pack");
             args += &(name + "\n");
-            output += &printed;
+            output += &text;
         }
     }
     for n in [12, 13, 15, 16, 17, 18, 19, 20] {
@@ -53,7 +57,7 @@ fn calls() -> (String, String) {
     lines.extend(CALLS.lines().map(String::from));
     let mut rng = Rng::new(3);
     for i in 0..40 {
-        lines.extend(gen::calls(&mut rng, 4 + 3 * i));
+        lines.extend(expected::random_calls(&mut rng, 4 + 3 * i));
     }
     let mut book = Calls::default();
     let output = lines.iter().map(|l| book.line(l) + "\n").collect();
@@ -65,10 +69,9 @@ fn main() {
         eprintln!("usage: stored FOLDER");
         std::process::exit(2);
     };
-    let mut second = Service::new(Engine::Plain);
     let (input, output) = calls();
     store(Path::new(&folder), "build", input.as_bytes(), output.as_bytes());
-    let (bytes, _) = second.pack(4, &M2).expect("an accepted list");
+    let bytes = written(4, &M2);
     store(Path::new(&folder), "pack", b"4\n0 1 2\n1 0 3\n2 1 3\n0 2 3\n", &bytes);
-    unpacks(Path::new(&folder), &mut second, &bytes);
+    unpacks(Path::new(&folder), &bytes);
 }

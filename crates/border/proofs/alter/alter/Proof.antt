@@ -26,8 +26,8 @@ cut-current-requires c κs = performs-as _ _ _ _ _ _ _ (c .before .enum-told3 .g
 enum-told-4 : tie.Need-enum-told-4
 enum-told-4 c = search needs
 
-mark-edge-requires : tie.Need-mark-edge-requires
-mark-edge-requires c κs = performs-as _ _ _ _ _ _ _ (c .before .enum-told4 .given .1) (c .before .before .before .before .pre)
+mark-border-requires : tie.Need-mark-border-requires
+mark-border-requires c κs = performs-as _ _ _ _ _ _ _ (c .before .enum-told4 .given .1) (c .before .before .before .before .pre)
 
 enum-known-o : tie.Need-enum-known-o
 enum-known-o c = search needs
@@ -72,10 +72,10 @@ returns-3 : tie.Need-returns-3
 returns-3 c = altered _ _ _ _ _ _ _ _ _ (c .before .before .before .before .enum-told3 .given .1) (c .before .before .cut-current .ensures)
 
 same-length-4 : tie.Need-same-length-4
-same-length-4 c = (c .before .before .mark-edge .kept .0)
+same-length-4 c = (c .before .before .mark-border .kept .0)
 
 returns-4 : tie.Need-returns-4
-returns-4 c = altered _ _ _ _ _ _ _ _ _ (c .before .before .before .before .enum-told4 .given .1) (c .before .before .mark-edge .ensures)
+returns-4 c = altered _ _ _ _ _ _ _ _ _ (c .before .before .before .before .enum-told4 .given .1) (c .before .before .mark-border .ensures)
 
 same-length-5 : tie.Need-same-length-5
 same-length-5 c = (c .before .before .split-loop .kept .0)
@@ -112,7 +112,7 @@ alter-spec =
     enum-told-3
     cut-current-requires
     enum-told-4
-    mark-edge-requires
+    mark-border-requires
     enum-known-o
     split-loop-requires
     enum-told-5

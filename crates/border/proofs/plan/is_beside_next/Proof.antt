@@ -1,0 +1,22 @@
+-- `border::plan::is_beside_next` meets its contract.
+-- Assumes nothing.
+use native.Mathlib.Omega.{arith}
+use Rattle.memory.proofs.Near.{near-e, near-f}
+use Rattle.border.proofs.Planning.{beside-next-other, beside-next-is}
+use Rattle.border.proofs.plan.is_beside_next.Statement.{statement}
+use Rattle.border.proofs.plan.is_beside_next.Tie as tie
+
+returns : tie.Need-returns
+returns c = beside-next-other _ _ _ (c .if1 .taken)
+
+after-of-requires : tie.Need-after-of-requires
+after-of-requires c κs = omega (arith, near-e _ _ _ (c .before .before .pre))
+
+is-open-requires : tie.Need-is-open-requires
+is-open-requires c κs = omega (arith, c .after-of .ensures, near-f _ _ _ (c .before .before .before .pre))
+
+returns-2 : tie.Need-returns-2
+returns-2 c = beside-next-is _ _ _ _ _ (c .before .before .if1 .left) (c .before .after-of .ensures) (c .is-open .ensures)
+
+pub is-beside-next-spec : {M : Type 1} → statement M
+is-beside-next-spec = tie.close (tie.spec returns after-of-requires is-open-requires returns-2)

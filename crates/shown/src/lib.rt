@@ -1,0 +1,1 @@
+// Loops without the places that nobody can reach: definitions and laws only.

@@ -1,0 +1,105 @@
+//! What is expected now: the second program at the level that this project has reached. The tests and the benchmark take it from here.
+
+use cutborder::book::Book;
+use cutborder::fields::Fields;
+use cutborder::gen::{self, Model};
+use cutborder::ops::{Counts, Op};
+use cutborder::plain::{self, Chosen, Given, PackRooms, Trace};
+use cutborder::proto;
+use cutborder::rng::Rng;
+use cutborder::{Answer, Level, Place, Refusal};
+
+/// The loops are those of C-14.
+pub const LEVEL: Level = Level(14);
+
+/// The fields are those of the base: field 03 of C-13 has not landed.
+pub const FIELDS: Level = Level::BASE;
+
+/// The limits of the rules on places and loops.
+pub const LIMITS: (u32, u32) = (1_024, 100);
+
+/// The operations of a packing, its book and its numbering, within limits on places and loops; the list has passed 1 to 7.
+pub fn choose(v: u64, list: &[u16], limits: (u32, u32)) -> Result<(Vec<Op>, Chosen), Refusal> {
+    let mut trace = Trace::default();
+    let chosen = plain::choose_at(LEVEL, v as u32, list, &mut trace, limits.0, limits.1)?;
+    Ok((trace.ops, chosen))
+}
+
+/// Packing. The order buffer of C-11 has not landed: one that is long enough is lent and not looked at.
+pub fn pack(v: u64, list: &[u16], numbering: &mut [u16], places: &mut [Place], out: &mut [u8]) -> Result<usize, Refusal> {
+    let order = &mut vec![0; list.len() / 3];
+    plain::pack_at(LEVEL, v, list, Given::default(), PackRooms { numbering, places, out, order }, &mut Trace::default())
+}
+
+/// The counts and the operations of a pack, or 12.
+pub fn fields(bytes: &[u8]) -> Result<(Counts, &[u8]), Refusal> {
+    Fields::split(FIELDS, bytes).map(|f| (f.counts, f.ops))
+}
+
+pub fn unpack(bytes: &[u8], triangles: &mut [u16], places: &mut [Place]) -> Result<Answer, Refusal> {
+    fields(bytes)?;
+    plain::unpack_at(LEVEL, bytes, triangles, places)
+}
+
+/// A beginning.
+pub fn begin(counts: Counts, entries: usize, records: usize) -> Result<Book, Refusal> {
+    Book::begin_at(LEVEL, counts, entries, records)
+}
+
+/// A model's pack, if it is accepted.
+pub fn packed(m: &Model) -> Option<Vec<u8>> {
+    gen::packed_at(LEVEL, m, Given::default())
+}
+
+/// A random pack, sound or not.
+pub fn random_pack(rng: &mut Rng, max_t: usize) -> Vec<u8> {
+    gen::pack_at(LEVEL, rng, max_t)
+}
+
+/// A random list of building calls; the first is an accepted beginning.
+pub fn random_calls(rng: &mut Rng, max_t: usize) -> Vec<String> {
+    gen::calls_at(LEVEL, rng, max_t)
+}
+
+/// Building calls in the second program's words, answered by the book.
+#[derive(Default)]
+pub struct Calls {
+    pub book: Option<Book>,
+}
+
+impl Calls {
+    pub fn line(&mut self, line: &str) -> String {
+        // Remarks, and lines that are no call; a book that was never begun answers the others with 21.
+        let told = proto::Calls::default().line(line);
+        if line.starts_with('#') || told.starts_with("error") {
+            return told;
+        }
+        let w: Vec<&str> = line.split_ascii_whitespace().collect();
+        let n = |i: usize| w[i].parse::<u32>().unwrap_or(u32::MAX);
+        let answer = match (w[0], &mut self.book) {
+            ("begin", book) => begin(Counts { v: n(1), t: n(2), places: n(3), loops: n(4) }, n(5) as usize, n(6) as usize).map(|b| {
+                *book = Some(b);
+                String::new()
+            }),
+            (_, None) => return told,
+            ("op", Some(book)) => book.op(operation(&w)).map(|t| t.map_or(String::new(), |[p, q, r]| format!(" {p} {q} {r}"))),
+            (_, Some(book)) => book.finish().map(|f| format!(" {} {} {} {}", f.edges, f.rims, f.unions, f.euler)),
+        };
+        answer.map_or_else(|n| format!("refused {n}"), |told| format!("ok{told}"))
+    }
+}
+
+/// The operation of a line `op NAME [NUMBERS]`.
+pub fn operation(words: &[&str]) -> Op {
+    let n = |i: usize| words[i].parse::<u32>().unwrap_or(u32::MAX);
+    match words[1] {
+        "new" => Op::New,
+        "forward" => Op::Forward,
+        "backward" => Op::Backward,
+        "border" => Op::Border,
+        "close" => Op::Close,
+        "start" => Op::Start,
+        "split" => Op::Split(n(2)),
+        _ => Op::Union(n(2), n(3)),
+    }
+}
