@@ -1,9 +1,8 @@
 -- The counts stay within the bounds of 21.
 -- Assumes nothing.
-use Prim.Native.Nat.{ℕ, _+_, _*_, _≤_}
+use Prim.Native.Nat.{_≤_}
 use native.Mathlib.Omega.{arith}
 use mathlib.Core.Bool.{true, _&&_}
-use mathlib.Core.List.{List}
 use mathlib.Core.Path.{_≡_, refl}
 use lib.ListN.{length}
 use lib.Dec.{leb}
@@ -12,13 +11,13 @@ use Rattle.rules.specs.declared.Counts.{Counts}
 use Rattle.rules.specs.declared.Operation.{Operation}
 use Rattle.rules.specs.Limits.{inRange}
 use Rattle.rules.specs.Count.{num}
-use Rattle.rules.specs.Ring.{Ring, places}
+use Rattle.rules.specs.Ring.{places}
 use Rattle.rules.specs.Table.{Side, glued, fresh, Effect, not-allowed, builds, marks, effect}
 use Rattle.rules.specs.Machine.{Machine, freshSides, afterBuild, afterMark, Step, within, done, operation}
 use Rattle.rules.specs.Book.{Book, emptyBook, entered}
 use Rattle.book.specs.Sums.{loopsSum}
 use Rattle.book.specs.Consistent.{Consistent, Ranges}
-use Rattle.book.specs.Bounded.{opens, Bounded}
+use Rattle.book.specs.Bounded.{Bounded}
 use Rattle.book.proofs.Counting.{and-left, and-right, ifFresh}
 use Rattle.book.proofs.Kept.{test-law}
 use Rattle.book.proofs.Effects.{Law, sound-current, effect-law}

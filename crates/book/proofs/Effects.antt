@@ -20,7 +20,7 @@ use Rattle.shown.proofs.Spaced.{spaced-append, spaced-take, spaced-drop, spaced
 use Rattle.book.specs.Sums.{Weight, pathSum, ringSum, loopsSum}
 use Rattle.book.specs.Consistent.{Sound, AllSound, AllCurrent}
 use Rattle.book.proofs.Counting.{and-left, and-right, ifFresh, ifGlued}
-use Rattle.book.proofs.Sums.{start-append, sum-append, sum-turn, front-last, length-front, start-drop, sum-without, length-without, turned}
+use Rattle.book.proofs.Sums.{start-append, sum-append, sum-turn, front-last, start-drop, sum-without, length-without, turned}
 use Rattle.book.proofs.ShownSums.{open-ring-sum, fewer-places}
 
 -- v is the vertex of a place of the loops: no sum over the places is less than what v counts

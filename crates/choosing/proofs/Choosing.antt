@@ -5,14 +5,14 @@ use native.Mathlib.Omega.{arith}
 use mathlib.Core.Bool.{Bool, true, false, _&&_}
 use mathlib.Core.List.{List, [], _∷_}
 use mathlib.Core.Path.{_≡_, refl, sym, ap, ap₂, _∙_, subst}
-use lib.ListN.{length, drop}
+use lib.ListN.{length}
 use lib.Dec.{eqb}
 use borrow.Author.Tests.{ne-eqb}
 use Rattle.rules.specs.declared.Triangle.{Triangle}
 use Rattle.rules.specs.declared.Operation.{Operation}
 use Rattle.rules.specs.declared.Operation.the-variants.{Forward, Backward, Border, Split, Close}
 use Rattle.rules.specs.Limits.{maxPlaces}
-use Rattle.rules.specs.Ring.{Node, opened, marked, Ring, firstOpen, allOpen, lastOpen, loopAt}
+use Rattle.rules.specs.Ring.{Node, opened, marked, Ring, firstOpen, allOpen, lastOpen}
 use Rattle.rules.specs.Choice.{Spot, nowhere, spot, spotOf, operationFor, following, sizeOf, turnIn, turnOut, choosePlace, afterCurrent}
 use Rattle.gap.proofs.Spotting.{spot-none}
 use Rattle.chains.specs.Chains.{Linked}

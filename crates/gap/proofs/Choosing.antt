@@ -7,7 +7,7 @@ use mathlib.Core.Bool.{Bool, true, false, _&&_, not}
 use mathlib.Core.List.{List, [], _∷_, _++_}
 use mathlib.Core.Path.{_≡_, refl, sym, ap, _∙_, subst}
 use mathlib.Core.Logic.{_⊎_, inl, inr}
-use lib.ListN.{length, drop}
+use lib.ListN.{length}
 use lib.Dec.{eqb}
 use Rattle.rules.specs.declared.Triangle.{Triangle}
 use Rattle.rules.specs.declared.Across.the-variants.{Found, Nothing}
@@ -15,7 +15,7 @@ use Rattle.rules.specs.declared.Operation.{Operation}
 use Rattle.rules.specs.declared.Operation.the-variants.{New, Forward, Backward, Border, Split, Close, Start}
 use Rattle.rules.specs.Triangle.{Edge, edge}
 use Rattle.rules.specs.Across.{across}
-use Rattle.rules.specs.Ring.{Node, opened, marked, Ring, vertex, isOpen, firstOpen, allOpen, lastOpen, loopAt, reached}
+use Rattle.rules.specs.Ring.{Node, opened, marked, Ring, vertex, isOpen, firstOpen, allOpen, lastOpen, reached}
 use Rattle.rules.specs.Table.{marks, atEdge}
 use Rattle.rules.specs.Choice.{Packing, has, dropTriangle, turnIn, turnOut, Spot, nowhere, spot, spotOf, operationFor, sizeOf, following, choosePlace, packingAfter, limited, taking, chooseAt, chooseIn, choose, afterCurrent}
 use Rattle.rules.specs.Pack.{indexOf}

@@ -1,19 +1,18 @@
 -- Along any run the machine's loops never have more places than the full ones.
 -- Assumes nothing.
-use Prim.Native.Nat.{ℕ, _+_, _≤_, max}
+use Prim.Native.Nat.{ℕ, _+_, _≤_}
 use native.Mathlib.Omega.{arith}
 use mathlib.Core.List.{List, [], _∷_}
 use mathlib.Core.Path.{_≡_, refl, sym, ap, _∙_, subst}
 use lib.ListN.{length}
-use Rattle.rules.specs.declared.Counts.{Counts}
 use Rattle.rules.specs.declared.Operation.{Operation}
-use Rattle.rules.specs.Ring.{Ring, shown, places}
-use Rattle.rules.specs.Machine.{Machine, empty}
+use Rattle.rules.specs.Ring.{Ring, places}
+use Rattle.rules.specs.Machine.{Machine}
 use Rattle.shown.specs.Shown.{shownAll}
 use Rattle.shown.proofs.Shown.{all-shown-length, fewer-shown}
 use Rattle.gap.specs.Tally.{newNumbers}
 use Rattle.gap.specs.Works.{Works, w-none, w-built, w-declared}
-use Rattle.gap.specs.Full.{fullAfter, Full, noneFull, stepped, fullRun, Shortened, NeverMorePlaces}
+use Rattle.gap.specs.Full.{fullAfter, Full, noneFull, stepped, fullRun, NeverMorePlaces}
 use Rattle.gap.proofs.Working.{Ready, Step, step-built, step-declared}
 use Rattle.gap.proofs.Repacking.{ready-empty}
 

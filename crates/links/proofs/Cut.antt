@@ -3,11 +3,11 @@
 -- Assumes nothing.
 use Prim.Native.Nat.{ℕ, _≤_}
 use native.Mathlib.Omega.{arith}
-use mathlib.Core.Bool.{Bool, true, false, not, false≢true, true≢false}
+use mathlib.Core.Bool.{Bool, true, false, not, true≢false}
 use mathlib.Core.List.{List, [], _∷_, _++_, append-nil}
 use mathlib.Core.Path.{_≡_, refl, sym, ap, ap₂, _∙_}
 use lib.ListN.{length}
-use Rattle.rules.specs.Ring.{Node, opened, marked, Ring, isOpen, lastOpen, lastVertex, front, onward, reached, shown}
+use Rattle.rules.specs.Ring.{Node, opened, marked, isOpen, lastOpen, lastVertex, front, onward, reached, shown}
 use Rattle.shown.specs.Shown.{ends}
 use Rattle.shown.specs.Spaced.{Spaced}
 use Rattle.shown.proofs.Shown.{reached-append, around}

@@ -1,11 +1,11 @@
 -- Border: the places leave, the edge is marked, and the loops after that stand.
 -- Assumes nothing.
-use Prim.Native.Nat.{ℕ, _*_, _≤_}
+use Prim.Native.Nat.{ℕ}
 use native.Mathlib.Omega.{arith}
 use mathlib.Core.Bool.{Bool, true, false}
 use mathlib.Core.List.{List, [], _∷_, _++_}
-use mathlib.Core.Path.{_≡_, refl, sym, ap, _∙_, subst}
-use lib.ListN.{length, getD}
+use mathlib.Core.Path.{_≡_, refl, sym, _∙_, subst}
+use lib.ListN.{getD}
 use Rattle.rules.specs.declared.Operation.the-variants.{Border}
 use Rattle.rules.specs.Triangle.{Edge, edge}
 use Rattle.rules.specs.Ring.{Node, opened, marked, Ring, startOr, lastOpen, lastVertex, front, onward, shown}
@@ -16,7 +16,7 @@ use Rattle.links.specs.Stores.{alive, afterBorder, cutNext, HasLoops}
 use Rattle.links.proofs.Loops.{has-border}
 use Rattle.links.proofs.Cut.{cut-kept, cut-lost, next-open, front-open}
 use Rattle.memory.specs.declared.Loops.{Loops}
-use Rattle.memory.specs.Layout.{at, verticesOf}
+use Rattle.memory.specs.Layout.{verticesOf}
 use Rattle.memory.specs.Stands.{StandsAt}
 use Rattle.memory.specs.Moves.{nextCut, bothCut, markedHeld}
 use Rattle.memory.proofs.Relinked.{Goes, Moved, effectAt, law, current-has, current-places}

@@ -5,19 +5,18 @@ use native.Mathlib.Omega.{arith}
 use mathlib.Core.Bool.{true, false, false≢true}
 use mathlib.Core.List.{List, [], _∷_, _++_, append-nil}
 use mathlib.Core.Path.{_≡_, refl, sym, ap, _∙_, subst}
-use lib.ListN.{length, getD, length-set, length-append}
+use lib.ListN.{length, length-set, length-append}
 use lib.Seq.{getD-set-other}
 use lib.Dec.{eqb, leb, ltb}
 use borrow.Author.Tests.{le-leb, lt-leb}
 use Rattle.rules.specs.declared.Operation.the-variants.{Border, Close}
-use Rattle.rules.specs.Triangle.{Edge, edge}
 use Rattle.rules.specs.Count.{num, same}
 use Rattle.rules.specs.Ring.{Node, opened, marked, Ring, vertex, isOpen, startOr, onward, places}
-use Rattle.rules.specs.Table.{Effect, marking, atEdge}
+use Rattle.rules.specs.Table.{Effect}
 use Rattle.book.specs.Sums.{Weight, pathSum, ringSum, loopsSum}
 use Rattle.book.specs.Consistent.{AllCurrent}
 use Rattle.book.proofs.Sums.{sum-append, start-append}
-use Rattle.links.specs.Memory.{Memory, Arc, arc, Holds, placed, stored, namedRing, namedLoops}
+use Rattle.links.specs.Memory.{Memory, Arc, arc, Holds, placed, stored, namedLoops}
 use Rattle.links.specs.Stores.{alive, placesAfter, stores, verticesAfter, HasLoops, OpenNext}
 use Rattle.links.proofs.Surgery.{do-mark}
 use Rattle.links.proofs.Stored as after

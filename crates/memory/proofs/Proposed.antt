@@ -32,7 +32,7 @@ use Rattle.memory.proofs.Waiting.{waits-at}
 use Rattle.memory.proofs.Split.{moved-split}
 use Rattle.memory.proofs.Union.{moved-union}
 use Rattle.memory.proofs.Start.{moved-start}
-use Rattle.memory.proofs.Proposing.{Proposes, allowed-proposes, three-tests, four-tests, and-cong, start-any, allowed-goes, allowed-moved, allowed-law, ring, name, at-f, at-next, name-next, name-c, size-is, open-f, open-last, three-open, corners, some-free, propose-new, propose-forward, propose-backward, propose-border}
+use Rattle.memory.proofs.Proposing.{Proposes, allowed-proposes, three-tests, four-tests, and-cong, start-any, allowed-goes, allowed-moved, allowed-law, name, at-next, name-next, name-c, size-is, open-f, open-last, three-open, corners, some-free, propose-new, propose-forward, propose-backward, propose-border}
 
 module _ (n : ℕ) (s : Front) (m : List ℕ) (e : ℕ) (ps : List Node) (ws : List Ring)
     (st : StandsAt n (s .loops) m ((opened e ∷ ps) ∷ ws)) where

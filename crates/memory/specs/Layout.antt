@@ -3,10 +3,8 @@
 -- each, the oldest first: the place where the loop's current edge starts, and how many places it has.
 -- Assumes nothing.
 use Prim.Native.Nat.{ℕ, zero, suc, _+_, _*_}
-use mathlib.Core.Bool.{true, false}
 use mathlib.Core.List.{List, [], _∷_}
 use lib.ListN.{getD, set}
-use lib.Dec.{eqb}
 use Rattle.rules.specs.Count.{num, same}
 use Rattle.links.specs.Memory.{Memory, Arc}
 

@@ -3,7 +3,7 @@
 -- Assumes nothing.
 use Prim.Native.Nat.{ℕ, zero, suc, _+_, _≤_, _<_}
 use native.Mathlib.Omega.{arith}
-use mathlib.Core.Bool.{Bool, true, false, _&&_, false≢true}
+use mathlib.Core.Bool.{Bool, true, false, _&&_}
 use mathlib.Core.List.{List, [], _∷_, _++_}
 use mathlib.Core.Path.{_≡_, refl, sym, ap, ap₂, _∙_, subst}
 use lib.Dec.{eqb, ltb, leb}
@@ -14,11 +14,10 @@ use Rattle.rules.specs.declared.Builder.{Builder}
 use Rattle.rules.specs.Limits.{maxPlaces}
 use Rattle.rules.specs.Count.{num, same, occurs}
 use Rattle.rules.specs.Check.{allBelow}
-use Rattle.rules.specs.Ring.{Ring, vertex, isOpen, firstOpen, startOr}
+use Rattle.rules.specs.Ring.{Ring, vertex, isOpen, startOr}
 use Rattle.rules.specs.View.{placeAt, follow, followed, loopPlaces, placesOf, loopsOf}
 use Rattle.rules.specs.Test21.{placeFits, placesFit, loopFits, loopsFit}
 use Rattle.book.specs.Sums.{Weight, pathSum, ringSum, loopsSum}
-use Rattle.book.specs.Consistent.{AllCurrent}
 use Rattle.book.proofs.Counting.{and-left, and-right, same-is, hit-from, hit-to}
 use Rattle.links.specs.Memory.{Memory, Link, arcHit, Holds, placed, nodeFrom, read, namedLoops}
 use Rattle.places.specs.Memory.{isOne, records}

@@ -3,8 +3,8 @@
 use Prim.Native.Nat.{ℕ, zero, suc, _+_, _*_, _≤_}
 use native.Mathlib.Omega.{arith}
 use mathlib.Core.Bool.{Bool, true, false, _&&_}
-use mathlib.Core.List.{List, [], _∷_, _++_}
-use mathlib.Core.Path.{_≡_, refl, ap, ap₂, _∙_}
+use mathlib.Core.List.{List, [], _∷_}
+use mathlib.Core.Path.{_≡_, refl, ap, ap₂}
 use lib.ListN.{length, getD}
 use lib.Dec.{eqb, ltb, leb}
 use borrow.Author.Tests.{leb-true, le-leb, ltb-true}
@@ -12,11 +12,11 @@ use Rattle.rules.specs.declared.Place.{Place}
 use Rattle.rules.specs.declared.Builder.{Builder}
 use Rattle.rules.specs.Limits.{maxPlaces, inRange}
 use Rattle.rules.specs.Check.{allBelow}
-use Rattle.rules.specs.Ring.{opened, marked, vertex, isOpen, firstOpen, places}
+use Rattle.rules.specs.Ring.{opened, marked, vertex, places}
 use Rattle.rules.specs.Machine.{roomy}
 use Rattle.rules.specs.Buffer.{Buffers, lengths}
-use Rattle.rules.specs.View.{placeAt, follow, followed, nodes, loopPlaces, placesOf, loopsOf, trianglesBuilt, view}
-use Rattle.rules.specs.Test21.{sizesOf, countsFit, sumsFit, apart, placeFits, placesFit, loopFits, loopsFit, linksFit, trianglesFit, sound}
+use Rattle.rules.specs.View.{placeAt, follow, nodes, loopPlaces, placesOf, loopsOf, trianglesBuilt, view}
+use Rattle.rules.specs.Test21.{sizesOf, countsFit, sumsFit, apart, placeFits, placesFit, loopsFit, linksFit, trianglesFit, sound}
 use Rattle.rules.specs.Build.{viewed}
 use Rattle.book.specs.Consistent.{AllCurrent, Ranges}
 use Rattle.book.specs.Numbers.{NodesBelow, LoopsBelow}

@@ -9,8 +9,8 @@ use lib.ListN.{length, set}
 use lib.Dec.{eqb, leb}
 use borrow.Author.Tests.{le-leb, lt-leb, eq-eqb, ne-eqb}
 use Rattle.memory.specs.declared.Loops.{Loops}
-use Rattle.memory.specs.Layout.{at, vertexOf, beforeOf, afterOf, openOf, edgeStored, edgesStored, freed, released, walked, waits, movedDown}
-use Rattle.memory.specs.Moves.{Held, turnedBy, splitBy, topFree, newHeld, forwardHeld, backwardHeld, endedHeld, turnedHeld, cutBy, nextCut, lastCut, bothCut, markedHeld, doubled, splitHeld, unionHeld, startHeld}
+use Rattle.memory.specs.Layout.{at, vertexOf, beforeOf, afterOf, openOf, edgeStored, edgesStored, freed, released, waits, movedDown}
+use Rattle.memory.specs.Moves.{Held, turnedBy, splitBy, topFree, newHeld, forwardHeld, backwardHeld, endedHeld, turnedHeld, nextCut, lastCut, markedHeld, doubled, splitHeld, unionHeld, startHeld}
 use Rattle.memory.specs.Near.{Near, Borders}
 use Rattle.memory.proofs.Near.{near-f, near-marked}
 

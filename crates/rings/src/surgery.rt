@@ -15,7 +15,6 @@ use memory::Loops;
 ghost use mathlib.Core.Path.{_≡_};
 ghost use Prim.Native.Nat.{_+_, _*_, _-_, _≤_, _<_};
 ghost use lib.ListN.{length};
-ghost use Rattle.memory.specs.Layout.{at};
 ghost use Rattle.memory.specs.Moves.{newHeld, forwardHeld, backwardHeld, endedHeld, turnedHeld, nextCut, lastCut, markedHeld, doubled, splitHeld, unionHeld, startHeld};
 ghost use Rattle.memory.specs.Near.{Near, Borders, Doubles, Starts};
 

@@ -6,7 +6,7 @@ use mathlib.Core.Bool.{Bool, true, false}
 use mathlib.Core.List.{List, [], _∷_, _++_}
 use mathlib.Core.Path.{_≡_, refl, sym, ap, ap₂, _∙_, subst}
 use mathlib.Core.Logic.{_⊎_, inl, inr}
-use lib.ListN.{length, drop}
+use lib.ListN.{length}
 use lib.Dec.{leb}
 use Rattle.rules.specs.declared.Triangle.{Triangle}
 use Rattle.rules.specs.declared.Across.{Across}
@@ -14,7 +14,7 @@ use Rattle.rules.specs.declared.Across.the-variants.{Found, Nothing}
 use Rattle.rules.specs.declared.Operation.{Operation}
 use Rattle.rules.specs.declared.Operation.the-variants.{New, Border, Start}
 use Rattle.rules.specs.Across.{inTriangle, across}
-use Rattle.rules.specs.Ring.{Node, opened, Ring, vertex, startOr, places, loopAt}
+use Rattle.rules.specs.Ring.{Node, opened, Ring, vertex, startOr, places}
 use Rattle.rules.specs.Table.{Effect, not-allowed, builds, marks, atEdge}
 use Rattle.rules.specs.Choice.{Packing, has, dropTriangle, turnIn, turnOut, nowhere, spot, spotOf, operationFor, sizeOf, following, choosePlace, Next, ended, refuses, takes, limited, choose, afterCurrent}
 use Rattle.rules.specs.Pack.{Chosen, stopped, chosen, cons, chooseAll}

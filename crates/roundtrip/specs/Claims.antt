@@ -5,7 +5,7 @@ use mathlib.Core.Bool.{true}
 use mathlib.Core.List.{List, [], _∷_}
 use mathlib.Core.Path.{_≡_}
 use mathlib.Core.Logic.{_⊎_, _↔_}
-use lib.ListN.{length, take, drop, getD}
+use lib.ListN.{length, take, getD}
 use Rattle.rules.specs.declared.Triangle.{Triangle}
 use Rattle.rules.specs.declared.Operation.{Operation}
 use Rattle.rules.specs.declared.Counts.{Counts}
@@ -19,7 +19,7 @@ use Rattle.rules.specs.Triangle.{tri, Edge, trianglesOf, corners}
 use Rattle.rules.specs.Count.{different}
 use Rattle.rules.specs.Across.{across}
 use Rattle.rules.specs.Check.{check}
-use Rattle.rules.specs.Ring.{Node, Ring, vertex, startOr, places, loopAt}
+use Rattle.rules.specs.Ring.{Node, Ring, vertex, startOr, places}
 use Rattle.rules.specs.Table.{Side, glued, builds, effect, edgeRule}
 use Rattle.rules.specs.Answer.{refusal, packed, unpacked}
 use Rattle.rules.specs.Fields.{fields, fieldsOf}

@@ -1,11 +1,11 @@
 -- Runs with no two marked neighbours: joined, cut and turned; what is shown of a run is one, and one is shown whole.
 -- Assumes nothing.
 use Prim.Native.Nat.{ℕ, zero, suc}
-use mathlib.Core.Bool.{Bool, true, false, not, false≢true}
+use mathlib.Core.Bool.{Bool, true, false, false≢true}
 use mathlib.Core.List.{List, [], _∷_, _++_}
 use mathlib.Core.Path.{_≡_, refl, ap}
 use lib.ListN.{take, drop}
-use Rattle.rules.specs.Ring.{Node, opened, marked, Ring, isOpen, firstOpen, front, reached}
+use Rattle.rules.specs.Ring.{Node, opened, marked, Ring, firstOpen, front, reached}
 use Rattle.shown.specs.Shown.{ends}
 use Rattle.shown.specs.Spaced.{Spaced}
 
