@@ -9,7 +9,7 @@ use lib.Dec.{T, eqb}
 use Rattle.rules.specs.declared.Counts.{Counts}
 use Rattle.rules.specs.declared.Place.{Place}
 use Rattle.rules.specs.declared.Builder.{Builder}
-use Rattle.rules.specs.declared.Operation.the-variants.{New, Border, Split, Start}
+use Rattle.rules.specs.declared.Operation.the-variants.{New, Forward, Backward, Border, Split, Start}
 use Rattle.rules.specs.Triangle.{tri, corners, edgesOf}
 use Rattle.rules.specs.Count.{same, hit, occurs, count}
 use Rattle.rules.specs.Check.{allBelow}
@@ -211,11 +211,19 @@ whole = record { triangles = numbers; places = memory }
 abbrev pub short : Buffers
 short = record { triangles = 0 ∷ []; places = memory }
 
+-- a loop of two open edges, which no list of calls leads to: forward and backward need three places
+abbrev pub pair : Builder
+pair = builder stated (parts 5 3 6 2 1 (1 ∷ 0 ∷ 0 ∷ 0 ∷ []) (2 ∷ 0 ∷ 0 ∷ 0 ∷ [])) 9 1 0 0
+
+abbrev pub paired : Buffers
+paired = record { triangles = numbers; places = place 0 0 0 true ∷ place 1 2 2 true ∷ place 2 1 1 true ∷ replicate 1021 freePlace }
+
 -- what they leave: triangle n stands at 3n, and a beginning clears the place records and nothing else
 unfoldable pub callsRight : Bool
 callsRight =
     eqb (stepNumber (operates good short (Split 9))) 21 && eqb (stepNumber (finishes good short)) 21
     && eqb (stepNumber (operates good whole (Split 9))) 16 && eqb (stepNumber (finishes good whole)) 15
+    && eqb (stepNumber (operates pair paired Forward)) 16 && eqb (stepNumber (operates pair paired Backward)) 16
     && equal (withTriangle 1 (tri 7 8 9) (0 ∷ 1 ∷ 2 ∷ 3 ∷ 4 ∷ 5 ∷ 6 ∷ [])) (0 ∷ 1 ∷ 2 ∷ 7 ∷ 8 ∷ 9 ∷ 6 ∷ [])
     && equal (begunBuffers whole .triangles) numbers && equalPlaces (begunBuffers whole .places) (replicate 1024 freePlace)
 
