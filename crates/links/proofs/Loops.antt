@@ -19,7 +19,8 @@ use Rattle.book.specs.Sums.{pathSum, ringSum, loopsSum}
 use Rattle.book.proofs.Counting.{same-yes, and-left, and-right}
 use Rattle.book.proofs.Effects.{split-high}
 use Rattle.links.specs.Memory.{namedRing, namedLoops}
-use Rattle.links.specs.Stores.{alive, placesAfter, afterBorder, verticesAfter, HasLoops, Takes, Whole}
+use Rattle.rules.specs.Places.{alive}
+use Rattle.links.specs.Stores.{placesAfter, afterBorder, verticesAfter, HasLoops, Takes, Whole}
 use Rattle.links.proofs.Named.{named-length, named-append, named-take, named-drop, named-at, named-last, named-front, named-onward, named-shown, named-loopAt, named-without, named-order, free-ring, free-loops}
 
 allowed-has : (ls : List Ring) (t : Bool) (e : Effect) → (t ≡ true → HasLoops ls e) → HasLoops ls (allowed t e)

@@ -15,7 +15,8 @@ use Rattle.book.proofs.Counting.{same-yes}
 use Rattle.book.proofs.Sums.{start-append, sum-append, sum-turn, front-last, start-drop, sum-without, turned}
 use Rattle.book.proofs.Effects.{at-path}
 use Rattle.links.specs.Memory.{Memory, Long, arc, Holds, placed, Apart, stored}
-use Rattle.links.specs.Stores.{alive, placesAfter, stores, Takes, Fits}
+use Rattle.rules.specs.Places.{alive}
+use Rattle.links.specs.Stores.{placesAfter, stores, Takes, Fits}
 use Rattle.links.proofs.Relink.{long-stored}
 use Rattle.links.proofs.Surgery.{end-there, Done, do-new, do-forward, do-backward, do-split, do-union, do-mark, do-fewer}
 

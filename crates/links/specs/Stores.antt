@@ -11,12 +11,8 @@ use Rattle.rules.specs.declared.Operation.{Operation}
 use Rattle.rules.specs.declared.Operation.the-variants.{New, Forward, Backward, Border, Split, Close, Union, Start}
 use Rattle.rules.specs.Ring.{Node, opened, marked, Ring, isOpen, startOr, vertexAt, lastOpen, lastVertex, front, onward, shown, loopAt, without}
 use Rattle.rules.specs.Table.{Effect, not-allowed, builds, marks, shorterFirst}
+use Rattle.rules.specs.Places.{alive}
 use Rattle.links.specs.Memory.{Arc, arc, placed}
-
--- the current loop goes on, unless it has ended
-abbrev pub alive : Ring → List Ring → List Ring
-alive [] ws = ws
-alive (p ∷ ps) ws = (p ∷ ps) ∷ ws
 
 -- the rings of places after an operation that is allowed at a live loop; a start never is. At a border these are the rings when its
 -- edge is marked, before the places leave that no open edge enters or leaves

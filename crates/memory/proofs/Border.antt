@@ -12,7 +12,8 @@ use Rattle.rules.specs.Ring.{Node, opened, marked, Ring, startOr, lastOpen, las
 use Rattle.rules.specs.Table.{marking, atEdge}
 use Rattle.book.specs.Consistent.{AllCurrent}
 use Rattle.links.specs.Memory.{namedRing, namedLoops}
-use Rattle.links.specs.Stores.{alive, afterBorder, cutNext, HasLoops}
+use Rattle.rules.specs.Places.{alive}
+use Rattle.links.specs.Stores.{afterBorder, cutNext, HasLoops}
 use Rattle.links.proofs.Loops.{has-border}
 use Rattle.links.proofs.Cut.{cut-kept, cut-lost, next-open, front-open}
 use Rattle.memory.specs.declared.Loops.{Loops}
@@ -44,28 +45,30 @@ module _ (n : ℕ) (s : Loops) (m : List ℕ) (u e : ℕ) (ps : List Node) (ws :
       (current-has u (namedLoops (verticesOf n m) ((opened e ∷ ps) ∷ ws)) (namedLoops (verticesOf n m) (afterBorder e ps ws)) (effectAt Border u n m e ps ws)
       named (law Border n s m u 0 e ps ws st goes-border) goes-border)
 
-  pub next : Left n m (nextCut n s m) ((opened e ∷ cutNext ps) ∷ ws)
+  pub next : Left n (s .free) m (nextCut n s m) ((opened e ∷ cutNext ps) ∷ ws)
   next = next-cut n s m e ps ws st
 
-  pub both : (t : Bool) → lastOpen (opened e ∷ cutNext ps) ≡ t → Left n (nextCut n s m .memory) (bothCut n s m) (cutLast t e (cutNext ps) ∷ ws)
+  pub both : (t : Bool) → lastOpen (opened e ∷ cutNext ps) ≡ t → Left n (nextCut n s m .loops .free) (nextCut n s m .memory) (bothCut n s m) (cutLast t e (cutNext ps) ∷ ws)
   both t h = last-cut n (nextCut n s m .loops) (nextCut n s m .memory) e (cutNext ps) ws (next .stands) t h
 
   -- the loops that stand then are those of the table
-  moved-by : (r : Ring) → shown (onward [] (ps ++ (marked e ∷ []))) ≡ r → (l : Ring) → Left n (nextCut n s m .memory) (bothCut n s m) (l ∷ ws)
-      → Left n (bothCut n s m .memory) (markedHeld n s m) (alive r ws) → Moved n s m (markedHeld n s m) (effectAt Border u n m e ps ws)
+  moved-by : (r : Ring) → shown (onward [] (ps ++ (marked e ∷ []))) ≡ r → (l : Ring)
+      → Left n (nextCut n s m .loops .free) (nextCut n s m .memory) (bothCut n s m) (l ∷ ws)
+      → Left n (bothCut n s m .loops .free) (bothCut n s m .memory) (markedHeld n s m) (alive r ws)
+      → Moved n s m (markedHeld n s m) (afterBorder e ps ws) (effectAt Border u n m e ps ws)
   moved-by r e₁ l b k =
       let names : verticesOf n (markedHeld n s m .memory) ≡ verticesOf n m = k .vertices ∙ b .vertices ∙ next .vertices in
       record {
-        rings = alive r ws;
         lengths = k .lengths ∙ b .lengths ∙ next .lengths;
         rest = λ i h. k .rest i (omega arith) ∙ b .rest i (omega arith) ∙ next .rest i (omega arith);
-        stands = k .stands;
+        stack = λ j h g.
+            k .stack j (omega (arith, h, next .more, b .more)) ∙ b .stack j (omega (arith, h, next .more)) ∙ next .stack j h;
+        stands = subst (λ (x : Ring). StandsAt n (markedHeld n s m .loops) (markedHeld n s m .memory) (alive x ws)) (sym e₁) (k .stands);
         loops =
-            subst (λ (vs : List ℕ). HasLoops (namedLoops vs (alive r ws)) (effectAt Border u n m e ps ws)) (sym names)
-            (subst (λ (x : Ring). HasLoops (namedLoops (verticesOf n m) (alive x ws)) (effectAt Border u n m e ps ws)) e₁ named);
+            subst (λ (vs : List ℕ). HasLoops (namedLoops vs (afterBorder e ps ws)) (effectAt Border u n m e ps ws)) (sym names) named;
       }
 
-  moved : (t : Bool) → lastOpen (opened e ∷ cutNext ps) ≡ t → Moved n s m (markedHeld n s m) (effectAt Border u n m e ps ws)
+  moved : (t : Bool) → lastOpen (opened e ∷ cutNext ps) ≡ t → Moved n s m (markedHeld n s m) (afterBorder e ps ws) (effectAt Border u n m e ps ws)
   unfolding markedHeld
   moved true h =
       let q : List Node = cutNext ps in
@@ -79,5 +82,5 @@ module _ (n : ℕ) (s : Loops) (m : List ℕ) (u e : ℕ) (ps : List Node) (ws :
       (turned n (bothCut n s m .loops) (bothCut n s m .memory) (lastVertex q) (front q) ws (both false h .stands) (front-open q (next-open ps (st .sound .2)))
       (subst (λ (r : Ring). AllCurrent (alive r ws)) e₁ current))
 
-  pub moved-border : Moved n s m (markedHeld n s m) (effectAt Border u n m e ps ws)
+  pub moved-border : Moved n s m (markedHeld n s m) (afterBorder e ps ws) (effectAt Border u n m e ps ws)
   moved-border = moved (lastOpen (opened e ∷ cutNext ps)) refl

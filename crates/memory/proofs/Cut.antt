@@ -27,16 +27,18 @@ use Rattle.memory.proofs.Standing.{Trail, trails, last-trail, start-tra
 use Rattle.memory.proofs.Room.{room}
 use Rattle.memory.proofs.Relinked.{stacked-same, stacked-freed, waits-same}
 
--- what a step leaves: the loops rs, and the places' vertices as they were
-pub record Left (n : ℕ) (m : List ℕ) (h : Held) (rs : List Ring) : Type 0 where
+-- what a step leaves: the loops rs, and the places' vertices and the k places on the stack as they were
+pub record Left (n k : ℕ) (m : List ℕ) (h : Held) (rs : List Ring) : Type 0 where
   pub lengths : length (h .memory) ≡ length m
   pub rest : (i : ℕ) → 5 * n ≤ i → at (h .memory) i ≡ at m i
+  pub stack : (j : ℕ) → j < k → at (h .memory) (4 * n + j) ≡ at m (4 * n + j)
+  pub more : k ≤ h .loops .free
   pub stands : StandsAt n (h .loops) (h .memory) rs
   pub vertices : verticesOf n (h .memory) ≡ verticesOf n m
 
 -- nothing is done
-unchanged : (n : ℕ) (s : Loops) (m : List ℕ) (rs : List Ring) → StandsAt n s m rs → Left n m (record { loops = s; memory = m }) rs
-unchanged n s m rs st = record { lengths = refl; rest = λ i h. refl; stands = st; vertices = refl }
+unchanged : (n : ℕ) (s : Loops) (m : List ℕ) (rs : List Ring) → StandsAt n s m rs → Left n (s .free) m (record { loops = s; memory = m }) rs
+unchanged n s m rs st = record { lengths = refl; rest = λ i h. refl; stack = λ j h. refl; more = omega arith; stands = st; vertices = refl }
 
 -- the ring after the current place is the last one
 abbrev pub cutLast : Bool → ℕ → List Node → Ring
@@ -76,11 +78,13 @@ module _ (n : ℕ) (s : Loops) (m : List ℕ) (e : ℕ) (ps : List Node) (ws : L
     waiting-stays i h = getD-set-other done (4 * n + s .free) i x 0 (λ z. omega (arith, z, used-some)) ∙ made .above i (omega arith)
 
     cut : (c k : ℕ) → c ≡ startOr 0 l → k ≡ length l
-        → Left n m (held (s .live) c k (s .free + 1) (freed n (edgesStored ds m) (s .free) x)) (l ∷ ws)
+        → Left n (s .free) m (held (s .live) c k (s .free + 1) (freed n (edgesStored ds m) (s .free) x)) (l ∷ ws)
     unfolding left done
     cut c k ec ek = record {
       lengths = length-set done (4 * n + s .free) x ∙ made .lengths;
       rest = waiting-stays;
+      stack = λ j h. getD-set-other done (4 * n + s .free) (4 * n + j) x 0 (λ z. omega (arith, z, h)) ∙ made .above (4 * n + j) (omega arith);
+      more = omega arith;
       stands = record {
         long = omega (arith, st .long, made .lengths, length-set done (4 * n + s .free) x);
         holds = subst (λ (M : Memory). Holds M (l ∷ ws)) (sym (same-links n done left records ∙ made .links)) holds;
@@ -105,9 +109,9 @@ module _ (n : ℕ) (s : Loops) (m : List ℕ) (e : ℕ) (ps : List Node) (ws : L
       ap (λ (x : ℕ). openOf m (beforeOf m x)) (st .heads .current) ∙ ap (openOf m) (b .back) ∙ b .mark ∙ ap num h
 
 -- the next place leaves if its edge is marked
-next-kept : (n : ℕ) (s : Loops) (m : List ℕ) (rs : List Ring) → StandsAt n s m rs → openOf m (afterOf m (s .current)) ≡ 1 → Left n m (nextCut n s m) rs
+next-kept : (n : ℕ) (s : Loops) (m : List ℕ) (rs : List Ring) → StandsAt n s m rs → openOf m (afterOf m (s .current)) ≡ 1 → Left n (s .free) m (nextCut n s m) rs
 unfolding nextCut
-next-kept n s m rs st h = subst (λ (x : ℕ). Left n m (cutBy (eqb x 0) (forwardHeld n s m) s m) rs) (sym h) (unchanged n s m rs st)
+next-kept n s m rs st h = subst (λ (x : ℕ). Left n (s .free) m (cutBy (eqb x 0) (forwardHeld n s m) s m) rs) (sym h) (unchanged n s m rs st)
 
 forward-is : (n : ℕ) (s : Loops) (m : List ℕ) (e f g : ℕ) → s .current ≡ e → afterOf m e ≡ f → afterOf m f ≡ g
     → forwardHeld n s m ≡ held (s .live) e (s .size - 1) (s .free + 1) (freed n (edgesStored (arc e g true ∷ []) m) (s .free) f)
@@ -120,7 +124,7 @@ unfolding backwardHeld
 backward-is n s m e f l a b c = rw (a, b, c)
 
 next-lost : (n : ℕ) (s : Loops) (m : List ℕ) (e f : ℕ) (qs : List Node) (ws : List Ring) → StandsAt n s m ((opened e ∷ (marked f ∷ qs)) ∷ ws)
-    → Left n m (forwardHeld n s m) ((opened e ∷ qs) ∷ ws)
+    → Left n (s .free) m (forwardHeld n s m) ((opened e ∷ qs) ∷ ws)
 unfolding loopsSum ringSum pathSum
 next-lost n s m e f qs ws st =
     let old : List Ring = (opened e ∷ (marked f ∷ qs)) ∷ ws in
@@ -129,18 +133,18 @@ next-lost n s m e f qs ws st =
     let a : s .current ≡ e = st .heads .current in
     let b : afterOf m e ≡ f = t .0 .fore in
     let c : afterOf m f ≡ startOr e qs = t .1 .0 .fore in
-    subst (λ (h : Held). Left n m h ((opened e ∷ qs) ∷ ws)) (sym (forward-is n s m e f (startOr e qs) a b c))
+    subst (λ (h : Held). Left n (s .free) m h ((opened e ∷ qs) ∷ ws)) (sym (forward-is n s m e f (startOr e qs) a b c))
     (cut n s m e (marked f ∷ qs) ws st (arc e (startOr e qs) true ∷ []) (t .0 .near, bg, tt) (opened e ∷ qs) f
     (do-forward n (linksOf n m) (links-long n m) ws e (marked f) qs (apart n s m old st) (t .0 .near) bg (st .holds) .holds)
     (λ y. omega arith) (refl, st .sound .1, spaced-any qs true (st .sound .2)) e (s .size - 1) refl (omega (arith, st .heads .size)))
 
-next-gone : (n : ℕ) (s : Loops) (m : List ℕ) (rs : List Ring) → openOf m (afterOf m (s .current)) ≡ 0 → Left n m (forwardHeld n s m) rs
-    → Left n m (nextCut n s m) rs
+next-gone : (n : ℕ) (s : Loops) (m : List ℕ) (rs : List Ring) → openOf m (afterOf m (s .current)) ≡ 0 → Left n (s .free) m (forwardHeld n s m) rs
+    → Left n (s .free) m (nextCut n s m) rs
 unfolding nextCut
-next-gone n s m rs h l = subst (λ (x : ℕ). Left n m (cutBy (eqb x 0) (forwardHeld n s m) s m) rs) (sym h) l
+next-gone n s m rs h l = subst (λ (x : ℕ). Left n (s .free) m (cutBy (eqb x 0) (forwardHeld n s m) s m) rs) (sym h) l
 
 pub next-cut : (n : ℕ) (s : Loops) (m : List ℕ) (e : ℕ) (ps : List Node) (ws : List Ring) → StandsAt n s m ((opened e ∷ ps) ∷ ws)
-    → Left n m (nextCut n s m) ((opened e ∷ cutNext ps) ∷ ws)
+    → Left n (s .free) m (nextCut n s m) ((opened e ∷ cutNext ps) ∷ ws)
 next-cut n s m e [] ws st =
     let t = ring n s m e [] ws st in
     next-kept n s m ((opened e ∷ []) ∷ ws) st (ap (λ (x : ℕ). openOf m (afterOf m x)) (st .heads .current) ∙ ap (openOf m) (t .0 .fore) ∙ t .0 .mark)
@@ -156,7 +160,7 @@ next-cut n s m e (marked f ∷ qs) ws st =
 
 -- the current place leaves if the edge before it is marked
 last-lost : (n : ℕ) (s : Loops) (m : List ℕ) (e : ℕ) (ps : List Node) (ws : List Ring) → StandsAt n s m ((opened e ∷ ps) ∷ ws) → 1 ≤ length ps
-    → lastOpen ps ≡ false → Left n m (backwardHeld n s m) ((opened (lastVertex ps) ∷ front ps) ∷ ws)
+    → lastOpen ps ≡ false → Left n (s .free) m (backwardHeld n s m) ((opened (lastVertex ps) ∷ front ps) ∷ ws)
 unfolding loopsSum ringSum pathSum
 last-lost n s m e ps ws st k o =
     let old : List Ring = (opened e ∷ ps) ∷ ws in
@@ -172,7 +176,7 @@ last-lost n s m e ps ws st k o =
     let d =
     do-cut n (linksOf n m) (links-long n m) ws e l (front ps) (subst (λ (x : List Node). Apart ((opened e ∷ x) ∷ ws)) (sym eq) (apart n s m old st))
     (hop .near) (subst (λ (x : ℕ). x < n) (sym start) bf) (subst (λ (x : List Node). Holds (linksOf n m) ((opened e ∷ x) ∷ ws)) (sym eq) (st .holds)) in
-    subst (λ (h : Held). Left n m h ((opened l ∷ front ps) ∷ ws)) (sym (backward-is n s m e (startOr e ps) l a b c))
+    subst (λ (h : Held). Left n (s .free) m h ((opened l ∷ front ps) ∷ ws)) (sym (backward-is n s m e (startOr e ps) l a b c))
     (cut n s m e ps ws st (arc l (startOr e ps) true ∷ []) (hop .near, bf, tt) (opened l ∷ front ps) e
     (subst (λ (x : ℕ). Holds (stored (arc l x true ∷ []) (linksOf n m)) ((opened l ∷ front ps) ∷ ws)) start (d .holds))
     (λ y.
@@ -185,12 +189,12 @@ last-lost n s m e ps ws st k o =
     (omega (arith, st .heads .size, length-append (front ps) (marked l ∷ []), ap length eq)))
 
 pub last-cut : (n : ℕ) (s : Loops) (m : List ℕ) (e : ℕ) (ps : List Node) (ws : List Ring) → StandsAt n s m ((opened e ∷ ps) ∷ ws) → (t : Bool)
-    → lastOpen (opened e ∷ ps) ≡ t → Left n m (lastCut n s m) (cutLast t e ps ∷ ws)
+    → lastOpen (opened e ∷ ps) ≡ t → Left n (s .free) m (lastCut n s m) (cutLast t e ps ∷ ws)
 unfolding lastCut
 last-cut n s m e ps ws st true h =
-    subst (λ (x : ℕ). Left n m (cutBy (eqb x 0) (backwardHeld n s m) s m) ((opened e ∷ ps) ∷ ws)) (sym (last-mark n s m e ps ws st true h))
+    subst (λ (x : ℕ). Left n (s .free) m (cutBy (eqb x 0) (backwardHeld n s m) s m) ((opened e ∷ ps) ∷ ws)) (sym (last-mark n s m e ps ws st true h))
     (unchanged n s m ((opened e ∷ ps) ∷ ws) st)
 last-cut n s m e [] ws st false h = absurd (true≢false (unfold lastOpen in h))
 last-cut n s m e (p ∷ ps) ws st false h =
-    subst (λ (x : ℕ). Left n m (cutBy (eqb x 0) (backwardHeld n s m) s m) ((opened (lastVertex (p ∷ ps)) ∷ front (p ∷ ps)) ∷ ws))
+    subst (λ (x : ℕ). Left n (s .free) m (cutBy (eqb x 0) (backwardHeld n s m) s m) ((opened (lastVertex (p ∷ ps)) ∷ front (p ∷ ps)) ∷ ws))
     (sym (last-mark n s m e (p ∷ ps) ws st false h)) (last-lost n s m e (p ∷ ps) ws st (omega arith) (unfold lastOpen in h))

@@ -30,6 +30,8 @@ use Rattle.memory.specs.Stands.{ringsIn, loopsIn, StandsAt, Stands}
 use Rattle.memory.specs.Moves.{Held, markedHeld}
 use Rattle.memory.specs.Decision.{proposed, newEdges, roomFor, roomBy, decidedBy, decided, sideOf, heldAfter, builtFront, markedFront}
 use Rattle.memory.specs.Keeps.{Keeps, Decides}
+use Rattle.rules.specs.Places.{ringsAfter}
+use Rattle.memory.specs.Touched.{takenBy, Rearranged}
 use Rattle.memory.proofs.Standing.{rings-read}
 use Rattle.memory.proofs.Room.{room}
 use Rattle.memory.proofs.Relinked.{Moved, current-names}
@@ -120,10 +122,10 @@ module _ (n : ℕ) (s : Front) (m : List ℕ) (M : Machine) (k : Keeps n s m M) 
       (λ h. omega (arith, h, c₄, b .lives, before .live, i .pq, i .qr, i .rp, i .vertices, i .starts, i .unions)))
 
   keeps-built : (ls : List Ring) (t : Triangle) (x y z : Side) (v a u : ℕ) (p : Plan) (h : Held) → PlanIs p t x y z v a u
-      → Moved n (s .loops) m h (builds ls t x y z v a u) → Keeps n (builtFront n s p (h .loops)) (h .memory) (afterBuild M ls t x y z v a u)
+      → (rs : List Ring) → Moved n (s .loops) m h rs (builds ls t x y z v a u) → Keeps n (builtFront n s p (h .loops)) (h .memory) (afterBuild M ls t x y z v a u)
   unfolding builtFront
-  keeps-built ls t x y z v a u p h i d =
-      let r = stood n (h .loops) (h .memory) (d .rings) ls (d .stands) (d .loops) in
+  keeps-built ls t x y z v a u p h i rs d =
+      let r = stood n (h .loops) (h .memory) rs ls (d .stands) (d .loops) in
       record {
         roomy = record { few = k .roomy .few; enough = k .roomy .enough; long = omega (arith, k .roomy .long, d .lengths) };
         stands = r .stands;
@@ -140,10 +142,10 @@ module _ (n : ℕ) (s : Front) (m : List ℕ) (M : Machine) (k : Keeps n s m M) 
       }
 
   keeps-marked : (ls : List Ring) (d : Edge) (rim : ℕ) (h : Held) → effects.Marks (M .loops) ls d rim
-      → Moved n (s .loops) m h (marks ls d rim) → Keeps n (markedFront n s (h .loops)) (h .memory) (afterMark M ls rim)
+      → (rs : List Ring) → Moved n (s .loops) m h rs (marks ls d rim) → Keeps n (markedFront n s (h .loops)) (h .memory) (afterMark M ls rim)
   unfolding markedFront
-  keeps-marked ls d rim h b w =
-      let r = stood n (h .loops) (h .memory) (w .rings) ls (w .stands) (w .loops) in
+  keeps-marked ls d rim h b rs w =
+      let r = stood n (h .loops) (h .memory) rs ls (w .stands) (w .loops) in
       record {
         roomy = record { few = k .roomy .few; enough = k .roomy .enough; long = omega (arith, k .roomy .long, w .lengths) };
         stands = r .stands;
@@ -158,6 +160,13 @@ module _ (n : ℕ) (s : Front) (m : List ℕ) (M : Machine) (k : Keeps n s m M) 
         unions = k .unions;
         rims = omega (arith, k .rims, b .lives, before .live, r .live);
       }
+
+  -- the rings of places after it
+  abbrev next : Operation → List Ring
+  next o = ringsAfter o (takenBy n (s .loops) m o) (ringsIn n (s .loops) m)
+
+  rearranged : (o : Operation) (h : Held) (E : Effect) → Moved n (s .loops) m h (next o) E → Rearranged n (s .loops) m o h
+  rearranged o h E d = record { rings = rings-read n (h .loops) (h .memory) (next o) (d .stands); stack = d .stack }
 
   -- marking an edge stays within what is stated
   mark-within : (ls : List Ring) (d : Edge) (rim : ℕ) → effects.Marks (M .loops) ls d rim → within M ≡ true → within (afterMark M ls rim) ≡ true
@@ -174,7 +183,7 @@ module _ (n : ℕ) (s : Front) (m : List ℕ) (M : Machine) (k : Keeps n s m M) 
 
   by-room : (o : Operation) (ls : List Ring) (t : Triangle) (x y z : Side) (v a u : ℕ) → operation M o ≡ done M (builds ls t x y z v a u) → (p : Plan)
       → PlanIs p t x y z v a u
-      → (places ls ≤ n → 5 * n + 2 * length ls ≤ length m → Moved n (s .loops) m (heldAfter n s m o p) (builds ls t x y z v a u)) → (r : Bool)
+      → (places ls ≤ n → 5 * n + 2 * length ls ≤ length m → Moved n (s .loops) m (heldAfter n s m o p) (next o) (builds ls t x y z v a u)) → (r : Bool)
       → within (afterBuild M ls t x y z v a u) ≡ r → Decides n s m M o (roomBy r p)
   unfolding done test
   by-room o ls t x y z v a u e p i moves true w =
@@ -187,14 +196,15 @@ module _ (n : ℕ) (s : Front) (m : List ℕ) (M : Machine) (k : Keeps n s m M) 
         step =
             rw (i .triangle, side-back x (p .pq) (i .pq), side-back y (p .qr) (i .qr), side-back z (p .rp) (i .rp))
             (e ∙ ap (λ (r : Bool). test r 17 (test (edgeRule t x y z (M .triangles)) 18 (built t (afterBuild M ls t x y z v a u)))) w);
-        keeps = keeps-built ls t x y z v a u p (heldAfter n s m o p) i d;
+        keeps = keeps-built ls t x y z v a u p (heldAfter n s m o p) i (next o) d;
         unchanged = record { lengths = d .lengths; rest = d .rest };
+        places = rearranged o (heldAfter n s m o p) (builds ls t x y z v a u) d;
       }
   by-room o ls t x y z v a u e p i moves false w =
       e ∙ ap (λ (r : Bool). test r 17 (test (edgeRule t x y z (M .triangles)) 18 (built t (afterBuild M ls t x y z v a u)))) w
 
   decides-by : (o : Operation) (E : Effect) (d : Decided) → operation M o ≡ done M E → within M ≡ true → effects.Law (s .used) (M .loops) E
-      → Proposes n s m o d E → Decides n s m M o (decidedBy n s d)
+      → Proposes n s m o (next o) d E → Decides n s m M o (decidedBy n s d)
   unfolding done test
   decides-by o not-allowed d e w l p = rw p e
   decides-by o (builds ls t x y z v a u) d e w l p =
@@ -207,8 +217,9 @@ module _ (n : ℕ) (s : Front) (m : List ℕ) (M : Machine) (k : Keeps n s m M) 
       (record {
         next = afterMark M ls rim;
         step = e ∙ ap (λ (r : Bool). test r 17 (declared x (afterMark M ls rim))) (mark-within ls x rim l w);
-        keeps = keeps-marked ls x rim (markedHeld n (s .loops) m) l (p .moves);
+        keeps = keeps-marked ls x rim (markedHeld n (s .loops) m) l (next o) (p .moves);
         unchanged = record { lengths = p .moves .lengths; rest = p .moves .rest };
+        places = rearranged o (markedHeld n (s .loops) m) (marks ls x rim) (p .moves);
       })
 
   -- the theorem
@@ -219,4 +230,4 @@ module _ (n : ℕ) (s : Front) (m : List ℕ) (M : Machine) (k : Keeps n s m M) 
       let current : AllCurrent (M .loops) = rw (k .loops) (current-names (verticesOf n m) (ringsIn n (s .loops) m) (k .stands .sound)) in
       decides-by o E (proposed n s m o) (ap (λ (u : ℕ). done M (effect o u (M .loops))) (k .used)) (r .counts)
       (effects.effect-law o (s .used) (M .loops) current)
-      (subst (λ (ls : List Ring). Proposes n s m o (proposed n s m o) (effect o (s .used) ls)) (sym (k .loops)) (proposes n s m o (ringsIn n (s .loops) m) (k .stands)))
+      (subst (λ (ls : List Ring). Proposes n s m o (next o) (proposed n s m o) (effect o (s .used) ls)) (sym (k .loops)) (proposes n s m o (ringsIn n (s .loops) m) (k .stands)))

@@ -17,7 +17,8 @@ use Rattle.book.specs.Sums.{Weight, pathSum, ringSum, loopsSum}
 use Rattle.book.specs.Consistent.{AllCurrent}
 use Rattle.book.proofs.Sums.{sum-append, start-append}
 use Rattle.links.specs.Memory.{Memory, Arc, arc, Holds, placed, stored, namedLoops}
-use Rattle.links.specs.Stores.{alive, placesAfter, stores, verticesAfter, HasLoops, OpenNext}
+use Rattle.rules.specs.Places.{alive}
+use Rattle.links.specs.Stores.{placesAfter, stores, verticesAfter, HasLoops, OpenNext}
 use Rattle.links.proofs.Surgery.{do-mark}
 use Rattle.links.proofs.Stored as after
 use Rattle.memory.specs.declared.Loops.{Loops}
@@ -81,9 +82,11 @@ released-by n m k (p ∷ ps) b c bn t ec h l =
     }
 
 -- the loop of the places ps, from the current one round to b, has ended, and ws are the others
-pub record Ended (n : ℕ) (h : Held) (m : List ℕ) (ws : List Ring) : Type 0 where
+pub record Ended (n k : ℕ) (h : Held) (m : List ℕ) (ws : List Ring) : Type 0 where
   pub lengths : length (h .memory) ≡ length m
   pub rest : (i : ℕ) → 5 * n ≤ i → at (h .memory) i ≡ at m i
+  pub stack : (j : ℕ) → j < k → at (h .memory) (4 * n + j) ≡ at m (4 * n + j)
+  pub more : k ≤ h .loops .free
   pub stands : StandsAt n (h .loops) (h .memory) ws
   pub vertices : verticesOf n (h .memory) ≡ verticesOf n m
 
@@ -100,7 +103,7 @@ module _ (n : ℕ) (s : Loops) (m : List ℕ) (ps : List Node) (b : ℕ) (long :
 
   pub ended : (ws : List Ring) → s .live ≡ suc (length ws) → Waits n m ws → AllCurrent ws
       → ((x : ℕ) → pathSum (λ p q o. same x p) ps b + placed x ws + stacked n m (s .free) x ≡ num (ltb x n))
-      → Holds (linksOf n m) ws → Ended n (endedHeld n s m) m ws
+      → Holds (linksOf n m) ws → Ended n (s .free) (endedHeld n s m) m ws
   unfolding endedHeld left
   ended [] el waiting current each holds =
       let f : leb (s .live) 1 ≡ true = le-leb (s .live) 1 (omega (arith, el)) in
@@ -109,6 +112,8 @@ module _ (n : ℕ) (s : Loops) (m : List ℕ) (ps : List Node) (b : ℕ) (long :
       (record {
         lengths = gone .lengths;
         rest = gone .rest;
+        stack = λ j h. gone .records (4 * n + j) (omega (arith, h));
+        more = omega arith;
         stands = record {
           long = omega (arith, gone .lengths);
           holds =
@@ -127,6 +132,8 @@ module _ (n : ℕ) (s : Loops) (m : List ℕ) (ps : List Node) (b : ℕ) (long :
       (record {
         lengths = gone .lengths;
         rest = gone .rest;
+        stack = λ j h. gone .records (4 * n + j) (omega (arith, h));
+        more = omega arith;
         stands = record {
           long = omega (arith, gone .lengths);
           holds =
@@ -159,7 +166,7 @@ module _ (n : ℕ) (s : Loops) (m : List ℕ) (u e : ℕ) (ps : List Node) (ws :
   unfolding loopsSum ringSum
   whole x = omega (arith, st .each x)
 
-  pub moved-close : Goes (effectAt Close u n m e ps ws) → Moved n s m (endedHeld n s m) (effectAt Close u n m e ps ws)
+  pub moved-close : Goes (effectAt Close u n m e ps ws) → Moved n s m (endedHeld n s m) ws (effectAt Close u n m e ps ws)
   unfolding stores verticesAfter placesAfter stored
   moved-close goes =
       let r = relinked Close n s m u 0 e ps ws st goes tt (λ t. absurd t) m refl refl in
@@ -167,9 +174,9 @@ module _ (n : ℕ) (s : Loops) (m : List ℕ) (u e : ℕ) (ps : List Node) (ws :
       ended n s m (opened e ∷ ps) e (st .long) (ring .0 .near) ring (st .heads .current) (st .heads .size) enough ws (st .heads .live)
       (st .heads .waiting) (r .current) whole (r .holds) in
       record {
-        rings = ws;
         lengths = d .lengths;
         rest = λ i h. d .rest i (omega arith);
+        stack = λ j h k. d .stack j h;
         stands = d .stands;
         loops = has-same (verticesOf n (endedHeld n s m .memory)) (verticesOf n m) ws (effectAt Close u n m e ps ws) (d .vertices) (r .loops);
       }
@@ -247,11 +254,13 @@ module _ (n : ℕ) (s : Loops) (m : List ℕ) (e : ℕ) (ps : List Node) (ws : L
 
   goes-on : (v : ℕ) (qs : List Node) → onward [] around ≡ opened v ∷ qs → length (opened v ∷ qs) ≡ length around
       → ((w : Weight) → ringSum w (opened v ∷ qs) ≡ ringSum w around)
-      → Left n m (held (s .live) v (s .size) (s .free) marked-memory) ((opened v ∷ qs) ∷ ws)
+      → Left n (s .free) m (held (s .live) v (s .size) (s .free) marked-memory) ((opened v ∷ qs) ∷ ws)
   unfolding loopsSum around
   goes-on v qs eo el sums = record {
     lengths = same-long;
     rest = λ i h. above i (omega arith);
+    stack = λ j h. above (4 * n + j) (omega arith);
+    more = omega arith;
     stands = record {
       long = omega (arith, st .long, same-long);
       holds = subst (λ (r : Ring). Holds (linksOf n marked-memory) (alive r ws)) eo holds-marked;
@@ -280,7 +289,7 @@ module _ (n : ℕ) (s : Loops) (m : List ℕ) (e : ℕ) (ps : List Node) (ws : L
       let r = trail-append n marked-memory (startOr e ps) ps (marked e ∷ []) around-trail in
       (r .1 .0, r .0)
 
-  goes-off : onward [] around ≡ [] → Left n m (endedHeld n s marked-memory) ws
+  goes-off : onward [] around ≡ [] → Left n (s .free) m (endedHeld n s marked-memory) ws
   unfolding pathSum around
   goes-off eo =
       let d =
@@ -292,19 +301,21 @@ module _ (n : ℕ) (s : Loops) (m : List ℕ) (e : ℕ) (ps : List Node) (ws : L
       record {
         lengths = d .lengths ∙ same-long;
         rest = λ i h. d .rest i h ∙ above i (omega arith);
+        stack = λ j h. d .stack j h ∙ above (4 * n + j) (omega arith);
+        more = d .more;
         stands = d .stands;
         vertices = d .vertices ∙ same-names;
       }
 
   turns : (t : ℕ) → openOf marked-memory (startOr e ps) ≡ t
-      → Left n m (turnedBy (eqb t 0) n s marked-memory (startOr e ps)) (alive (onward [] around) ws)
-      → Left n m (turnedHeld n s m) (alive (onward [] around) ws)
+      → Left n (s .free) m (turnedBy (eqb t 0) n s marked-memory (startOr e ps)) (alive (onward [] around) ws)
+      → Left n (s .free) m (turnedHeld n s m) (alive (onward [] around) ws)
   turns t h l =
-      subst (λ (x : Held). Left n m x (alive (onward [] around) ws)) (sym turned-held)
-      (subst (λ (x : ℕ). Left n m (turnedBy (eqb x 0) n s marked-memory (startOr e ps)) (alive (onward [] around) ws)) (sym h) l)
+      subst (λ (x : Held). Left n (s .free) m x (alive (onward [] around) ws)) (sym turned-held)
+      (subst (λ (x : ℕ). Left n (s .free) m (turnedBy (eqb x 0) n s marked-memory (startOr e ps)) (alive (onward [] around) ws)) (sym h) l)
 
 pub turned : (n : ℕ) (s : Loops) (m : List ℕ) (e : ℕ) (ps : List Node) (ws : List Ring) → StandsAt n s m ((opened e ∷ ps) ∷ ws) → OpenNext ps
-    → AllCurrent (alive (onward [] (ps ++ (marked e ∷ []))) ws) → Left n m (turnedHeld n s m) (alive (onward [] (ps ++ (marked e ∷ []))) ws)
+    → AllCurrent (alive (onward [] (ps ++ (marked e ∷ []))) ws) → Left n (s .free) m (turnedHeld n s m) (alive (onward [] (ps ++ (marked e ∷ []))) ws)
 unfolding around onward
 turned n s m e [] ws st o current = turns n s m e [] ws st current 0 (around-trail n s m e [] ws st current .0 .mark) (goes-off n s m e [] ws st current refl)
 turned n s m e (opened v ∷ qs) ws st o current =

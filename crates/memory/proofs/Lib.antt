@@ -21,3 +21,6 @@ pub mod Performing
 pub mod Performed
 pub mod Fresh
 pub mod Next
+pub mod Touched
+pub mod Vertices
+pub mod Around

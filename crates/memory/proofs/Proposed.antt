@@ -5,7 +5,7 @@ use native.Mathlib.Omega.{arith}
 use mathlib.Core.Bool.{Bool, true, false, _&&_, not, false≢true}
 use mathlib.Core.List.{List, [], _∷_}
 use mathlib.Core.Path.{_≡_, refl, sym, ap, ap₂, _∙_, subst}
-use lib.ListN.{length}
+use lib.ListN.{length, getD}
 use lib.Dec.{eqb, leb, ltb}
 use borrow.Author.Tests.{leb-true, ltb-true, eqb-true, ne-eqb}
 use Rattle.rules.specs.declared.Operation.{Operation}
@@ -22,7 +22,7 @@ use Rattle.memory.specs.declared.Plan.{Plan}
 use Rattle.memory.specs.declared.Decided.the-variants.{Builds}
 use Rattle.memory.specs.Layout.{at, vertexOf, beforeOf, afterOf, verticesOf, walked}
 use Rattle.memory.specs.Stands.{StandsAt}
-use Rattle.memory.specs.Moves.{splitHeld, unionHeld}
+use Rattle.memory.specs.Moves.{splitHeld, unionHeld, topFree}
 use Rattle.memory.specs.Decision.{isOpenAt, planAt, besideNext, besideLast, splitPlan, closePlan, unionPlan, startPlan, proposedBy, proposed, heldAfter}
 use Rattle.memory.proofs.Standing.{Trail, trails, trail-at, walk-trail, near-trail}
 use Rattle.memory.proofs.Room.{room}
@@ -33,6 +33,9 @@ use Rattle.memory.proofs.Split.{moved-split}
 use Rattle.memory.proofs.Union.{moved-union}
 use Rattle.memory.proofs.Start.{moved-start}
 use Rattle.memory.proofs.Proposing.{Proposes, allowed-proposes, three-tests, four-tests, and-cong, start-any, allowed-goes, allowed-moved, allowed-law, name, at-next, name-next, name-c, size-is, open-f, open-last, three-open, corners, some-free, propose-new, propose-forward, propose-backward, propose-border}
+use Rattle.links.specs.Stores.{placesAfter}
+use Rattle.rules.specs.Places.{placesAt, ringsAfter}
+use Rattle.memory.specs.Touched.{takenBy}
 
 module _ (n : ℕ) (s : Front) (m : List ℕ) (e : ℕ) (ps : List Node) (ws : List Ring)
     (st : StandsAt n (s .loops) m ((opened e ∷ ps) ∷ ws)) where
@@ -44,7 +47,7 @@ module _ (n : ℕ) (s : Front) (m : List ℕ) (e : ℕ) (ps : List Node) (ws : L
   assoc true b c = refl
   assoc false b c = refl
 
-  propose-close : Proposes n s m Close (closePlan (s .loops) m) (effectAt Close (s .used) n m e ps ws)
+  propose-close : Proposes n s m Close ws (closePlan (s .loops) m) (effectAt Close (s .used) n m e ps ws)
   unfolding closePlan atEdge
   propose-close =
       let x : ℕ = afterOf m (s .loops .current) in
@@ -52,7 +55,7 @@ module _ (n : ℕ) (s : Front) (m : List ℕ) (e : ℕ) (ps : List Node) (ws : L
       let t : Bool = eqb (suc (length others)) 3 && allOpen others in
       let t′ : Bool = eqb (s .loops .size) 3 && isOpenAt m x && isOpenAt m (afterOf m x) in
       rw (three-tests (eqb (s .loops .size) 3) (isOpenAt m x) (isOpenAt m (afterOf m x)) (Builds p))
-      (allowed-proposes n s m Close t t′ (Builds p) _
+      (allowed-proposes n s m Close ws t t′ (Builds p) _
       (assoc (eqb (s .loops .size) 3) (isOpenAt m x) (isOpenAt m (afterOf m x))
       ∙ and-cong (eqb (s .loops .size) 3) (isOpenAt m x && isOpenAt m (afterOf m x)) (eqb (suc (length others)) 3) (allOpen others)
       (ap (λ (k : ℕ). eqb k 3) (size-is n s m e ps ws st)) (three-open n s m e ps ws st))
@@ -71,13 +74,13 @@ module _ (n : ℕ) (s : Front) (m : List ℕ) (e : ℕ) (ps : List Node) (ws : L
           starts = refl;
           unions = refl;
         };
-        moves = λ i k. allowed-moved n (s .loops) m (heldAfter n s m Close p) t _ h tt (moved-close n (s .loops) m (s .used) e ps ws st);
+        moves = λ i k. allowed-moved n (s .loops) m (heldAfter n s m Close p) ws t _ h tt (moved-close n (s .loops) m (s .used) e ps ws st);
       }))
 
   lives : length (namedLoops (verticesOf n m) ((opened e ∷ ps) ∷ ws)) ≡ s .loops .live
   lives = named-lives (verticesOf n m) ((opened e ∷ ps) ∷ ws) ∙ sym (st .heads .live)
 
-  propose-split : (i : ℕ) → Proposes n s m (Split i) (splitPlan (s .loops) m i) (effectAt (Split i) (s .used) n m e ps ws)
+  propose-split : (i : ℕ) → Proposes n s m (Split i) (placesAfter (Split i) (topFree n (s .loops) m) e ps ws) (splitPlan (s .loops) m i) (effectAt (Split i) (s .used) n m e ps ws)
   unfolding splitPlan besideNext besideLast atEdge
   propose-split i =
       let c : ℕ = walked m i (afterOf m (s .loops .current)) in
@@ -92,7 +95,7 @@ module _ (n : ℕ) (s : Front) (m : List ℕ) (e : ℕ) (ps : List Node) (ws : L
       let some : leb 1 i && leb (i + 2) k ≡ true → 1 ≤ length ps =
       λ h. omega (arith, leb-true (i + 2) k (and-right (leb 1 i) (leb (i + 2) k) h), named-length (verticesOf n m) ps) in
       rw (four-tests (leb 1 i) (leb (i + 2) z) (not (eqb i 1 && x)) (not (eqb (i + 2) z && y)) (Builds p))
-      (allowed-proposes n s m (Split i) t t′ (Builds p) _
+      (allowed-proposes n s m (Split i) (placesAfter (Split i) (topFree n (s .loops) m) e ps ws) t t′ (Builds p) _
       (and-cong (leb 1 i && leb (i + 2) z && not (eqb i 1 && x)) (not (eqb (i + 2) z && y)) t₃ (not (eqb (i + 2) k && lastOpen others))
       (and-cong (leb 1 i && leb (i + 2) z) (not (eqb i 1 && x)) (leb 1 i && leb (i + 2) k) (not (eqb i 1 && firstOpen others))
       (ap (λ (j : ℕ). leb 1 i && leb (i + 2) j) (size-is n s m e ps ws st)) (λ h. ap (λ (b : Bool). not (eqb i 1 && b)) (open-f n s m e ps ws st (some h))))
@@ -120,8 +123,8 @@ module _ (n : ℕ) (s : Front) (m : List ℕ) (e : ℕ) (ps : List Node) (ws : L
           unions = refl;
         };
         moves = λ a k.
-            allowed-moved n (s .loops) m (splitHeld n (s .loops) m i c) t _ h tt
-            (λ x. subst (λ (y : ℕ). Moved n (s .loops) m (splitHeld n (s .loops) m i y) (effectAt (Split i) (s .used) n m e ps ws)) (sym w)
+            allowed-moved n (s .loops) m (splitHeld n (s .loops) m i c) (placesAfter (Split i) (topFree n (s .loops) m) e ps ws) t _ h tt
+            (λ x. subst (λ (y : ℕ). Moved n (s .loops) m (splitHeld n (s .loops) m i y) (placesAfter (Split i) (topFree n (s .loops) m) e ps ws) (effectAt (Split i) (s .used) n m e ps ws)) (sym w)
             (moved-split n (s .loops) m (s .used) e ps ws st (some-free n s m e ps ws st (s .used) _ _ 0 0 0 b a) i goes
             (omega (arith, k, b .lives, lives))));
       }))
@@ -186,12 +189,12 @@ module _ (n : ℕ) (s : Front) (m : List ℕ) (e : ℕ) (ps : List Node) (ws : L
           ap (vertexOf m) place-is ∙ name n s m e ps ws st (vertexAt (loopAt ws (p - 1)) j) (near-trail n m (startOr 0 waiting) waiting j around inside)
           ∙ sym (ap (λ (w : Ring). vertexAt w j) (named-loopAt (verticesOf n m) ws (p - 1)) ∙ named-at (verticesOf n m) (loopAt ws (p - 1)) j inside)
 
-    propose-union : Proposes n s m (Union p j) (unionPlan n (s .loops) m p j) (effectAt (Union p j) (s .used) n m e ps ws)
+    propose-union : Proposes n s m (Union p j) (placesAfter (Union p j) (topFree n (s .loops) m) e ps ws) (unionPlan n (s .loops) m p j) (effectAt (Union p j) (s .used) n m e ps ws)
     unfolding unionPlan atEdge lower place tests
     propose-union =
         let q : Plan = planAt (s .loops) m (vertexOf m place) 1 1 0 1 place in
         rw (three-tests (leb 1 p) (leb p (s .loops .live - 1)) (ltb j (at m (5 * n + 2 * lower + 1))) (Builds q))
-        (allowed-proposes n s m (Union p j) tests (leb 1 p && leb p (s .loops .live - 1) && ltb j (at m (5 * n + 2 * lower + 1))) (Builds q) _ same-tests
+        (allowed-proposes n s m (Union p j) (placesAfter (Union p j) (topFree n (s .loops) m) e ps ws) tests (leb 1 p && leb p (s .loops .live - 1) && ltb j (at m (5 * n + 2 * lower + 1))) (Builds q) _ same-tests
         (λ h.
         let goes : Goes (effectAt (Union p j) (s .used) n m e ps ws) = allowed-goes tests _ h tt in
         let b = allowed-law (s .used) (namedLoops (verticesOf n m) ((opened e ∷ ps) ∷ ws)) tests _ h (law (Union p j) n (s .loops) m (s .used) 0 e ps ws st goes) in
@@ -208,13 +211,14 @@ module _ (n : ℕ) (s : Front) (m : List ℕ) (e : ℕ) (ps : List Node) (ws : L
             unions = refl;
           };
           moves = λ a k.
-              allowed-moved n (s .loops) m (unionHeld n (s .loops) m p place) tests _ h tt
-              (λ x. subst (λ (y : ℕ). Moved n (s .loops) m (unionHeld n (s .loops) m p y) (effectAt (Union p j) (s .used) n m e ps ws)) (sym (place-is h))
+              allowed-moved n (s .loops) m (unionHeld n (s .loops) m p place) (placesAfter (Union p j) (topFree n (s .loops) m) e ps ws) tests _ h tt
+              (λ x. subst (λ (y : ℕ). Moved n (s .loops) m (unionHeld n (s .loops) m p y) (placesAfter (Union p j) (topFree n (s .loops) m) e ps ws) (effectAt (Union p j) (s .used) n m e ps ws)) (sym (place-is h))
               (moved-union n (s .loops) m (s .used) e ps ws st (some-free n s m e ps ws st (s .used) _ _ 0 0 1 b a) p j goes));
         }))
 
-  propose-live : (o : Operation) → Proposes n s m o (proposedBy false n (s .loops) m (s .used) o) (effectAt o (s .used) n m e ps ws)
-  unfolding atEdge
+  propose-live : (o : Operation)
+      → Proposes n s m o (placesAt o (getD (takenBy n (s .loops) m o) 0 0) e ps ws) (proposedBy false n (s .loops) m (s .used) o) (effectAt o (s .used) n m e ps ws)
+  unfolding atEdge placesAt placesAfter
   propose-live New = propose-new n s m e ps ws st
   propose-live Forward = propose-forward n s m e ps ws st
   propose-live Backward = propose-backward n s m e ps ws st
@@ -224,8 +228,9 @@ module _ (n : ℕ) (s : Front) (m : List ℕ) (e : ℕ) (ps : List Node) (ws : L
   propose-live (Union p j) = propose-union p j
   propose-live Start = refl
 
-propose-rest : (n : ℕ) (s : Front) (m : List ℕ) (o : Operation) → StandsAt n (s .loops) m [] → Proposes n s m o (proposedBy true n (s .loops) m (s .used) o) (atRest o (s .used))
-unfolding atRest startPlan places
+propose-rest : (n : ℕ) (s : Front) (m : List ℕ) (o : Operation) → StandsAt n (s .loops) m []
+    → Proposes n s m o (ringsAfter o (takenBy n (s .loops) m o) []) (proposedBy true n (s .loops) m (s .used) o) (atRest o (s .used))
+unfolding atRest startPlan places ringsAfter
 propose-rest n s m New st = refl
 propose-rest n s m Forward st = refl
 propose-rest n s m Backward st = refl
@@ -253,8 +258,8 @@ propose-rest n s m Start st = record {
 
 -- for every operation, whatever the rings of places that stand
 pub proposes : (n : ℕ) (s : Front) (m : List ℕ) (o : Operation) (rs : List Ring) → StandsAt n (s .loops) m rs
-    → Proposes n s m o (proposed n s m o) (effect o (s .used) (namedLoops (verticesOf n m) rs))
-unfolding proposed effect namedLoops namedRing
+    → Proposes n s m o (ringsAfter o (takenBy n (s .loops) m o) rs) (proposed n s m o) (effect o (s .used) (namedLoops (verticesOf n m) rs))
+unfolding proposed effect namedLoops namedRing ringsAfter
 proposes n s m o [] st = let z : eqb (s .loops .live) 0 ≡ true = ap (λ (k : ℕ). eqb k 0) (st .heads) in rw z (propose-rest n s m o st)
 proposes n s m o ([] ∷ ws) st = absurd (false≢true (st .sound .0))
 proposes n s m o ((marked e ∷ ps) ∷ ws) st = absurd (false≢true (st .sound .0))

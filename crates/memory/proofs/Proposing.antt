@@ -27,7 +27,7 @@ use Rattle.memory.specs.declared.Decided.{Decided}
 use Rattle.memory.specs.declared.Decided.the-variants.{Refused, Builds, Marks}
 use Rattle.memory.specs.Layout.{at, vertexOf, beforeOf, afterOf, openOf, verticesOf, walked}
 use Rattle.memory.specs.Stands.{StandsAt}
-use Rattle.memory.specs.Moves.{Held, markedHeld}
+use Rattle.memory.specs.Moves.{Held, markedHeld, topFree}
 use Rattle.memory.specs.Decision.{isOpenAt, isThree, allowedIf, planAt, newPlan, forwardPlan, backwardPlan, borderPlan, heldAfter}
 use Rattle.memory.proofs.Columns.{column-at}
 use Rattle.memory.proofs.Standing.{Trail, trails, walk-trail, near-trail, last-trail, start-trail}
@@ -36,6 +36,7 @@ use Rattle.memory.proofs.Relinked.{Goes, Moved, effectAt, law}
 use Rattle.memory.proofs.Simple.{moved-new, moved-forward, moved-backward}
 use Rattle.memory.proofs.Border.{moved-border}
 use Rattle.memory.proofs.Counts.{places-named, places-after}
+use Rattle.links.specs.Stores.{placesAfter, afterBorder}
 
 -- a plan's numbers are an effect's
 pub record PlanIs (p : Plan) (t : Triangle) (x y z : Side) (v a k : ℕ) : Type 0 where
@@ -47,33 +48,34 @@ pub record PlanIs (p : Plan) (t : Triangle) (x y z : Side) (v a k : ℕ) : Type 
   pub starts : p .starts ≡ a
   pub unions : p .unions ≡ k
 
-pub record Proposal (n : ℕ) (s : Front) (m : List ℕ) (o : Operation) (d : Decided) (ls : List Ring) (t : Triangle) (pq qr rp : Side) (v a k : ℕ) : Type 0 where
+-- the rings of places after it are rs
+pub record Proposal (n : ℕ) (s : Front) (m : List ℕ) (o : Operation) (rs : List Ring) (d : Decided) (ls : List Ring) (t : Triangle) (pq qr rp : Side) (v a k : ℕ) : Type 0 where
   pub plan : Plan
   pub is : d ≡ Builds plan
   pub same : PlanIs plan t pq qr rp v a k
-  pub moves : places ls ≤ n → 5 * n + 2 * length ls ≤ length m → Moved n (s .loops) m (heldAfter n s m o plan) (builds ls t pq qr rp v a k)
+  pub moves : places ls ≤ n → 5 * n + 2 * length ls ≤ length m → Moved n (s .loops) m (heldAfter n s m o plan) rs (builds ls t pq qr rp v a k)
 
-pub record MarkProposal (n : ℕ) (s : Front) (m : List ℕ) (d : Decided) (ls : List Ring) (x : Edge) (rim : ℕ) : Type 0 where
+pub record MarkProposal (n : ℕ) (s : Front) (m : List ℕ) (rs : List Ring) (d : Decided) (ls : List Ring) (x : Edge) (rim : ℕ) : Type 0 where
   pub is : d ≡ Marks (x .from) (x .to)
-  pub moves : Moved n (s .loops) m (markedHeld n (s .loops) m) (marks ls x rim)
+  pub moves : Moved n (s .loops) m (markedHeld n (s .loops) m) rs (marks ls x rim)
 
-abbrev pub Proposes : ℕ → Front → List ℕ → Operation → Decided → Effect → Type 0
-Proposes n s m o d not-allowed = d ≡ Refused 16
-Proposes n s m o d (builds ls t pq qr rp v a k) = Proposal n s m o d ls t pq qr rp v a k
-Proposes n s m o d (marks ls x rim) = MarkProposal n s m d ls x rim
+abbrev pub Proposes : ℕ → Front → List ℕ → Operation → List Ring → Decided → Effect → Type 0
+Proposes n s m o rs d not-allowed = d ≡ Refused 16
+Proposes n s m o rs d (builds ls t pq qr rp v a k) = Proposal n s m o rs d ls t pq qr rp v a k
+Proposes n s m o rs d (marks ls x rim) = MarkProposal n s m rs d ls x rim
 
 -- an operation that is allowed under a test
-pub allowed-proposes : (n : ℕ) (s : Front) (m : List ℕ) (o : Operation) (t t′ : Bool) (d : Decided) (E : Effect) → t′ ≡ t
-    → (t ≡ true → Proposes n s m o d E) → Proposes n s m o (allowedIf t′ d) (allowed t E)
+pub allowed-proposes : (n : ℕ) (s : Front) (m : List ℕ) (o : Operation) (rs : List Ring) (t t′ : Bool) (d : Decided) (E : Effect) → t′ ≡ t
+    → (t ≡ true → Proposes n s m o rs d E) → Proposes n s m o rs (allowedIf t′ d) (allowed t E)
 unfolding allowed allowedIf
-allowed-proposes n s m o true t′ d E e f = rw e (f refl)
-allowed-proposes n s m o false t′ d E e f = rw e
+allowed-proposes n s m o rs true t′ d E e f = rw e (f refl)
+allowed-proposes n s m o rs false t′ d E e f = rw e
 
-pub allowed-moved : (n : ℕ) (l : Loops) (m : List ℕ) (h : Held) (t : Bool) (B : Effect) → t ≡ true → Goes B → (Goes (allowed t B) → Moved n l m h (allowed t B))
-    → Moved n l m h B
+pub allowed-moved : (n : ℕ) (l : Loops) (m : List ℕ) (h : Held) (rs : List Ring) (t : Bool) (B : Effect) → t ≡ true → Goes B
+    → (Goes (allowed t B) → Moved n l m h rs (allowed t B)) → Moved n l m h rs B
 unfolding allowed
-allowed-moved n l m h true B e g f = f g
-allowed-moved n l m h false B e g f = absurd (false≢true e)
+allowed-moved n l m h rs true B e g f = f g
+allowed-moved n l m h rs false B e g f = absurd (false≢true e)
 
 pub allowed-law : (u : ℕ) (before : List Ring) (t : Bool) (B : Effect) → t ≡ true → effects.Law u before (allowed t B) → effects.Law u before B
 unfolding allowed
@@ -176,7 +178,7 @@ module _ (n : ℕ) (s : Front) (m : List ℕ) (e : ℕ) (ps : List Node) (ws : L
         room n (s .loops) m ((opened e ∷ ps) ∷ ws) st,
       )
 
-  pub propose-new : Proposes n s m New (newPlan (s .loops) m (s .used)) (effectAt New (s .used) n m e ps ws)
+  pub propose-new : Proposes n s m New (placesAfter New (topFree n (s .loops) m) e ps ws) (newPlan (s .loops) m (s .used)) (effectAt New (s .used) n m e ps ws)
   unfolding newPlan atEdge
   propose-new = record {
     plan = planAt (s .loops) m (s .used) 1 1 1 0 0;
@@ -223,7 +225,7 @@ module _ (n : ℕ) (s : Front) (m : List ℕ) (e : ℕ) (ps : List Node) (ws : L
       and-cong (leb 3 (s .loops .size) && a) (not (isThree (s .loops) m)) (leb 3 k && b) (not (eqb k 3 && allOpen (namedRing (verticesOf n m) ps)))
       (and-cong (leb 3 (s .loops .size)) a (leb 3 k) b (ap (leb 3) size-is) (λ h. f (three h))) (λ h. ap not three-same)
 
-  pub propose-forward : Proposes n s m Forward (forwardPlan (s .loops) m) (effectAt Forward (s .used) n m e ps ws)
+  pub propose-forward : Proposes n s m Forward (placesAfter Forward 0 e ps ws) (forwardPlan (s .loops) m) (effectAt Forward (s .used) n m e ps ws)
   unfolding forwardPlan atEdge
   propose-forward =
       let p : Plan = planAt (s .loops) m (vertexOf m (afterOf m (afterOf m (s .loops .current)))) 1 0 0 0 0 in
@@ -233,13 +235,13 @@ module _ (n : ℕ) (s : Front) (m : List ℕ) (e : ℕ) (ps : List Node) (ws : L
       let t : Bool = leb 3 k && y && not (eqb k 3 && allOpen (namedRing (verticesOf n m) ps)) in
       let t′ : Bool = leb 3 (s .loops .size) && x && not (isThree (s .loops) m) in
       rw (three-tests (leb 3 (s .loops .size)) x (not (isThree (s .loops) m)) (Builds p))
-      (allowed-proposes n s m Forward t t′ (Builds p) _ (near-tests x y (λ h. open-f (omega (arith, h))))
+      (allowed-proposes n s m Forward (placesAfter Forward 0 e ps ws) t t′ (Builds p) _ (near-tests x y (λ h. open-f (omega (arith, h))))
       (λ h. record {
         plan = p;
         is = refl;
         same = record { triangle = corners _ _ (name-c (omega (arith, three (and-left (leb 3 k) y (and-left (leb 3 k && y) _ h))))); pq = refl; qr = refl; rp = refl; vertices = refl; starts = refl; unions = refl };
         moves = λ i j.
-            allowed-moved n (s .loops) m (heldAfter n s m Forward p) t _ h tt (moved-forward n (s .loops) m (s .used) e ps ws st);
+            allowed-moved n (s .loops) m (heldAfter n s m Forward p) (placesAfter Forward 0 e ps ws) t _ h tt (moved-forward n (s .loops) m (s .used) e ps ws st);
       }))
 
   at-last : 1 ≤ length ps → beforeOf m (s .loops .current) ≡ lastVertex ps
@@ -254,7 +256,7 @@ module _ (n : ℕ) (s : Front) (m : List ℕ) (e : ℕ) (ps : List Node) (ws : L
   name-last h =
       ap (vertexOf m) (at-last h) ∙ name (lastVertex ps) (last-trail n m e ps (ring .1) h .near) ∙ sym (named-last (verticesOf n m) ps h)
 
-  pub propose-backward : Proposes n s m Backward (backwardPlan (s .loops) m) (effectAt Backward (s .used) n m e ps ws)
+  pub propose-backward : Proposes n s m Backward (placesAfter Backward 0 e ps ws) (backwardPlan (s .loops) m) (effectAt Backward (s .used) n m e ps ws)
   unfolding backwardPlan atEdge
   propose-backward =
       let p : Plan = planAt (s .loops) m (vertexOf m (beforeOf m (s .loops .current))) 0 1 0 0 0 in
@@ -264,21 +266,21 @@ module _ (n : ℕ) (s : Front) (m : List ℕ) (e : ℕ) (ps : List Node) (ws : L
       let t : Bool = leb 3 k && y && not (eqb k 3 && allOpen (namedRing (verticesOf n m) ps)) in
       let t′ : Bool = leb 3 (s .loops .size) && x && not (isThree (s .loops) m) in
       rw (three-tests (leb 3 (s .loops .size)) x (not (isThree (s .loops) m)) (Builds p))
-      (allowed-proposes n s m Backward t t′ (Builds p) _ (near-tests x y (λ h. open-last (omega (arith, h))))
+      (allowed-proposes n s m Backward (placesAfter Backward 0 e ps ws) t t′ (Builds p) _ (near-tests x y (λ h. open-last (omega (arith, h))))
       (λ h. record {
         plan = p;
         is = refl;
         same = record { triangle = corners _ _ (name-last (omega (arith, three (and-left (leb 3 k) y (and-left (leb 3 k && y) _ h))))); pq = refl; qr = refl; rp = refl; vertices = refl; starts = refl; unions = refl };
         moves = λ i j.
-            allowed-moved n (s .loops) m (heldAfter n s m Backward p) t _ h tt (moved-backward n (s .loops) m (s .used) e ps ws st);
+            allowed-moved n (s .loops) m (heldAfter n s m Backward p) (placesAfter Backward 0 e ps ws) t _ h tt (moved-backward n (s .loops) m (s .used) e ps ws st);
       }))
 
   marking-proposes : (r : Ring) (rs : List Ring) (x : Edge) (d : Decided) → d ≡ Marks (x .from) (x .to)
-      → Moved n (s .loops) m (markedHeld n (s .loops) m) (marking r rs x) → Proposes n s m Border d (marking r rs x)
+      → Moved n (s .loops) m (markedHeld n (s .loops) m) (afterBorder e ps ws) (marking r rs x) → Proposes n s m Border (afterBorder e ps ws) d (marking r rs x)
   marking-proposes [] rs x d i h = record { is = i; moves = h }
   marking-proposes (p ∷ r) rs x d i h = record { is = i; moves = h }
 
-  pub propose-border : Proposes n s m Border (borderPlan (s .loops) m) (effectAt Border (s .used) n m e ps ws)
+  pub propose-border : Proposes n s m Border (afterBorder e ps ws) (borderPlan (s .loops) m) (effectAt Border (s .used) n m e ps ws)
   unfolding borderPlan atEdge
   propose-border =
       marking-proposes (shown (onward [] (namedRing (verticesOf n m) ps ++ (marked (getD (verticesOf n m) e 0) ∷ [])))) (namedLoops (verticesOf n m) ws)

@@ -53,12 +53,13 @@ unfolding namedLoops
 current-names vs [] h = tt
 current-names vs (l ∷ ls) h = (named-firstOpen vs l ∙ h .0, current-names vs ls (h .1), named-spaced vs l false (h .2))
 
--- the loops of an effect stand in the memory
-pub record Moved (n : ℕ) (s : Loops) (m : List ℕ) (h : Held) (E : Effect) : Type 0 where
-  pub rings : List Ring
+-- the loops of an effect stand in the memory, as these rings of places
+pub record Moved (n : ℕ) (s : Loops) (m : List ℕ) (h : Held) (rings : List Ring) (E : Effect) : Type 0 where
   pub lengths : length (h .memory) ≡ length m
   -- nothing changes past the waiting loops
   pub rest : (i : ℕ) → 5 * n + 2 * s .live ≤ i → at (h .memory) i ≡ at m i
+  -- nor in the part of the stack that stays
+  pub stack : (j : ℕ) → j < s .free → j < h .loops .free → at (h .memory) (4 * n + j) ≡ at m (4 * n + j)
   pub stands : StandsAt n (h .loops) (h .memory) rings
   pub loops : HasLoops (namedLoops (verticesOf n (h .memory)) rings) E
 

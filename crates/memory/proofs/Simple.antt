@@ -148,13 +148,14 @@ module _ (n : ℕ) (s : Loops) (m : List ℕ) (u e : ℕ) (ps : List Node) (ws :
         let b : afterOf m e ≡ startOr e ps = ring .0 .fore in
         rw (a, b)
 
-    pub moved-new : Moved n s m (newHeld n s m u) (effectAt New u n m e ps ws)
+    pub moved-new : Moved n s m (newHeld n s m u) (placesAfter New (topFree n s m) e ps ws) (effectAt New u n m e ps ws)
+    unfolding q
     moved-new =
-        subst (λ (h : Held). Moved n s m h (effectAt New u n m e ps ws)) (sym new-held)
+        subst (λ (h : Held). Moved n s m h (placesAfter New (topFree n s m) e ps ws) (effectAt New u n m e ps ws)) (sym new-held)
         (record {
-          rings = placesAfter New q e ps ws;
           lengths = same-long;
           rest = λ i h. above i (omega arith);
+          stack = λ j h k. above (4 * n + j) (omega arith);
           stands = stands;
           loops = linked .loops;
         })
@@ -193,12 +194,14 @@ module _ (n : ℕ) (s : Loops) (m : List ℕ) (u e : ℕ) (ps : List Node) (ws :
         (same-vertices n links-done left records ∙ links-made .vertices ∙ sym vertices)
 
     pub freeing : (c k : ℕ) → c ≡ startOr 0 l → k ≡ length l
-        → Moved n s m (held (s .live) c k (s .free + 1) (freed n (edgesStored (stores o 0 e ps ws) m) (s .free) x)) (effectAt o u n m e ps ws)
+        → Moved n s m (held (s .live) c k (s .free + 1) (freed n (edgesStored (stores o 0 e ps ws) m) (s .free) x)) (placesAfter o 0 e ps ws)
+        (effectAt o u n m e ps ws)
     unfolding left links-done
     freeing c k ec ek = record {
-      rings = placesAfter o 0 e ps ws;
       lengths = length-set links-done (4 * n + s .free) x ∙ links-made .lengths;
       rest = λ i h. waiting-stays i (omega arith);
+      stack = λ j h l.
+          getD-set-other links-done (4 * n + s .free) (4 * n + j) x 0 (λ z. omega (arith, z, h)) ∙ links-made .above (4 * n + j) (omega arith);
       stands = record {
         long = omega (arith, st .long, links-made .lengths, length-set links-done (4 * n + s .free) x);
         holds = again .holds;
@@ -222,22 +225,22 @@ module _ (n : ℕ) (s : Loops) (m : List ℕ) (u e : ℕ) (ps : List Node) (ws :
       loops = again .loops;
     }
 
-  pub moved-forward : Goes (effectAt Forward u n m e ps ws) → Moved n s m (forwardHeld n s m) (effectAt Forward u n m e ps ws)
+  pub moved-forward : Goes (effectAt Forward u n m e ps ws) → Moved n s m (forwardHeld n s m) (placesAfter Forward 0 e ps ws) (effectAt Forward u n m e ps ws)
   unfolding stores verticesAfter placesAfter
   moved-forward goes =
       let k : 2 ≤ length ps = fit Forward n s m u 0 e ps ws st goes in
-      subst (λ (h : Held). Moved n s m h (effectAt Forward u n m e ps ws)) (sym (forward-stores (omega (arith, k))))
+      subst (λ (h : Held). Moved n s m h (placesAfter Forward 0 e ps ws) (effectAt Forward u n m e ps ws)) (sym (forward-stores (omega (arith, k))))
       (freeing Forward (λ t. t) tt goes (opened e ∷ drop 1 ps) (startOr e ps)
       (ring .0 .near, near-trail n m e ps 1 (ring .1) (omega (arith, k)), tt) refl refl
       (λ y. placed-forward 0 y (omega (arith, k))) (s .current) (s .size - 1) (st .heads .current)
       (omega (arith, k, st .heads .size, length-drop 1 ps)))
 
-  pub moved-backward : Goes (effectAt Backward u n m e ps ws) → Moved n s m (backwardHeld n s m) (effectAt Backward u n m e ps ws)
+  pub moved-backward : Goes (effectAt Backward u n m e ps ws) → Moved n s m (backwardHeld n s m) (placesAfter Backward 0 e ps ws) (effectAt Backward u n m e ps ws)
   unfolding stores verticesAfter placesAfter
   moved-backward goes =
       let o : lastOpen ps ≡ true = fit Backward n s m u 0 e ps ws st goes in
       let l : ℕ = lastVertex ps in
       let k : suc (length (front ps)) ≡ length ps = front-length ps o in
-      subst (λ (h : Held). Moved n s m h (effectAt Backward u n m e ps ws)) (sym (backward-stores (omega (arith, k))))
+      subst (λ (h : Held). Moved n s m h (placesAfter Backward 0 e ps ws) (effectAt Backward u n m e ps ws)) (sym (backward-stores (omega (arith, k))))
       (freeing Backward (λ t. t) tt goes (opened l ∷ front ps) e (last-trail n m e ps (ring .1) (omega (arith, k)) .near, after-near, tt) refl refl
       (λ y. placed-backward 0 y o) l (s .size - 1) refl (omega (arith, st .heads .size, k)))

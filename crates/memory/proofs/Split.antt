@@ -21,7 +21,7 @@ use Rattle.links.proofs.Surgery.{end-free}
 use Rattle.memory.specs.declared.Loops.{Loops}
 use Rattle.memory.specs.Layout.{at, stacked, waits}
 use Rattle.memory.specs.Stands.{Waits, StandsAt}
-use Rattle.memory.specs.Moves.{held, doubled, splitBy, splitHeld}
+use Rattle.memory.specs.Moves.{held, doubled, splitBy, splitHeld, topFree}
 use Rattle.memory.proofs.Columns.{same-vertices, same-links}
 use Rattle.memory.proofs.Standing.{Hop, near-trail}
 use Rattle.memory.proofs.Room.{room}
@@ -123,18 +123,20 @@ module _ (n : ℕ) (s : Loops) (m : List ℕ) (u e : ℕ) (ps : List Node) (ws :
 
     halves : (p k : ℕ) (l l′ : Ring) (c z : ℕ) → placesAfter (Split i) second e ps ws ≡ l ∷ (l′ ∷ ws) → c ≡ startOr 0 l → z ≡ length l
         → p ≡ startOr 0 l′ → k ≡ length l′
-        → Moved n s m (held (s .live + 1) c z (s .free - 1) (waits n memory₁ (s .live - 1) p k)) (effectAt (Split i) u n m e ps ws)
+        → Moved n s m (held (s .live + 1) c z (s .free - 1) (waits n memory₁ (s .live - 1) p k)) (placesAfter (Split i) second e ps ws)
+        (effectAt (Split i) u n m e ps ws)
     halves p k l l′ c z eo ec ez ep ek =
         let m₂ : List ℕ = waits n memory₁ (s .live - 1) p k in
         let same₅ : (x : ℕ) → x < 5 * n → at m₂ x ≡ at memory₁ x =
         λ x y. waits-other n memory₁ (s .live - 1) p k x (λ t. omega (arith, t)) (λ t. omega (arith, t)) in
         let r = subst (λ (rs : List Ring). Relinked n m₂ rs (effectAt (Split i) u n m e ps ws)) eo (any m₂ (λ x y. same₅ x (omega arith))) in
-        record {
-          rings = l ∷ (l′ ∷ ws);
+        subst (λ (rs : List Ring). Moved n s m (held (s .live + 1) c z (s .free - 1) m₂) rs (effectAt (Split i) u n m e ps ws)) (sym eo)
+        (record {
           lengths = waits-length n memory₁ (s .live - 1) p k ∙ long₁;
           rest = λ x y.
               waits-other n memory₁ (s .live - 1) p k x (λ t. omega (arith, t, y, st .heads .live)) (λ t. omega (arith, t, y, st .heads .live))
               ∙ above₁ x (omega arith);
+          stack = λ j x y. same₅ (4 * n + j) (omega (arith, x, room n s m ((opened e ∷ ps) ∷ ws) st)) ∙ above₁ (4 * n + j) (omega arith);
           stands = record {
             long = omega (arith, more, long₁, waits-length n memory₁ (s .live - 1) p k);
             holds = r .holds;
@@ -152,16 +154,16 @@ module _ (n : ℕ) (s : Loops) (m : List ℕ) (u e : ℕ) (ps : List Node) (ws :
             sound = r .current;
           };
           loops = r .loops;
-        }
+        })
 
     in-order : (t : Bool) → placesAfter (Split i) second e ps ws ≡ inOrder t (opened second ∷ low) (opened e ∷ high) ws
-        → Moved n s m (splitBy t n s memory₁ i second) (effectAt (Split i) u n m e ps ws)
+        → Moved n s m (splitBy t n s memory₁ i second) (placesAfter (Split i) second e ps ws) (effectAt (Split i) u n m e ps ws)
     unfolding inOrder
     in-order true eo =
         halves (s .current) (s .size - i) (opened second ∷ low) (opened e ∷ high) second (i + 1) eo refl (sym lower-size) (st .heads .current) (sym higher-size)
     in-order false eo =
         halves second (i + 1) (opened e ∷ high) (opened second ∷ low) (s .current) (s .size - i) eo (st .heads .current) (sym higher-size) refl (sym lower-size)
 
-    pub moved-split : Moved n s m (splitHeld n s m i (vertexAt ps i)) (effectAt (Split i) u n m e ps ws)
+    pub moved-split : Moved n s m (splitHeld n s m i (vertexAt ps i)) (placesAfter (Split i) (topFree n s m) e ps ws) (effectAt (Split i) u n m e ps ws)
     unfolding splitHeld memory₁ third second q
     moved-split = in-order (leb (i + 1) (s .size - i)) order

@@ -163,12 +163,14 @@ module _ (n : ℕ) (s : Loops) (m : List ℕ) (st : StandsAt n s m []) (some : 3
       sound = (refl, tt, tt);
     }
 
-    pub moved-start : Moved n s m (startHeld n s m u) (atRest Start u)
+    pub moved-start : Moved n s m (startHeld n s m u)
+        ((opened (at m (4 * n + (s .free - 1))) ∷ (opened (at m (4 * n + (s .free - 2))) ∷ (opened (at m (4 * n + (s .free - 3))) ∷ []))) ∷ [])
+        (atRest Start u)
     unfolding startHeld after arcs m₃ m₂ m₁ a b c atRest ring
     moved-start = record {
-      rings = ring;
       lengths = made .lengths ∙ long₃;
       rest = λ i h. made .above i (omega arith) ∙ above₃ i (omega arith);
+      stack = λ j h k. made .above (4 * n + j) (omega arith) ∙ above₃ (4 * n + j) (omega arith);
       stands = stands;
       loops = names;
     }

@@ -22,7 +22,7 @@ use Rattle.links.proofs.Surgery.{end-free}
 use Rattle.memory.specs.declared.Loops.{Loops}
 use Rattle.memory.specs.Layout.{at, verticesOf, stacked, movedDown}
 use Rattle.memory.specs.Stands.{Waits, StandsAt}
-use Rattle.memory.specs.Moves.{doubled, unionHeld}
+use Rattle.memory.specs.Moves.{doubled, unionHeld, topFree}
 use Rattle.memory.proofs.Columns.{same-vertices, same-links}
 use Rattle.memory.proofs.Standing.{Hop, Trail, trails, trail-at, near-trail}
 use Rattle.memory.proofs.Room.{room}
@@ -169,12 +169,13 @@ module _ (n : ℕ) (s : Loops) (m : List ℕ) (u e : ℕ) (ps : List Node) (ws :
       sound = linked .current;
     }
 
-    pub moved-union : Moved n s m (unionHeld n s m p (vertexAt (loopAt ws (p - 1)) j)) (effectAt (Union p j) u n m e ps ws)
+    pub moved-union : Moved n s m (unionHeld n s m p (vertexAt (loopAt ws (p - 1)) j)) (placesAfter (Union p j) (topFree n s m) e ps ws)
+        (effectAt (Union p j) u n m e ps ws)
     unfolding unionHeld memory₂ memory₁ lower meet joined doubles q
     moved-union = record {
-      rings = placesAfter (Union p j) doubles e ps ws;
       lengths = down .lengths ∙ long₁;
       rest = λ i h. down .after i (omega (arith, h, lower-is, st .heads .live)) ∙ above₁ i (omega arith);
+      stack = λ i h k. down .before (4 * n + i) (omega (arith, h, room n s m ((opened e ∷ ps) ∷ ws) st)) ∙ above₁ (4 * n + i) (omega arith);
       stands = stands;
       loops = linked .loops;
     }

@@ -15,6 +15,7 @@ use Rattle.memory.specs.declared.Decided.the-variants.{Refused, Builds, 
 use Rattle.memory.specs.Layout.{at}
 use Rattle.memory.specs.Stands.{loopsIn, Stands}
 use Rattle.memory.specs.Moves.{markedHeld}
+use Rattle.memory.specs.Touched.{Rearranged}
 use Rattle.memory.specs.Decision.{sideOf, heldAfter, builtFront, markedFront}
 
 -- the memory has room for n places and the loops stated
@@ -64,12 +65,14 @@ pub record BuildsIt (n : ℕ) (s : Front) (m : List ℕ) (M : Machine) (o : Oper
       ≡ test (edgeRule (p .triangle) (sideOf (p .pq)) (sideOf (p .qr)) (sideOf (p .rp)) (M .triangles)) 18 (built (p .triangle) next)
   pub keeps : Keeps n (builtFront n s p (heldAfter n s m o p .loops)) (heldAfter n s m o p .memory) next
   pub unchanged : Unchanged n s m (heldAfter n s m o p .memory)
+  pub places : Rearranged n (s .loops) m o (heldAfter n s m o p)
 
 pub record MarksIt (n : ℕ) (s : Front) (m : List ℕ) (M : Machine) (o : Operation) (x y : ℕ) : Type 0 where
   pub next : Machine
   pub step : operation M o ≡ declared (edge x y) next
   pub keeps : Keeps n (markedFront n s (markedHeld n (s .loops) m .loops)) (markedHeld n (s .loops) m .memory) next
   pub unchanged : Unchanged n s m (markedHeld n (s .loops) m .memory)
+  pub places : Rearranged n (s .loops) m o (markedHeld n (s .loops) m)
 
 -- what a decision says of the machine's call
 abbrev pub Decides : ℕ → Front → List ℕ → Machine → Operation → Decided → Type 0

@@ -1,6 +1,7 @@
 pub mod Layout
 pub mod Stands
 pub mod Moves
+pub mod Touched
 pub mod Decision
 pub mod Keeps
 pub mod Near

@@ -5,7 +5,7 @@ use Prim.Native.Nat.{ℕ, zero, suc, _+_, _*_, _≤_, _<_}
 use native.Mathlib.Omega.{arith}
 use mathlib.Core.Bool.{Bool, true, false, _&&_, false≢true}
 use mathlib.Core.List.{List}
-use mathlib.Core.Path.{_≡_, refl, sym, ap, _∙_, subst}
+use mathlib.Core.Path.{_≡_, refl, sym, ap, ap₂, _∙_, subst}
 use lib.Dec.{eqb, ltb, leb}
 use lib.ListN.{length, getD, replicate}
 use borrow.Author.Tests.{ltb-true, ltb-false, leb-true, eq-eqb, ne-eqb}
@@ -16,7 +16,7 @@ use Rattle.rules.specs.Count.{num, occurs}
 use Rattle.rules.specs.Machine.{roomy}
 use Rattle.rules.specs.Buffer.{lengths}
 use Rattle.rules.specs.Build.{viewed}
-use Rattle.rules.specs.View.{placesOf, loopsOf, trianglesBuilt, view}
+use Rattle.rules.specs.View.{placeRings, placesOf, loopsOf, trianglesBuilt, view}
 use Rattle.rules.specs.Test21.{countsFit, sumsFit, linksFit, trianglesFit, sound}
 use Rattle.book.specs.Consistent.{AllCurrent}
 use Rattle.book.proofs.Counting.{and-left, and-right}
@@ -29,9 +29,11 @@ use Rattle.memory.specs.Layout.{at, openOf, column, verticesOf, linksOf, stacke
 use Rattle.memory.specs.Stands.{ringsIn, loopsIn, Waits, Named, StandsAt, Stands}
 use Rattle.memory.specs.Keeps.{Roomy, Keeps, Ready}
 use Rattle.memory.proofs.Columns.{column-same}
-use Rattle.memory.proofs.Standing.{rings-read}
+use Rattle.memory.proofs.Standing.{trails, rings-read}
 use Rattle.memory.proofs.Relinked.{current-places}
 use Rattle.reading.specs.Reading.{lent, SameRecords, Passes}
+use Rattle.reading.proofs.Records.{all-alike}
+use Rattle.reading.proofs.Closing.{Has, rings-has}
 use Rattle.reading.proofs.Current.{current-loops}
 use Rattle.opening.specs.Marks.{numbersFit, loopsMark, allFlagged, Marked}
 use Rattle.opening.specs.Front.{Freed, Waited, topOf, frontOf}
@@ -244,6 +246,22 @@ module _ (b : Builder) (xs m s : List ℕ) (k : ℕ) (m₁ m₂ : List ℕ) (one
   stands : Stands maxPlaces loops m₂
   stands = subst (StandsAt maxPlaces loops m₂) (sym rings-in) stands-at
 
+  has-by : (n : ℕ) → n ≤ b .live → Has b (ringsOf b m n)
+  unfolding ringsOf
+  has-by zero h = tt
+  has-by (suc n) h =
+      let r = each-returns m b (b .live) (fit .fits) n (omega (arith, h)) in (
+        ap (λ (j : ℕ). getD (b .current) j 0) (rings-length b m n) ∙ sym (ring-start m b n r),
+        ap (λ (j : ℕ). getD (b .sizes) j 0) (rings-length b m n) ∙ sym (ring-length m b n),
+        has-by n (omega (arith, h)),
+      )
+
+  place-rings : placeRings b ps (b .live) ≡ ringsIn maxPlaces loops m₂
+  place-rings =
+      ap₂ (λ (qs : List Place) (n : ℕ). placeRings b qs n) (sym (all-alike m m₂ same-records)) (sym (rings-length b m (b .live)))
+      ∙ rings-has b maxPlaces m₂ (ringsOf b m (b .live)) (has-by (b .live) (omega arith)) (trails maxPlaces loops m₂ (ringsOf b m (b .live)) stands-at)
+      ∙ sym rings-in
+
   room : Roomy maxPlaces (frontOf b k) m₂
   room = record {
     few = omega arith;
@@ -295,6 +313,7 @@ module _ (b : Builder) (xs m s : List ℕ) (k : ℕ) (m₁ m₂ : List ℕ) (one
     whole = refl;
     ready = ready;
     keeps = keeps;
+    rings = place-rings;
     lengths = waited .lengths ∙ freed .lengths;
     same = same-records;
   })

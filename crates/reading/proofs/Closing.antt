@@ -1,12 +1,12 @@
 -- The way back from the core: the builder's state that `builderOf` gives is read as the machine, and its links pass 21.
 -- Assumes nothing.
-use Prim.Native.Nat.{ℕ, zero, suc, _+_, _*_, _≤_, _<_}
+use Prim.Native.Nat.{ℕ, zero, suc, _+_, _-_, _*_, _≤_, _<_}
 use native.Mathlib.Omega.{arith}
 use mathlib.Core.Bool.{Bool, true, false, _&&_}
 use mathlib.Core.List.{List, [], _∷_, _++_}
 use mathlib.Core.Path.{_≡_, refl, sym, ap, ap₂, _∙_, subst}
 use lib.Dec.{eqb, leb}
-use lib.ListN.{length, getD, set, length-set, length-replicate}
+use lib.ListN.{length, getD, set, drop, replicate, length-set, length-replicate}
 use borrow.Author.Tests.{eqb-true, eqb-false}
 use lib.Seq.{getD-set-same, getD-set-other}
 use Rattle.rules.specs.declared.Builder.{Builder}
@@ -14,7 +14,7 @@ use Rattle.rules.specs.Limits.{maxPlaces, maxLoops}
 use Rattle.rules.specs.Ring.{Ring, startOr, places}
 use Rattle.rules.specs.Machine.{Machine}
 use Rattle.rules.specs.Check.{allBelow}
-use Rattle.rules.specs.View.{placeAt, follow, followed, nodes, placesOf, loopsOf, trianglesBuilt, view}
+use Rattle.rules.specs.View.{placeAt, follow, followed, nodes, placeNodes, placeRings, placesOf, loopsOf, trianglesBuilt, view}
 use Rattle.rules.specs.Test21.{sizesOf, apart, placesFit, loopsFit, linksFit}
 use Rattle.book.specs.Consistent.{AllCurrent}
 use Rattle.book.specs.Numbers.{LoopsBelow}
@@ -26,9 +26,10 @@ use Rattle.memory.specs.declared.Front.{Front}
 use Rattle.memory.specs.Layout.{at, verticesOf}
 use Rattle.memory.specs.Stands.{ringsIn, Waits, Named, StandsAt}
 use Rattle.memory.specs.Keeps.{Keeps}
-use Rattle.memory.proofs.Standing.{Trail, Trails, apart as stands-apart, trails}
+use Rattle.memory.proofs.Standing.{Trail, Trails, apart as stands-apart, trails, rings-read}
 use Rattle.reading.specs.Walks.{ringPlaces, ringsPlaces}
 use Rattle.reading.specs.Closing.{waitingRow, liveRow, waitingAt, builderOf, Closes}
+use Rattle.reading.proofs.Rings.{trail-nodes}
 use Rattle.reading.proofs.Trails.{both, follow-trail, nodes-trail, loop-fits, rings-apart, rings-below, rings-fit}
 
 -- the rows: the waiting loops' numbers, and the current one's
@@ -62,6 +63,34 @@ module _ (m : List ℕ) (a : ℕ) where
   unfolding liveRow
   live-last k x l = getD-set-same (waitingRow m a k) k x 0 (omega (arith, l, waiting-length k))
 
+-- past the live loops the rows are zero
+drop-past : (xs : List ℕ) (k v : ℕ) → drop (suc k) (set xs k v) ≡ drop (suc k) xs
+drop-past [] k v = refl
+drop-past (x ∷ xs) zero v = refl
+drop-past (x ∷ xs) (suc k) v = drop-past xs k v
+
+drop-next : (xs : List ℕ) (k j : ℕ) → drop k xs ≡ replicate (suc j) 0 → drop (suc k) xs ≡ replicate j 0
+drop-next [] zero j h = ap (drop 1) h
+drop-next [] (suc k) j h = ap (drop 1) h
+drop-next (x ∷ xs) zero j h = ap (drop 1) h
+drop-next (x ∷ xs) (suc k) j h = drop-next xs k j h
+
+waiting-past : (m : List ℕ) (a k : ℕ) → k ≤ maxLoops → drop k (waitingRow m a k) ≡ replicate (maxLoops - k) 0
+unfolding waitingRow
+waiting-past m a zero h = refl
+waiting-past m a (suc k) h =
+    let e : maxLoops - k ≡ suc (maxLoops - suc k) = omega (arith, h) in
+    drop-past (waitingRow m a k) k (at m (a + 2 * k))
+    ∙ drop-next (waitingRow m a k) k (maxLoops - suc k) (waiting-past m a k (omega (arith, h)) ∙ ap (λ (j : ℕ). replicate j 0) e)
+
+live-past : (m : List ℕ) (a k x : ℕ) → k ≤ maxLoops → drop k (liveRow m a k x) ≡ replicate (maxLoops - k) 0
+unfolding liveRow
+live-past m a zero x h = refl
+live-past m a (suc k) x h =
+    let e : maxLoops - k ≡ suc (maxLoops - suc k) = omega (arith, h) in
+    drop-past (waitingRow m a k) k x
+    ∙ drop-next (waitingRow m a k) k (maxLoops - suc k) (waiting-past m a k (omega (arith, h)) ∙ ap (λ (j : ℕ). replicate j 0) e)
+
 -- the builder's state has these loops: the place where each one's current edge starts, and how many places it has
 abbrev pub Has : Builder → List Ring → Type 0
 Has b [] = Unit {0}
@@ -78,7 +107,7 @@ module _ (b : Builder) (n : ℕ) (m : List ℕ) where
   follow-ring [] t = refl
   follow-ring (p ∷ ps) t = follow-trail n m (p ∷ ps) (startOr 0 (p ∷ ps)) t
 
-  loop-has : (l : Ring) (k : ℕ) → getD (b .current) k 0 ≡ startOr 0 l → getD (b .sizes) k 0 ≡ length l → Trail n m l (startOr 0 l)
+  pub loop-has : (l : Ring) (k : ℕ) → getD (b .current) k 0 ≡ startOr 0 l → getD (b .sizes) k 0 ≡ length l → Trail n m l (startOr 0 l)
       → follow (records n m) (getD (b .sizes) k 0) (getD (b .current) k 0) ≡ ringPlaces l
   loop-has l k c s t = ap₂ (follow (records n m)) s c ∙ follow-ring l t
 
@@ -95,6 +124,14 @@ module _ (b : Builder) (n : ℕ) (m : List ℕ) where
       ap₂ (λ (x : Ring) (xs : List Ring). x ∷ xs)
       (ap (nodes (records n m)) (loop-has l (length ls) (h .0) (h .1) (t .0)) ∙ nodes-trail n m l (startOr 0 l) (t .0))
       (loops-has ls (h .2) (t .1))
+
+  pub rings-has : (rs : List Ring) → Has b rs → Trails n m rs → placeRings b (records n m) (length rs) ≡ rs
+  unfolding placeRings
+  rings-has [] h t = refl
+  rings-has (l ∷ ls) h t =
+      ap₂ (λ (x : Ring) (xs : List Ring). x ∷ xs)
+      (ap (placeNodes (records n m)) (loop-has l (length ls) (h .0) (h .1) (t .0)) ∙ trail-nodes n m l (startOr 0 l) (t .0))
+      (rings-has ls (h .2) (t .1))
 
   pub fits-has : (rs : List Ring) → Has b rs → Trails n m rs → AllCurrent rs → loopsFit b (records n m) (length rs) ≡ true
   unfolding loopsFit
@@ -121,7 +158,7 @@ module _ (f : Front) (m : List ℕ) (few : f .loops .live ≤ maxLoops) where
         waiting-has k e ws (omega (arith, h)) (w .2),
       )
 
-  builder-has : (rs : List Ring) → Named maxPlaces (f .loops) m rs → Has (builderOf f m) rs
+  pub builder-has : (rs : List Ring) → Named maxPlaces (f .loops) m rs → Has (builderOf f m) rs
   unfolding builderOf
   builder-has [] h = tt
   builder-has (l ∷ ws) h =
@@ -134,7 +171,7 @@ module _ (f : Front) (m : List ℕ) (few : f .loops .live ≤ maxLoops) where
         waiting-has (length ws) e ws (omega arith) (h .waiting),
       )
 
-named-lives-by : (n : ℕ) (s : Loops) (m : List ℕ) (rs : List Ring) → Named n s m rs → s .live ≡ length rs
+pub named-lives-by : (n : ℕ) (s : Loops) (m : List ℕ) (rs : List Ring) → Named n s m rs → s .live ≡ length rs
 named-lives-by n s m [] h = h
 named-lives-by n s m (l ∷ ws) h = h .live
 
@@ -206,6 +243,11 @@ module _ (f : Front) (m xs : List ℕ) (M : Machine) (k : Keeps maxPlaces f m M)
     places =
         ap (sizesOf (builderOf f m)) live-is ∙ sizes-has (builderOf f m) maxPlaces m rs has-rings
         ∙ sym (ap places e ∙ named-places (verticesOf maxPlaces m) rs);
+    rings =
+        ap (placeRings (builderOf f m) (records maxPlaces m)) live-is ∙ rings-has (builderOf f m) maxPlaces m rs has-rings trails-are
+        ∙ sym (rings-read maxPlaces (f .loops) m rs st);
+    currents-past = live-past m waitingAt (f .loops .live) (f .loops .current) few;
+    sizes-past = live-past m (waitingAt + 1) (f .loops .live) (f .loops .size) few;
     live = live-is ∙ sym (ap length e ∙ named-lives (verticesOf maxPlaces m) rs);
     stated = refl;
     used = refl;

@@ -2,6 +2,7 @@ pub mod Records
 pub mod Walks
 pub mod Trails
 pub mod Closing
+pub mod Rings
 pub mod Flags
 pub mod Alike
 pub mod Lifting

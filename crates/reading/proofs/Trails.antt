@@ -113,7 +113,7 @@ module _ (n : ℕ) (m : List ℕ) where
       plus : 4 * vertex p ≡ 4 * vertex p + 0
       plus = omega arith
 
-  flag-at : (x : ℕ) (o : Bool) → x < n → openOf m x ≡ num o → placeAt (records n m) x .«open» ≡ o
+  pub flag-at : (x : ℕ) (o : Bool) → x < n → openOf m x ≡ num o → placeAt (records n m) x .«open» ≡ o
   flag-at x o h e = ap (λ (r : Place). r .«open») (records-at n m x h) ∙ ap isOne e ∙ one-is o
     where
       one-is : (t : Bool) → isOne (num t) ≡ t

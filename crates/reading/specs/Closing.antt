@@ -1,19 +1,20 @@
 -- The builder's state that the core's state and memory are given back as.
 -- Assumes nothing.
-use Prim.Native.Nat.{ℕ, zero, suc, _+_, _*_}
+use Prim.Native.Nat.{ℕ, zero, suc, _+_, _-_, _*_}
 use mathlib.Core.Bool.{true}
 use mathlib.Core.List.{List}
 use mathlib.Core.Path.{_≡_}
-use lib.ListN.{length, set, replicate}
+use lib.ListN.{length, set, drop, replicate}
 use Rattle.rules.specs.declared.Builder.{Builder}
 use Rattle.rules.specs.Limits.{maxPlaces, maxLoops}
 use Rattle.rules.specs.Ring.{places}
 use Rattle.rules.specs.Machine.{Machine}
-use Rattle.rules.specs.View.{view}
+use Rattle.rules.specs.View.{placeRings, view}
 use Rattle.rules.specs.Test21.{sizesOf, linksFit}
 use Rattle.places.specs.Memory.{records}
 use Rattle.memory.specs.declared.Front.{Front}
 use Rattle.memory.specs.Layout.{at}
+use Rattle.memory.specs.Stands.{ringsIn}
 
 -- a number of each of the first k waiting loops, the oldest first: the first loop's stands at a, the next ones' two further on each
 unfoldable pub waitingRow : List ℕ → ℕ → ℕ → List ℕ
@@ -48,6 +49,11 @@ builderOf f m = record {
 pub record Closes (f : Front) (m xs : List ℕ) (M : Machine) (b : Builder) : Type 0 where
   pub machine : view b xs (records maxPlaces m) ≡ M
   pub links : linksFit b (records maxPlaces m) ≡ true
+  -- each place has the record that it has in the memory
+  pub rings : placeRings b (records maxPlaces m) (b .live) ≡ ringsIn maxPlaces (f .loops) m
+  -- past the live loops both arrays are zero
+  pub currents-past : drop (b .live) (b .current) ≡ replicate (maxLoops - b .live) 0
+  pub sizes-past : drop (b .live) (b .sizes) ≡ replicate (maxLoops - b .live) 0
   pub places : sizesOf b (b .live) ≡ places (M .loops)
   pub live : b .live ≡ length (M .loops)
   pub stated : b .stated ≡ f .stated

@@ -9,11 +9,13 @@ use lib.ListN.{length}
 use Rattle.rules.specs.declared.Builder.{Builder}
 use Rattle.rules.specs.Limits.{maxPlaces}
 use Rattle.rules.specs.Buffer.{Buffers}
+use Rattle.rules.specs.View.{placeRings}
 use Rattle.rules.specs.Build.{viewed}
 use Rattle.rules.specs.Test21.{sound}
 use Rattle.places.specs.Memory.{records}
 use Rattle.memory.specs.declared.Front.{Front}
 use Rattle.memory.specs.Layout.{at}
+use Rattle.memory.specs.Stands.{ringsIn}
 use Rattle.memory.specs.Keeps.{Ready, Keeps}
 use Rattle.reading.specs.declared.Opened.{Opened}
 use Rattle.reading.specs.declared.Opened.the-variants.{Passed, Failed}
@@ -32,6 +34,8 @@ pub record Passes (b : Builder) (xs : List ℕ) (n : ℕ) (m : List ℕ) (f : Fr
   pub whole : n ≡ maxPlaces
   pub ready : Ready maxPlaces f m′
   pub keeps : Keeps maxPlaces f m′ (viewed b (lent xs n m))
+  -- each place has the record that it has in the list
+  pub rings : placeRings b (records maxPlaces m) (b .live) ≡ ringsIn maxPlaces (f .loops) m′
   pub lengths : length m′ ≡ length m
   pub same : SameRecords m m′
 

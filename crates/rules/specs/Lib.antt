@@ -6,6 +6,7 @@ pub mod Across
 pub mod Check
 pub mod Ring
 pub mod Table
+pub mod Places
 pub mod Machine
 pub mod Answer
 pub mod Book

@@ -58,6 +58,18 @@ unfoldable pub loopsOf : Builder → List Place → ℕ → List Ring
 loopsOf b ps zero = []
 loopsOf b ps (suc n) = nodes ps (loopPlaces b ps n) ∷ loopsOf b ps n
 
+-- the same loops as rings of places: a place by its record's number, its edge open or marked
+abbrev pub placeNode : List Place → ℕ → Node
+placeNode ps i = elim (placeAt ps i .«open») [ true ↦ opened i | false ↦ marked i ]
+
+unfoldable pub placeNodes : List Place → List ℕ → Ring
+placeNodes ps [] = []
+placeNodes ps (i ∷ is) = placeNode ps i ∷ placeNodes ps is
+
+unfoldable pub placeRings : Builder → List Place → ℕ → List Ring
+placeRings b ps zero = []
+placeRings b ps (suc n) = placeNodes ps (loopPlaces b ps n) ∷ placeRings b ps n
+
 -- the first n triangles of the triangle buffer, the latest first
 unfoldable pub trianglesBuilt : List ℕ → ℕ → List Triangle
 trianglesBuilt xs zero = []

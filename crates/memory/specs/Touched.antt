@@ -1,0 +1,54 @@
+-- The records that an operation touches: those that it writes, and the free ones that its new places take. What leaves is put on the
+-- stack of free places, after those that were there.
+-- Assumes nothing.
+use Prim.Native.Nat.{ℕ, _+_, _-_, _*_, _≤_, _<_}
+use mathlib.Core.List.{List, [], _∷_}
+use mathlib.Core.Path.{_≡_}
+use Rattle.rules.specs.declared.Operation.{Operation}
+use Rattle.rules.specs.declared.Operation.the-variants.{New, Forward, Backward, Border, Split, Close, Union, Start}
+use Rattle.memory.specs.declared.Loops.{Loops}
+use Rattle.memory.specs.Layout.{at, beforeOf, afterOf}
+use Rattle.rules.specs.Places.{ringsAfter}
+use Rattle.memory.specs.Stands.{ringsIn}
+use Rattle.memory.specs.Moves.{Held, topFree}
+
+-- the free places that it takes, in the order in which it numbers its new places
+abbrev pub takenBy : ℕ → Loops → List ℕ → Operation → List ℕ
+takenBy n s m New = topFree n s m ∷ []
+takenBy n s m Forward = []
+takenBy n s m Backward = []
+takenBy n s m Border = []
+takenBy n s m (Split i) = topFree n s m ∷ []
+takenBy n s m Close = []
+takenBy n s m (Union p j) = topFree n s m ∷ []
+takenBy n s m Start = at m (4 * n + (s .free - 1)) ∷ (at m (4 * n + (s .free - 2)) ∷ (at m (4 * n + (s .free - 3)) ∷ []))
+
+-- the places whose records it writes, where c is its plan's place
+abbrev pub touchedBy : ℕ → Loops → List ℕ → Operation → ℕ → List ℕ
+touchedBy n s m New c = s .current ∷ (afterOf m (s .current) ∷ (topFree n s m ∷ []))
+touchedBy n s m Forward c = s .current ∷ (afterOf m (afterOf m (s .current)) ∷ [])
+touchedBy n s m Backward c = beforeOf m (s .current) ∷ (afterOf m (s .current) ∷ [])
+touchedBy n s m Border c =
+    beforeOf m (s .current) ∷ (s .current ∷ (afterOf m (s .current) ∷ (afterOf m (afterOf m (s .current)) ∷ [])))
+touchedBy n s m (Split i) c = s .current ∷ (afterOf m (s .current) ∷ (c ∷ (beforeOf m c ∷ (topFree n s m ∷ []))))
+touchedBy n s m Close c = []
+touchedBy n s m (Union p j) c = s .current ∷ (afterOf m (s .current) ∷ (c ∷ (beforeOf m c ∷ (topFree n s m ∷ []))))
+touchedBy n s m Start c = at m (4 * n + (s .free - 1)) ∷ (at m (4 * n + (s .free - 2)) ∷ (at m (4 * n + (s .free - 3)) ∷ []))
+
+-- i is none of these
+abbrev pub NoneOf : ℕ → List ℕ → Type 0
+NoneOf i [] = Unit {0}
+NoneOf i (x ∷ xs) = (i ≡ x → ⊥) × NoneOf i xs
+
+-- a memory in which the records of these places may have changed, and no other
+pub record OnlyAt (n : ℕ) (xs m m′ : List ℕ) : Type 0 where
+  pub others : (i k : ℕ) → i < n → k < 4 → NoneOf i xs → at m′ (4 * i + k) ≡ at m (4 * i + k)
+
+-- the vertices of these places may have changed, and no other
+pub record VerticesAt (n : ℕ) (xs m m′ : List ℕ) : Type 0 where
+  pub others : (i : ℕ) → i < n → NoneOf i xs → at m′ (4 * i) ≡ at m (4 * i)
+
+-- the rings of places are the table's, with the free places that are taken as its new ones, and what stays on the stack stays as it is
+pub record Rearranged (n : ℕ) (s : Loops) (m : List ℕ) (o : Operation) (h : Held) : Type 0 where
+  pub rings : ringsIn n (h .loops) (h .memory) ≡ ringsAfter o (takenBy n s m o) (ringsIn n s m)
+  pub stack : (j : ℕ) → j < s .free → j < h .loops .free → at (h .memory) (4 * n + j) ≡ at m (4 * n + j)
