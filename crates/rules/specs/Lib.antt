@@ -6,6 +6,7 @@ pub mod Across
 pub mod Check
 pub mod Ring
 pub mod Table
+pub mod Buffer
 pub mod Machine
 pub mod Answer
 pub mod Book
@@ -13,7 +14,6 @@ pub mod Bits
 pub mod Code
 pub mod Fields
 pub mod Choice
-pub mod Buffer
 pub mod Pack
 pub mod Unpack
 pub mod View

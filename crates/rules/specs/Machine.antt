@@ -15,6 +15,7 @@ use Rattle.rules.specs.Limits.{maxPlaces, inRange}
 use Rattle.rules.specs.Triangle.{Edge}
 use Rattle.rules.specs.Fan.{oneFanEach}
 use Rattle.rules.specs.Ring.{Ring, places}
+use Rattle.rules.specs.Buffer.{Lengths}
 use Rattle.rules.specs.Table.{Side, glued, fresh, Effect, not-allowed, builds, marks, effect, edgeRule}
 
 pub record Machine : Type 0 where
@@ -103,18 +104,13 @@ done m (marks ls d rim) = let m′ = afterMark m ls rim in test (within m′) 17
 abbrev pub operation : Machine → Operation → Step
 operation m o = done m (effect o (m .used) (m .loops))
 
--- the lengths of the buffers that are lent
-pub record Rooms : Type 0 where
-  pub triangles : ℕ
-  pub places : ℕ
-
--- 14
-abbrev pub roomy : Rooms → Counts → Bool
-roomy r s = leb (3 * s .triangles) (r .triangles) && leb maxPlaces (r .places)
+-- 14: the buffers are long enough
+abbrev pub longEnough : Lengths → Counts → Bool
+longEnough r s = leb (3 * s .triangles) (r .triangles) && leb maxPlaces (r .places)
 
 -- a beginning: 13, 14
-unfoldable pub beginning : Rooms → Counts → Step
-beginning r s = test (inRange s) 13 (test (roomy r s) 14 (begun (empty s)))
+unfoldable pub beginning : Lengths → Counts → Step
+beginning r s = test (inRange s) 13 (test (longEnough r s) 14 (begun (empty s)))
 
 abbrev pub complete : Machine → Bool
 complete m = eqb (length (m .triangles)) (m .stated .triangles) && eqb (length (m .loops)) 0
@@ -133,5 +129,5 @@ totals m = record {
 }
 
 -- a finish: 15, 19, 20
-unfoldable pub finish : Machine → Step
-finish m = test (complete m) 15 (test (asStated m) 19 (test (oneFanEach (m .used) (m .triangles)) 20 (finished (totals m))))
+unfoldable pub finishing : Machine → Step
+finishing m = test (complete m) 15 (test (asStated m) 19 (test (oneFanEach (m .used) (m .triangles)) 20 (finished (totals m))))
