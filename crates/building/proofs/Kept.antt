@@ -166,8 +166,8 @@ Grows M (finished x) = Unit {0}
 grows : (M : Machine) (e : Effect) → Grows M (done M e)
 unfolding done
 grows M not-allowed = tt
-grows M (builds ls t pq qr rp n s k) = test-law (Grows M) _ _ _ tt (λ i. test-law (Grows M) _ _ _ tt (λ j. (refl, refl)))
-grows M (marks ls d rim) = test-law (Grows M) _ _ _ tt (λ i. tt)
+grows M (builds x) = test-law (Grows M) _ _ _ tt (λ i. test-law (Grows M) _ _ _ tt (λ j. (refl, refl)))
+grows M (marks x) = test-law (Grows M) _ _ _ tt (λ i. tt)
 
 within-triangles : (m : Machine) → within m ≡ true → length (m .triangles) ≤ m .stated .triangles
 within-triangles m h =

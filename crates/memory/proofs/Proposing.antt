@@ -16,6 +16,7 @@ use Rattle.rules.specs.Count.{num}
 use Rattle.rules.specs.Ring.{Node, opened, marked, Ring, isOpen, firstOpen, allOpen, startOr, vertexAt, lastOpen, lastVertex, onward, shown, places}
 use Rattle.rules.specs.Table.{Side, glued, fresh, Effect, not-allowed, builds, marks, allowed, marking, atEdge}
 use Rattle.rules.specs.Machine.{freshSides}
+use Rattle.shown.specs.Effects.{buildingOf, markingOf}
 use Rattle.book.proofs.Counting.{and-left}
 use Rattle.book.proofs.Effects as effects
 use Rattle.links.specs.Memory.{namedRing, namedLoops}
@@ -51,16 +52,16 @@ pub record Proposal (n : ℕ) (s : Front) (m : List ℕ) (o : Operation) (d : De
   pub plan : Plan
   pub is : d ≡ Builds plan
   pub same : PlanIs plan t pq qr rp v a k
-  pub moves : places ls ≤ n → 5 * n + 2 * length ls ≤ length m → Moved n (s .loops) m (heldAfter n s m o plan) (builds ls t pq qr rp v a k)
+  pub moves : places ls ≤ n → 5 * n + 2 * length ls ≤ length m → Moved n (s .loops) m (heldAfter n s m o plan) (builds (buildingOf ls t pq qr rp v a k))
 
 pub record MarkProposal (n : ℕ) (s : Front) (m : List ℕ) (d : Decided) (ls : List Ring) (x : Edge) (rim : ℕ) : Type 0 where
   pub is : d ≡ Marks (x .from) (x .to)
-  pub moves : Moved n (s .loops) m (markedHeld n (s .loops) m) (marks ls x rim)
+  pub moves : Moved n (s .loops) m (markedHeld n (s .loops) m) (marks (markingOf ls x rim))
 
 abbrev pub Proposes : ℕ → Front → List ℕ → Operation → Decided → Effect → Type 0
 Proposes n s m o d not-allowed = d ≡ Refused 16
-Proposes n s m o d (builds ls t pq qr rp v a k) = Proposal n s m o d ls t pq qr rp v a k
-Proposes n s m o d (marks ls x rim) = MarkProposal n s m d ls x rim
+Proposes n s m o d (builds x) = Proposal n s m o d (x .loops) (x .triangle) (x .sides .pq) (x .sides .qr) (x .sides .rp) (x .added .vertices) (x .added .starts) (x .added .unions)
+Proposes n s m o d (marks y) = MarkProposal n s m d (y .loops) (y .edge) (y .rims)
 
 -- an operation that is allowed under a test
 pub allowed-proposes : (n : ℕ) (s : Front) (m : List ℕ) (o : Operation) (t t′ : Bool) (d : Decided) (E : Effect) → t′ ≡ t

@@ -76,7 +76,12 @@ pub record RightChoice (s : Packing) (a b c : ℕ) : Type 0 where
   pub r-p : Side
   pub unions : ℕ
   pub allowed : (u : ℕ) → effect (operationFor (afterCurrent (s .loops)) loop place) u (s .loops)
-      ≡ builds (after .loops) (tri b a c) glued q-r r-p 0 0 unions
+      ≡ builds (record {
+        loops = after .loops;
+        triangle = tri b a c;
+        sides = record { pq = glued; qr = q-r; rp = r-p };
+        added = record { vertices = 0; starts = 0; unions = unions };
+      })
   pub edge-rule : (B : List Triangle) → Built s B → edgeRule (tri b a c) glued q-r r-p B ≡ true
 
 -- at each step of packing an accepted list
