@@ -85,22 +85,22 @@ def brought(names, user, part):
 
 
 class Parameter:
-    """One parameter: `value` (a struct or an enum), `number`, `shared` (`&[T]`) or `room` (`&mut [T]`). Its names end in its index."""
+    """One parameter: `value` (a struct or an enum), `number`, `shared` (`&[T]`) or `buffer` (`&mut [T]`). Its names end in its index."""
 
     def __init__(self, i, text, user):
         self.i, self.s = i, sub(i)
         slice_ = re.fullmatch(r'&(mut )?\[(u8|u16)\]', text)
         if slice_:
-            self.kind, self.type = 'room' if slice_.group(1) else 'shared', slice_.group(2)
+            self.kind, self.type = 'buffer' if slice_.group(1) else 'shared', slice_.group(2)
         elif text in WIDTHS:
             self.kind, self.type = 'number', text
         else:
             self.kind, self.type = 'value', Declared(text, user)
-        self.slice = self.kind in ('shared', 'room')
+        self.slice = self.kind in ('shared', 'buffer')
 
     def row(self, bridge):
         if self.slice:
-            return f'{"MutSlice" if self.kind == "room" else "ShrSlice"} (named {bridge.life(self)}) κ{sub(bridge.life(self))} {self.type}'
+            return f'{"MutSlice" if self.kind == "buffer" else "ShrSlice"} (named {bridge.life(self)}) κ{sub(bridge.life(self))} {self.type}'
         return self.type.row() if self.kind == 'value' else self.type
 
     def machine(self):
@@ -144,14 +144,14 @@ class Parameter:
         return f'tt, (tt, (record {{ fits = g{s} .0 }}, tt))' if self.slice else f'tt, record {{ fits = g{s} }}'
 
     def stays(self, bridge):
-        if self.kind == 'room':
+        if self.kind == 'buffer':
             return f'gave-slice ({bridge.life(self)} ∷ []) tt (plain (λ _. {self.type}))'
         if self.kind == 'shared':
             return f'stay-none-slice ({bridge.life(self)} ∷ []) tt (plain (λ _. {self.type})) yes'
         return f'stay-none (λ _. {self.row(bridge)}) yes'
 
     def goes(self, bridge):
-        if self.kind == 'room':
+        if self.kind == 'buffer':
             return f'goes-gave-slice 𝓤 H A W {bridge.lives} {bridge.life(self)} tt (plain (λ _. {self.type}))'
         if self.kind == 'shared':
             return f'goes-none-slice 𝓤 H A W {bridge.lives} ({bridge.life(self)} ∷ []) tt (plain (λ _. {self.type})) yes'
@@ -165,7 +165,7 @@ class Parameter:
             return self.type.law('tells')
         if self.slice:
             k = bridge.life(self)
-            return f'{"mut" if self.kind == "room" else "shr"}-slice-tells (named {k}) (κs{" .1" * k} .0) {self.type}'
+            return f'{"mut" if self.kind == "buffer" else "shr"}-slice-tells (named {k}) (κs{" .1" * k} .0) {self.type}'
         return f'uint-tells {WIDTHS[self.type]}'
 
     def arguments(self):

@@ -168,10 +168,10 @@ def binding(b):
 def exits(b):
     """From what is left at the return to what the public function ensures."""
     binders, ys, lengths, ls = b.ends()
-    had = [f'‵ (finally {p.type} γ{p.s} ys{p.s})' if p.kind == 'room' else f'‵ ({p.own(b)})' for p in b.slices]
+    had = [f'‵ (finally {p.type} γ{p.s} ys{p.s})' if p.kind == 'buffer' else f'‵ ({p.own(b)})' for p in b.slices]
     given = items([b.token(k) for k in range(b.lives)] + had + ['‵ (finally R γ ps′)' if b.saves else '‵ Lent', f'‵ ({b.result.row()} .own r (u ∷ []))'])
-    last = tuple_of([f'ys{p.s}' if p.kind == 'room' else 'tt' for p in b.params] + ['ps′' if b.saves else 'tt'])
-    keeps = tuple_of([f'l′{p.s}' if p.kind == 'room' else 'tt' for p in b.params] + ['lp' if b.saves else 'tt'])
+    last = tuple_of([f'ys{p.s}' if p.kind == 'buffer' else 'tt' for p in b.params] + ['ps′' if b.saves else 'tt'])
+    keeps = tuple_of([f'l′{p.s}' if p.kind == 'buffer' else 'tt' for p in b.params] + ['lp' if b.saves else 'tt'])
     c = Context(b.token_names() + [f's{p.i}' for p in b.slices] + ['list', 'result'])
     c.step('nothing !', 0, ['tokens'])
     for t in reversed(b.token_names()):

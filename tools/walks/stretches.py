@@ -121,8 +121,8 @@ def saving(b):
     filled = passed(b)
     filled[b.locals['n']], filled[b.locals['r']] = 'vint w64 n', 'u'
     owned = ['‵ (Lies m′)'] + [b.token(i) for i in range(b.lives)] + [f'‵ ({b.result.row()} .own r (u ∷ []))']
-    owned += [f'‵ (finally {p.type} γ{p.s} ys{p.s})' for p in b.rooms] + [f'‵ ({p.own(b)})' for p in b.shared] + ['‵ Lent']
-    names = ['lies'] + b.token_names() + ['result'] + [f's{p.i}' for p in b.rooms] + [f's{p.i}' for p in b.shared] + ['lent']
+    owned += [f'‵ (finally {p.type} γ{p.s} ys{p.s})' for p in b.buffers] + [f'‵ ({p.own(b)})' for p in b.shared] + ['‵ Lent']
+    names = ['lies'] + b.token_names() + ['result'] + [f's{p.i}' for p in b.buffers] + [f's{p.i}' for p in b.shared] + ['lent']
     without = (b.locals['m'],)
     c = Context(names + cell_names(b, without))
     address(b, c, 'save-m')
@@ -156,7 +156,7 @@ def saving(b):
     c.step('lent-back ! tt', 2, ['lies'])
     returning(b, c, f'by ! (exits r {ys} m′ (zs .1 .0) u e ep {ls} lp)')
     return closed(f'''    -- `save`, and the return
-    abbrev Ctx-save : {b.result.name} →{' List ℕ →' * len(b.rooms)} List ℕ → Val → List (Item 𝓤)
+    abbrev Ctx-save : {b.result.name} →{' List ℕ →' * len(b.buffers)} List ℕ → Val → List (Item 𝓤)
     Ctx-save r {ys} m′ u = {' ∷ '.join(owned + cells(b, filled, without))} ∷ Dies
 
     saving : (r : {b.result.name}){binders} (m′ : List ℕ) (u : Val) → {b.promised('r', ys.split(), 'm′')}{lengths} → Holds (hasTy (ty {b.locals['r']}) u) × WT u → ent 𝓤 (⋆ 𝓤 H A (Ctx-save r {ys} m′ u)) (Wp 𝓤 H C Λ En pieces.t-{b.at_save} (atReturn 𝓤 H En Post))
@@ -183,7 +183,7 @@ def stepping(b):
     owned, names = holding(b, 'm₁')
     without = (b.locals['m'],)
     c = Context(names + cell_names(b, without))
-    for p in b.rooms:
+    for p in b.buffers:
         reborrow(b, c, p.i, f'ptr{p.i}', f'slice{p.i}', f'g{p.s} .0')
     address(b, c, 'core-m')
     c.bind('lft-new ! tt (λ μ.', 0, ['tμ'])
@@ -199,19 +199,19 @@ def stepping(b):
         whole = 'asked'
     c.step(f'use1 W (raw (Core 𝓤 H A at-mem run .pre (to-core {lm} μ ε))) (goes-core {lm} μ ε)', 1, ['asked'])
     c.line()
-    given = [f'slice{p.i}' if p.kind == 'room' else p.i for p in b.params] + ['core-m', 'n']
+    given = [f'slice{p.i}' if p.kind == 'buffer' else p.i for p in b.params] + ['core-m', 'n']
     c.bind(f'calls-at ! fm (Core 𝓤 H A at-mem run) k-core (to-core {lm} μ ε) {arguments(b, c, given)} (λ u.')
     c.line()
     tokens = chain([b.token(i) for i in range(j)] + ['‵ (flft (μ ∷ []) fullShare)', '‵ ftrue'], '⊛')
     c.step(f'use1 W (later (some (λ (r : {d.name}). (({tokens}) ⊛ ‵ ({d.row()} .own r (u ∷ []))) ⊛ raw (ensured 𝓤 H A core′.ended (core′.clauses 𝓤 H A at-mem run) {kappas} {x} tt r)))) (id⊢ 𝓤 _)', 1, ['got'])
     c.bind('await ! tt $ pick ! (λ r.')
     c.line()
-    # the last values of the rooms and of the memory, and what is promised of them
-    ends = ['List ℕ' if p.kind == 'room' else 'Unit {0}' for p in b.params] + ['List ℕ', 'Unit {0}', 'Unit {0}']
+    # the last values of the buffers and of the memory, and what is promised of them
+    ends = ['List ℕ' if p.kind == 'buffer' else 'Unit {0}' for p in b.params] + ['List ℕ', 'Unit {0}', 'Unit {0}']
     def end(i):
         return '(zs' + ' .1' * (i - 1) + ' .0)'
     memory = end(b.list)
-    promised = b.promised('r', [end(p.i) for p in b.rooms], memory)
+    promised = b.promised('r', [end(p.i) for p in b.buffers], memory)
     c.split('got', 'answer', 'ensured')
     c.move('ensured')
     c.step(f'use1 W (some (λ (zs : {chain(ends, "×")}). ‵ (lasts core′.ended {kappas} {x} zs) ⊛ raw (fact 𝓤 ({promised})))) (id⊢ 𝓤 _)', 1, ['both'])
@@ -221,7 +221,7 @@ def stepping(b):
     c.move('fact')
     c.bind(f'heard ! ({promised}) (λ e.', 1)
     for p in b.params:
-        if p.kind == 'room':
+        if p.kind == 'buffer':
             c.split('lasts', 'last', 'lasts', rule='fsplit')
             c.split('last', f's{p.i}', 'long', rule='fsplit')
             c.move('long')
@@ -247,12 +247,12 @@ def stepping(b):
     c.step(f'use3 W (later (‵ (Lies {memory}))) (ref-back 𝓤 H A W N (μ ∷ []) ε {memory} {lm} 0)', 3, ['lies'])
     c.step('await ! tt')
     c.line()
-    forget(b, c, [x for p in b.rooms for x in (f'ptr{p.i}', f'slice{p.i}')] + ['core-m'])
+    forget(b, c, [x for p in b.buffers for x in (f'ptr{p.i}', f'slice{p.i}')] + ['core-m'])
     c.line()
     binders, ys, _, ls = b.ends()
-    ends = ' '.join(end(p.i) for p in b.rooms)
+    ends = ' '.join(end(p.i) for p in b.buffers)
     if b.saves:
-        c.keep(['lies'] + b.token_names() + ['result'] + [f's{p.i}' for p in b.rooms] + [f's{p.i}' for p in b.shared] + ['lent']
+        c.keep(['lies'] + b.token_names() + ['result'] + [f's{p.i}' for p in b.buffers] + [f's{p.i}' for p in b.shared] + ['lent']
                + cell_names(b, without))
         c.say(f'by ! (saving r {ends} {memory} u e {ls} wu)')
     else:

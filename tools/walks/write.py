@@ -4,7 +4,7 @@ from bridge import bridge
 
 bridge('service', 'unpack(pack: &[u8], triangles: &mut [u16], places: &mut [Place]) -> Unpacked',
        core='unpacker::unpack_on', promise='Calls.UnpacksOn', law='Laws.unpacks')
-bridge('service', 'pack(v: usize, list: &[u16], numbering: &mut [u16], room: &mut [u8], places: &mut [Place]) -> Packed',
+bridge('service', 'pack(v: usize, list: &[u16], numbering: &mut [u16], buffer: &mut [u8], places: &mut [Place]) -> Packed',
        core='packer::pack_on', promise='packing::Lent.PackedOn', law='PackLaws.packs')
 bridge('service', 'begin(stated: Counts, triangles: &mut [u16], places: &mut [Place]) -> Begun',
        core='calls::begin::begin_on', promise='finishing::Promises.BeginsOn', law='Laws.begins-as')

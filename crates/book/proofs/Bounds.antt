@@ -69,8 +69,8 @@ fresh-once fresh = omega arith
 bounded-by : (b : Book) → Bounded b → (e : Effect) → Law (b .machine .used) (b .machine .loops) e → Bounded (entered b (done (b .machine) e))
 unfolding done
 bounded-by b c not-allowed l = c
-bounded-by b c (builds ls t pq qr rp n s k) l =
-    let m = afterBuild (b .machine) ls t pq qr rp n s k in
+bounded-by b c (builds z) l =
+    let m = afterBuild (b .machine) z in
     test-law (λ (x : Step). Bounded (entered b x)) (within m) _ _ c
     (λ e. test-law (λ (x : Step). Bounded (entered b x)) _ _ _ c
     (λ rule.
@@ -81,14 +81,14 @@ bounded-by b c (builds ls t pq qr rp n s k) l =
       counts = e;
       places = omega (arith, w .places, c .places);
       loops = omega (arith, w .loops, c .loops);
-      edges = omega (arith, c .edges, fresh-once pq, fresh-once qr, fresh-once rp);
+      edges = omega (arith, c .edges, fresh-once (z .sides .pq), fresh-once (z .sides .qr), fresh-once (z .sides .rp));
       starts = omega (arith, c .starts, l .small);
       unions = omega (arith, c .unions, l .small);
       rims = c .rims;
-      borders = omega (arith, c .borders, o, sides pq, sides qr, sides rp, fresh-once pq, fresh-once qr, fresh-once rp);
+      borders = omega (arith, c .borders, o, sides (z .sides .pq), sides (z .sides .qr), sides (z .sides .rp), fresh-once (z .sides .pq), fresh-once (z .sides .qr), fresh-once (z .sides .rp));
     }))
-bounded-by b c (marks ls d rim) l =
-    let m = afterMark (b .machine) ls rim in
+bounded-by b c (marks z) l =
+    let m = afterMark (b .machine) z in
     test-law (λ (x : Step). Bounded (entered b x)) (within m) _ _ c
     (λ e.
     let w = within-each m e in

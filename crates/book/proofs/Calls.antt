@@ -5,8 +5,9 @@ use mathlib.Core.List.{List, [], _∷_}
 use mathlib.Core.Path.{_≡_, refl, sym}
 use Rattle.rules.specs.declared.Counts.{Counts}
 use Rattle.rules.specs.Limits.{inRange}
-use Rattle.rules.specs.Machine.{Machine, empty, Step, refused, begun, built, declared, finished, Rooms, beginning, finish}
-use Rattle.rules.specs.Book.{Call, begin, operate, end, Book, recounted, emptyBook, entered, after, afterAll, isAccepted}
+use Rattle.rules.specs.Machine.{Machine, empty, Step, refused, begun, built, declared, finished, beginning, finishing}
+use Rattle.rules.specs.Buffer.{Lengths}
+use Rattle.rules.specs.Book.{Call, begin, operate, finish, Book, recounted, emptyBook, entered, after, afterAll, isAccepted}
 use Rattle.book.specs.Consistent.{Consistent}
 use Rattle.book.specs.Reached.{reached}
 use Rattle.book.proofs.Kept.{test-law, kept, empty-consistent}
@@ -18,15 +19,15 @@ pub record Begun (s : Counts) (x : Step) : Type 0 where
   pub step : x ≡ begun (empty s)
   pub range : inRange s ≡ true
 
-pub begins-empty : (r : Rooms) (s : Counts) → isAccepted (beginning r s) ≡ true → Begun s (beginning r s)
+pub begins-empty : (r : Lengths) (s : Counts) → isAccepted (beginning r s) ≡ true → Begun s (beginning r s)
 unfolding beginning
 begins-empty r s =
     test-law (λ (x : Step). isAccepted x ≡ true → Begun s x) (inRange s) _ _ (λ h. absurd (false≢true h))
     (λ i. test-law (λ (x : Step). isAccepted x ≡ true → Begun s x) _ _ _ (λ h. absurd (false≢true h)) (λ j h. record { step = refl; range = i }))
 
 -- a finish changes nothing
-pub finish-same : (b : Book) (m : Machine) → entered b (finish m) ≡ b
-unfolding finish
+pub finish-same : (b : Book) (m : Machine) → entered b (finishing m) ≡ b
+unfolding finishing
 finish-same b m =
     test-law (λ (x : Step). entered b x ≡ b) _ _ _ refl
     (λ i. test-law (λ (x : Step). entered b x ≡ b) _ _ _ refl (λ j. test-law (λ (x : Step). entered b x ≡ b) _ _ _ refl (λ k. refl)))
@@ -69,23 +70,23 @@ pub record Holds (b : Book) : Type 0 where
 pub empty-holds : (s : Counts) → inRange s ≡ true → Holds (emptyBook s)
 empty-holds s h = record { consistent = empty-consistent s; bounded = empty-bounded s h }
 
-begin-holds : (r : Rooms) (b : Book) → Holds b → (s : Counts) → (t : Bool) → isAccepted (beginning r s) ≡ t → Holds (after r b (begin s))
+begin-holds : (r : Lengths) (b : Book) → Holds b → (s : Counts) → (t : Bool) → isAccepted (beginning r s) ≡ t → Holds (after r b (begin s))
 begin-holds r b k s true e = let f = begins-empty r s e in rw (f .step) (empty-holds s (f .range))
 begin-holds r b k s false e = rw (refused-same b (beginning r s) e) k
 
-pub holds-kept : (r : Rooms) (b : Book) → Holds b → (c : Call) → Holds (after r b c)
+pub holds-kept : (r : Lengths) (b : Book) → Holds b → (c : Call) → Holds (after r b c)
 holds-kept r b k (begin s) = begin-holds r b k s (isAccepted (beginning r s)) refl
 holds-kept r b k (operate o) = record {
   consistent = kept b (k .consistent) o;
   bounded = bounded-kept b (k .consistent) (k .bounded) o;
 }
-holds-kept r b k end = rw (finish-same b (recounted (b .machine))) k
+holds-kept r b k finish = rw (finish-same b (recounted (b .machine))) k
 
-pub holds-all : (r : Rooms) (b : Book) → Holds b → (cs : List Call) → Holds (afterAll r b cs)
+pub holds-all : (r : Lengths) (b : Book) → Holds b → (cs : List Call) → Holds (afterAll r b cs)
 unfolding afterAll
 holds-all r b k [] = k
 holds-all r b k (c ∷ cs) = holds-all r (after r b c) (holds-kept r b k c) cs
 
 -- an accepted beginning, then any list of calls
-pub holds-after : (r : Rooms) (s : Counts) → isAccepted (beginning r s) ≡ true → (cs : List Call) → Holds (afterAll r (emptyBook s) cs)
+pub holds-after : (r : Lengths) (s : Counts) → isAccepted (beginning r s) ≡ true → (cs : List Call) → Holds (afterAll r (emptyBook s) cs)
 holds-after r s ok cs = holds-all r (emptyBook s) (empty-holds s (begins-empty r s ok .range)) cs

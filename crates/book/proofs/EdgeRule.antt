@@ -17,6 +17,7 @@ use Rattle.rules.specs.Ring.{Node, opened, marked, Ring, vertex, allOpen, verte
 use Rattle.rules.specs.Table.{glued, Effect, not-allowed, builds, marks, allowed, marking, atEdge, atRest, effect, edgeRule}
 use Rattle.rules.specs.Machine.{Step, refused, begun, built, declared, finished, test, done, operation}
 use Rattle.rules.specs.Book.{Book}
+use Rattle.shown.specs.Effects.{buildingOf}
 use Rattle.book.specs.Sums.{pathSum, ringSum, loopsSum}
 use Rattle.book.specs.Consistent.{AllSound, Consistent}
 use Rattle.book.proofs.Counting.{and-left, hit-yes, uses-from, uses-to}
@@ -25,8 +26,8 @@ use Rattle.book.proofs.Kept.{test-law, loop-used}
 -- the edge rule holds of what an operation would do
 abbrev pub RuleHolds : List Triangle → Effect → Type 0
 RuleHolds ts not-allowed = Unit {0}
-RuleHolds ts (builds ls t pq qr rp n s k) = edgeRule t pq qr rp ts ≡ true
-RuleHolds ts (marks ls d rim) = Unit {0}
+RuleHolds ts (builds x) = edgeRule (x .triangle) (x .sides .pq) (x .sides .qr) (x .sides .rp) ts ≡ true
+RuleHolds ts (marks x) = Unit {0}
 
 allowed-rule : (ts : List Triangle) (t : Bool) (e : Effect) → (t ≡ true → RuleHolds ts e) → RuleHolds ts (allowed t e)
 unfolding allowed
@@ -123,7 +124,7 @@ module _ (b : Book) (k : Consistent b) where
   unfolding allowed atEdge vertexAt allOpen loopsSum ringSum pathSum
   rule-close a f [] ws l = tt
   rule-close a f (g ∷ (h ∷ ps)) ws l =
-      allowed-rule ts (eqb (suc (length (f ∷ (g ∷ (h ∷ ps))))) 3 && allOpen (f ∷ (g ∷ (h ∷ ps)))) (builds ws (tri (vertex f) a (vertex g)) glued glued glued 0 0 0)
+      allowed-rule ts (eqb (suc (length (f ∷ (g ∷ (h ∷ ps))))) 3 && allOpen (f ∷ (g ∷ (h ∷ ps)))) (builds (buildingOf ws (tri (vertex f) a (vertex g)) glued glued glued 0 0 0))
       (λ t. absurd (omega (arith, eqb-true (suc (length (f ∷ (g ∷ (h ∷ ps))))) 3 (and-left (eqb (suc (length (f ∷ (g ∷ (h ∷ ps))))) 3) (allOpen (f ∷ (g ∷ (h ∷ ps)))) t))))
   rule-close a (marked x) (g ∷ []) ws l = tt
   rule-close a (opened x) (marked y ∷ []) ws l = tt
@@ -173,10 +174,10 @@ module _ (b : Book) (k : Consistent b) where
   not-18 : (e : Effect) → RuleHolds ts e → refusalOf (done (b .machine) e) ≡ 18 → ⊥
   unfolding done
   not-18 not-allowed h = λ x. omega arith
-  not-18 (builds ls t pq qr rp n s j) h =
+  not-18 (builds y) h =
       test-law (λ (x : Step). refusalOf x ≡ 18 → ⊥) _ _ _ (λ x. omega arith)
-      (λ i. subst (λ (x : Step). refusalOf x ≡ 18 → ⊥) (sym (test-passed (edgeRule t pq qr rp ts) _ _ h)) (λ x. omega arith))
-  not-18 (marks ls d rim) h = test-law (λ (x : Step). refusalOf x ≡ 18 → ⊥) _ _ _ (λ x. omega arith) (λ i x. omega arith)
+      (λ i. subst (λ (x : Step). refusalOf x ≡ 18 → ⊥) (sym (test-passed (edgeRule (y .triangle) (y .sides .pq) (y .sides .qr) (y .sides .rp) ts) _ _ h)) (λ x. omega arith))
+  not-18 (marks y) h = test-law (λ (x : Step). refusalOf x ≡ 18 → ⊥) _ _ _ (λ x. omega arith) (λ i x. omega arith)
 
   -- on a consistent book these operations are never refused by the edge rule
   pub never-18 : (o : Operation) → Simple o → refusalOf (operation (b .machine) o) ≡ 18 → ⊥

@@ -17,6 +17,7 @@ use Rattle.rules.specs.Table.{Side, glued, fresh, Effect, not-allowed, builds, 
 use Rattle.rules.specs.Machine.{freshSides}
 use Rattle.shown.specs.Spaced.{Spaced}
 use Rattle.shown.proofs.Spaced.{spaced-append, spaced-take, spaced-drop, spaced-front, spaced-turn, spaced-reached}
+use Rattle.shown.specs.Effects.{buildingOf}
 use Rattle.book.specs.Sums.{Weight, pathSum, ringSum, loopsSum}
 use Rattle.book.specs.Consistent.{Sound, AllSound, AllCurrent}
 use Rattle.book.proofs.Counting.{and-left, and-right, ifFresh, ifGlued}
@@ -56,8 +57,8 @@ pub record Marks (before ls : List Ring) (d : Edge) (rim : ℕ) : Type 0 where
 -- what holds of an effect
 abbrev pub Law : ℕ → List Ring → Effect → Type 0
 Law u before not-allowed = Unit {0}
-Law u before (builds ls t pq qr rp n s k) = Builds u before ls t pq qr rp n s k
-Law u before (marks ls d rim) = Marks before ls d rim
+Law u before (builds x) = Builds u before (x .loops) (x .triangle) (x .sides .pq) (x .sides .qr) (x .sides .rp) (x .added .vertices) (x .added .starts) (x .added .unions)
+Law u before (marks x) = Marks before (x .loops) (x .edge) (x .rims)
 
 -- the range of a split's index
 pub split-low : (i k : ℕ) (x y : Bool) → leb 1 i && leb (i + 2) k && x && y ≡ true → 1 ≤ i
@@ -214,7 +215,7 @@ module _ (u a : ℕ) (ws : List Ring) (cw : AllCurrent ws) where
   law-forward (opened b ∷ (g ∷ ps)) sp =
       let k = suc (length (opened b ∷ (g ∷ ps))) in
       allowed-law u ((opened a ∷ (opened b ∷ (g ∷ ps))) ∷ ws) (leb 3 k && true && not (eqb k 3 && allOpen (opened b ∷ (g ∷ ps))))
-      (builds ((opened a ∷ (g ∷ ps)) ∷ ws) (tri b a (vertex g)) glued fresh glued 0 0 0)
+      (builds (buildingOf ((opened a ∷ (g ∷ ps)) ∷ ws) (tri b a (vertex g)) glued fresh glued 0 0 0))
       (λ t. record {
         sums = λ w. omega arith;
         current = (refl, cw, sp);
@@ -233,7 +234,7 @@ module _ (u a : ℕ) (ws : List Ring) (cw : AllCurrent ws) where
       let long = leb 3 (suc (length (f ∷ (g ∷ ps)))) in
       let sp′ : Spaced (f ∷ front (g ∷ ps)) false = spaced-front (f ∷ (g ∷ ps)) false sp in
       allowed-law u ((opened a ∷ (f ∷ (g ∷ ps))) ∷ ws) (long && lastOpen (g ∷ ps) && not (eqb (suc (length (f ∷ (g ∷ ps)))) 3 && allOpen (f ∷ (g ∷ ps))))
-      (builds ((opened c ∷ (f ∷ front (g ∷ ps))) ∷ ws) (tri (vertex f) a c) glued glued fresh 0 0 0)
+      (builds (buildingOf ((opened c ∷ (f ∷ front (g ∷ ps))) ∷ ws) (tri (vertex f) a c) glued glued fresh 0 0 0))
       (λ t.
       let e = front-last (g ∷ ps) (and-right long (lastOpen (g ∷ ps)) (and-left (long && lastOpen (g ∷ ps)) _ t)) in
       record {
@@ -253,7 +254,7 @@ module _ (u a : ℕ) (ws : List Ring) (cw : AllCurrent ws) where
   law-close (f ∷ []) = tt
   law-close (f ∷ (g ∷ (h ∷ ps))) =
       allowed-law u ((opened a ∷ (f ∷ (g ∷ (h ∷ ps)))) ∷ ws) (eqb (suc (length (f ∷ (g ∷ (h ∷ ps))))) 3 && allOpen (f ∷ (g ∷ (h ∷ ps))))
-      (builds ws (tri (vertex f) a (vertex g)) glued glued glued 0 0 0)
+      (builds (buildingOf ws (tri (vertex f) a (vertex g)) glued glued glued 0 0 0))
       (λ t. absurd (omega (arith, eqb-true (suc (length (f ∷ (g ∷ (h ∷ ps))))) 3 (and-left (eqb (suc (length (f ∷ (g ∷ (h ∷ ps))))) 3) (allOpen (f ∷ (g ∷ (h ∷ ps)))) t))))
   law-close (marked b ∷ (g ∷ [])) = tt
   law-close (opened b ∷ (marked c ∷ [])) = tt
@@ -302,8 +303,7 @@ module _ (u a : ℕ) (ws : List Ring) (cw : AllCurrent ws) where
   law-split ps zero sp = tt
   law-split [] (suc i) sp =
       allowed-law u ((opened a ∷ []) ∷ ws) (leb 1 (suc i) && leb (suc i + 2) 1 && not (eqb (suc i) 1 && false) && not (eqb (suc i + 2) 1 && lastOpen []))
-      (builds (inOrder (leb (length {A = Node} (opened (vertexAt [] (suc i)) ∷ take (suc i) [])) (length {A = Node} (opened a ∷ drop (suc i) []))) (opened (vertexAt [] (suc i)) ∷ take (suc i) []) (opened a ∷ drop (suc i) []) ws)
-      (tri a a (vertexAt [] (suc i))) glued fresh fresh 0 0 0)
+      (builds (buildingOf (inOrder (leb (length {A = Node} (opened (vertexAt [] (suc i)) ∷ take (suc i) [])) (length {A = Node} (opened a ∷ drop (suc i) []))) (opened (vertexAt [] (suc i)) ∷ take (suc i) []) (opened a ∷ drop (suc i) []) ws) (tri a a (vertexAt [] (suc i))) glued fresh fresh 0 0 0))
       (λ t. absurd (omega (arith, split-high (suc i) 1 (not (eqb (suc i) 1 && false)) (not (eqb (suc i + 2) 1 && lastOpen [])) t)))
   law-split (f ∷ ps) (suc i) sp =
       let j = suc i in
@@ -313,7 +313,7 @@ module _ (u a : ℕ) (ws : List Ring) (cw : AllCurrent ws) where
       let c = vertexAt (f ∷ ps) j in
       let first = leb (length (opened c ∷ take j (f ∷ ps))) (length (opened a ∷ drop j (f ∷ ps))) in
       allowed-law u ((opened a ∷ (f ∷ ps)) ∷ ws) (leb 1 j && leb (j + 2) k && x && y)
-      (builds (inOrder first (opened c ∷ take j (f ∷ ps)) (opened a ∷ drop j (f ∷ ps)) ws) (tri (vertex f) a c) glued fresh fresh 0 0 0)
+      (builds (buildingOf (inOrder first (opened c ∷ take j (f ∷ ps)) (opened a ∷ drop j (f ∷ ps)) ws) (tri (vertex f) a c) glued fresh fresh 0 0 0))
       (λ t. halves first f ps i sp (split-high j k x y t))
 
   law-union : (ps : List Node) (n j : ℕ) → Spaced ps false → Law u ((opened a ∷ ps) ∷ ws) (atEdge (Union n j) u a ps ws)
@@ -322,7 +322,7 @@ module _ (u a : ℕ) (ws : List Ring) (cw : AllCurrent ws) where
       let l = loopAt ws (n - 1) in
       let c = vertexAt l j in
       allowed-law u ((opened a ∷ ps) ∷ ws) (leb 1 n && leb n (length ws) && ltb j (length l))
-      (builds ((opened c ∷ (ps ++ (opened a ∷ (drop j l ++ take j l)))) ∷ without ws (n - 1)) (tri (startOr a ps) a c) glued fresh fresh 0 0 1)
+      (builds (buildingOf ((opened c ∷ (ps ++ (opened a ∷ (drop j l ++ take j l)))) ∷ without ws (n - 1)) (tri (startOr a ps) a c) glued fresh fresh 0 0 1))
       (λ t.
       let t′ = and-left (leb 1 n && leb n (length ws)) (ltb j (length l)) t in
       let h : j < length l = ltb-true j (length l) (and-right (leb 1 n && leb n (length ws)) (ltb j (length l)) t) in

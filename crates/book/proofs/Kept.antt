@@ -16,6 +16,7 @@ use Rattle.rules.specs.Ring.{Node, Ring, vertex, startOr}
 use Rattle.rules.specs.Table.{Side, Effect, not-allowed, builds, marks, effect, sideRule, edgeRule}
 use Rattle.rules.specs.Machine.{empty, afterBuild, afterMark, Step, refused, test, done, operation}
 use Rattle.rules.specs.Book.{Book, entered}
+use Rattle.shown.specs.Effects.{buildingOf, markingOf}
 use Rattle.book.specs.Sums.{pathSum, ringSum, loopsSum, openHit, openEdges}
 use Rattle.book.specs.Consistent.{Consistent}
 use Rattle.book.specs.Numbers.{NodesBelow, LoopsBelow}
@@ -65,7 +66,7 @@ more-corners ls u n p q r vs three h k =
 -- a triangle is built
 kept-built : (b : Book) → Consistent b → (ls : List Ring) (t : Triangle) (pq qr rp : Side) (n s k : ℕ)
     → Builds (b .machine .used) (b .machine .loops) ls t pq qr rp n s k → LoopsBelow (b .machine .used + n) ls → edgeRule t pq qr rp (b .machine .triangles) ≡ true
-    → Consistent (record { machine = afterBuild (b .machine) ls t pq qr rp n s k; borders = b .borders })
+    → Consistent (record { machine = afterBuild (b .machine) (buildingOf ls t pq qr rp n s k); borders = b .borders })
 unfolding corners edgesOf count
 kept-built b c ls t pq qr rp n s k l low rule =
     let m = b .machine in
@@ -110,7 +111,7 @@ kept-built b c ls t pq qr rp n s k l low rule =
 
 -- an edge is declared border
 kept-marked : (b : Book) → Consistent b → (ls : List Ring) (d : Edge) (rim : ℕ) → Marks (b .machine .loops) ls d rim → LoopsBelow (b .machine .used) ls
-    → Consistent (record { machine = afterMark (b .machine) ls rim; borders = d ∷ b .borders })
+    → Consistent (record { machine = afterMark (b .machine) (markingOf ls d rim); borders = d ∷ b .borders })
 unfolding count
 kept-marked b c ls d rim l low = record {
   below = c .below;
@@ -135,10 +136,13 @@ kept-by : (b : Book) → Consistent b → (e : Effect) → Law (b .machine .used
     → Consistent (entered b (done (b .machine) e))
 unfolding done
 kept-by b c not-allowed l v = c
-kept-by b c (builds ls t pq qr rp n s k) l v =
+kept-by b c (builds y) l v =
     test-law (λ (x : Step). Consistent (entered b x)) _ _ _ c
-    (λ i. test-law (λ (x : Step). Consistent (entered b x)) (edgeRule t pq qr rp (b .machine .triangles)) _ _ c (λ r. kept-built b c ls t pq qr rp n s k l (v .0) r))
-kept-by b c (marks ls d rim) l v = test-law (λ (x : Step). Consistent (entered b x)) _ _ _ c (λ i. kept-marked b c ls d rim l v)
+    (λ i. test-law (λ (x : Step). Consistent (entered b x))
+    (edgeRule (y .triangle) (y .sides .pq) (y .sides .qr) (y .sides .rp) (b .machine .triangles)) _ _ c
+    (λ r. kept-built b c (y .loops) (y .triangle) (y .sides .pq) (y .sides .qr) (y .sides .rp)
+    (y .added .vertices) (y .added .starts) (y .added .unions) l (v .0) r))
+kept-by b c (marks y) l v = test-law (λ (x : Step). Consistent (entered b x)) _ _ _ c (λ i. kept-marked b c (y .loops) (y .edge) (y .rims) l v)
 
 -- an operation, accepted or refused
 pub kept : (b : Book) → Consistent b → (o : Operation) → Consistent (entered b (operation (b .machine) o))

@@ -14,6 +14,7 @@ use Rattle.rules.specs.declared.Operation.the-variants.{New, Forward, Backward,
 use Rattle.rules.specs.Triangle.{Edge, edge}
 use Rattle.rules.specs.Ring.{Node, opened, marked, Ring, vertex, startOr, vertexAt, lastVertex, front, onward, reached, shown, loopAt, without}
 use Rattle.rules.specs.Table.{Side, Effect, not-allowed, builds, marks, allowed, inOrder, marking, atEdge, atRest, effect}
+use Rattle.shown.specs.Effects.{buildingOf, markingOf}
 use Rattle.book.specs.Consistent.{AllCurrent}
 use Rattle.book.specs.Numbers.{NodesBelow, LoopsBelow}
 use Rattle.book.proofs.Counting.{and-left, and-right}
@@ -102,8 +103,10 @@ below-order u false l m ws x y z = (y, (x, z))
 -- an effect's loops and corners are below the next unused number after it
 abbrev pub Below : ℕ → Effect → Type 0
 Below u not-allowed = Unit {0}
-Below u (builds ls t pq qr rp n s k) = LoopsBelow (u + n) ls × ((t .p < u + n) × (t .q < u + n) × (t .r < u + n))
-Below u (marks ls d rim) = LoopsBelow u ls
+Below u (builds x) =
+    let n = u + x .added .vertices in
+    LoopsBelow n (x .loops) × ((x .triangle .p < n) × (x .triangle .q < n) × (x .triangle .r < n))
+Below u (marks x) = LoopsBelow u (x .loops)
 
 allowed-below : (u : ℕ) (t : Bool) (c : Effect) → (t ≡ true → Below u c) → Below u (allowed t c)
 unfolding allowed
@@ -218,10 +221,10 @@ below-effect o u ((e ∷ ps) ∷ ws) h = below-at-edge o u (vertex e) ps ws (h .
 
 -- a triangle is built
 pub below-built : (o : Operation) (u : ℕ) (ls ls′ : List Ring) (t : Triangle) (pq qr rp : Side) (n s k : ℕ) → AllCurrent ls → LoopsBelow u ls
-    → effect o u ls ≡ builds ls′ t pq qr rp n s k → LoopsBelow (u + n) ls′ × ((t .p < u + n) × (t .q < u + n) × (t .r < u + n))
+    → effect o u ls ≡ builds (buildingOf ls′ t pq qr rp n s k) → LoopsBelow (u + n) ls′ × ((t .p < u + n) × (t .q < u + n) × (t .r < u + n))
 below-built o u ls ls′ t pq qr rp n s k c h e = subst (Below u) e (below-effect o u ls h)
 
 -- an edge is marked
-pub below-marked : (o : Operation) (u : ℕ) (ls ls′ : List Ring) (d : Edge) (rim : ℕ) → LoopsBelow u ls → effect o u ls ≡ marks ls′ d rim
+pub below-marked : (o : Operation) (u : ℕ) (ls ls′ : List Ring) (d : Edge) (rim : ℕ) → LoopsBelow u ls → effect o u ls ≡ marks (markingOf ls′ d rim)
     → LoopsBelow u ls′
 below-marked o u ls ls′ d rim h e = subst (Below u) e (below-effect o u ls h)

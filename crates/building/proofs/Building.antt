@@ -14,10 +14,10 @@ use Rattle.rules.specs.declared.Builder.{Builder}
 use Rattle.rules.specs.Limits.{maxPlaces}
 use Rattle.rules.specs.Count.{num, count, uses}
 use Rattle.rules.specs.Check.{allBelow}
-use Rattle.rules.specs.Machine.{Machine, Step, refused, begun, built, declared, finished, Rooms, beginning, totals}
+use Rattle.rules.specs.Machine.{Machine, Step, refused, begun, built, declared, finished, beginning, totals}
 use Rattle.rules.specs.Answer.{Answer, accepted}
-use Rattle.rules.specs.Book.{Call, begin, operate, end, Book, recounted, call, emptyBook, answerOf, answer, after, answers, afterAll, isAccepted, logged, logAll}
-use Rattle.rules.specs.Buffer.{Buffers}
+use Rattle.rules.specs.Book.{Call, begin, operate, finish, Book, recounted, call, emptyBook, answerOf, answer, after, answers, afterAll, isAccepted, logged, logAll}
+use Rattle.rules.specs.Buffer.{Buffers, Lengths}
 use Rattle.rules.specs.View.{placesOf, openAt, loopsOf, view}
 use Rattle.rules.specs.Test21.{apart, placesFit, loopsFit, linksFit, sound}
 use Rattle.rules.specs.Build.{viewed}
@@ -27,7 +27,7 @@ use Rattle.book.proofs.Counting.{and-right}
 use Rattle.book.proofs.Calls.{Holds, empty-holds, holds-kept, holds-after, begins-empty, refused-same, finish-same}
 use Rattle.book.proofs.Open.{open-edges-exact}
 use Rattle.book.proofs.Euler.{euler-signed}
-use Rattle.building.specs.Building.{World, buffersOf, roomsOf, Called, Run, Replayed, KeepsTheBook, BuildersBook}
+use Rattle.building.specs.Building.{World, buffersOf, lengthsOf, Called, Run, Replayed, KeepsTheBook, BuildersBook}
 use Rattle.building.proofs.OpenEdges.{open-recorded}
 use Rattle.building.proofs.Kept.{viewOf, Agrees, sound-links, built-long, begin-answer, begin-agrees, begin-refused, operate-answer, operate-agrees, finish-answer, finish-agrees}
 
@@ -69,7 +69,7 @@ heads a b xs bs e = cc
 tails : (a b : Answer) (xs bs : List Answer) → a ∷ xs ≡ b ∷ bs → xs ≡ bs
 tails a b xs bs e = cc
 
-module _ (R : Rooms) where
+module _ (R : Lengths) where
   -- one call
   begin-by : (s : Counts) (w : World) (a : Answer) (v : World) (b : Book) → Agrees R w b → Called (begin s) w a v → (t : Bool)
       → isAccepted (beginning R s) ≡ t → Agrees R v (after R b (begin s))
@@ -79,12 +79,12 @@ module _ (R : Rooms) where
   call-agrees : (c : Call) (w : World) (a : Answer) (v : World) (b : Book) → Holds b → Agrees R w b → Called c w a v → Agrees R v (after R b c)
   call-agrees (begin s) w a v b k g c = begin-by s w a v b g c (isAccepted (beginning R s)) refl
   call-agrees (operate o) w a v b k g c = operate-agrees R o w a v b k g c
-  call-agrees end w a v b k g c = finish-agrees R w a v b k g c
+  call-agrees finish w a v b k g c = finish-agrees R w a v b k g c
 
   call-answer : (c : Call) (w : World) (a : Answer) (v : World) (b : Book) → Holds b → Agrees R w b → Called c w a v → a ≡ answer R b c
   call-answer (begin s) w a v b k g c = begin-answer R s w a v (g .long) c
   call-answer (operate o) w a v b k g c = operate-answer R o w a v b k g c
-  call-answer end w a v b k g c = finish-answer R w a v b k g c
+  call-answer finish w a v b k g c = finish-answer R w a v b k g c
 
   -- a list of calls
   run-answers : (cs : List Call) (w : World) (xs : List Answer) (v : World) (b : Book) → Holds b → Agrees R w b → Run cs w xs v → xs ≡ answers R b cs
@@ -104,11 +104,11 @@ module _ (R : Rooms) where
 
   -- a new builder that is given the logged calls holds the same machine
   abbrev Replays : Book → List Call → Type 0
-  Replays b l = (w v : World) → roomsOf w ≡ R → Replayed l w v → Agrees R v b
+  Replays b l = (w v : World) → lengthsOf w ≡ R → Replayed l w v → Agrees R v b
 
   replay-begin : (s : Counts) → isAccepted (beginning R s) ≡ true → Replays (emptyBook s) (begin s ∷ [])
   replay-begin s e w v l r =
-      begin-agrees R s (r .between) (r .answer) v (ap roomsOf (r .before) ∙ l) (r .called) e
+      begin-agrees R s (r .between) (r .answer) v (ap lengthsOf (r .before) ∙ l) (r .called) e
 
   replay-call : (b : Book) (l : List Call) → Holds b → Replays b l → (c : Call) (t : Bool) → isAccepted (call R (b .machine) c) ≡ t
       → Replays (after R b c) (logged l c t)
@@ -116,7 +116,7 @@ module _ (R : Rooms) where
   replay-call b l k h (begin s) true e w v n r = rw (begins-empty R s e .step) (replay-begin s e w v n r)
   replay-call b l k h (operate o) true e w v n r =
       call-agrees (operate o) (r .between) (r .answer) v b k (h w (r .between) n (r .before)) (r .called)
-  replay-call b l k h end true e w v n r = rw (finish-same b (recounted (b .machine))) (h w v n r)
+  replay-call b l k h finish true e w v n r = rw (finish-same b (recounted (b .machine))) (h w v n r)
 
   replay-all : (b : Book) (l : List Call) → Holds b → Replays b l → (cs : List Call) → Replays (afterAll R b cs) (logAll R b l cs)
   unfolding afterAll logAll
@@ -130,12 +130,12 @@ abbrev EulerSum : Machine → Type 0
 EulerSum m = totals m .euler +ℤ pos (length (m .loops)) +ℤ pos (m .rims) ≡ pos (2 * m .starts) -ℤ pos (2 * m .unions)
 
 -- what holds of a world that agrees with the book
-keeps-the-book : (w : World) (s : Counts) (cs : List Call) (xs : List Answer) (v : World) → isAccepted (beginning (roomsOf w) s) ≡ true
-    → xs ≡ answers (roomsOf w) (emptyBook s) cs → Agrees (roomsOf w) v (afterAll (roomsOf w) (emptyBook s) cs)
-    → KeepsTheBook w s cs xs v (afterAll (roomsOf w) (emptyBook s) cs)
+keeps-the-book : (w : World) (s : Counts) (cs : List Call) (xs : List Answer) (v : World) → isAccepted (beginning (lengthsOf w) s) ≡ true
+    → xs ≡ answers (lengthsOf w) (emptyBook s) cs → Agrees (lengthsOf w) v (afterAll (lengthsOf w) (emptyBook s) cs)
+    → KeepsTheBook w s cs xs v (afterAll (lengthsOf w) (emptyBook s) cs)
 unfolding view
 keeps-the-book w s cs xs v ok e g =
-    let R = roomsOf w in
+    let R = lengthsOf w in
     let b = afterAll R (emptyBook s) cs in
     let k : Holds b = holds-after R s ok cs in
     let c = k .consistent in
@@ -171,7 +171,7 @@ keeps-the-book w s cs xs v ok e g =
 
 pub building-calls-keep-the-book : BuildersBook
 building-calls-keep-the-book w s cs xs v r =
-    let R = roomsOf w in
+    let R = lengthsOf w in
     let ok : isAccepted (beginning R s) ≡ true =
     accepts (beginning R s) (heads accepted (r .first) xs (r .others) (r .answers) ∙ begin-answer R s w (r .first) (r .between) refl (r .called)) in
     let k = empty-holds s (begins-empty R s ok .range) in

@@ -19,10 +19,10 @@ use Rattle.rules.specs.declared.Checked.the-variants.{Accepted, Refused}
 use Rattle.rules.specs.Limits.{maxPlaces, inRange}
 use Rattle.rules.specs.Check.{allBelow}
 use Rattle.rules.specs.Table.{Effect, not-allowed, builds, marks, effect}
-use Rattle.rules.specs.Machine.{Machine, empty, Step, refused, begun, built, declared, finished, Rooms, roomy, within, done, operation, beginning, finish}
+use Rattle.rules.specs.Machine.{Machine, empty, Step, refused, begun, built, declared, finished, longEnough, within, done, operation, beginning, finishing}
 use Rattle.rules.specs.Answer.{Answer, accepted, checkedAnswer, begunAnswer}
-use Rattle.rules.specs.Book.{operate, end, Book, recounted, emptyBook, entered, answerOf, after, isAccepted}
-use Rattle.rules.specs.Buffer.{freePlace, cleared, Buffers, lengths}
+use Rattle.rules.specs.Book.{operate, finish, Book, recounted, emptyBook, entered, answerOf, after, isAccepted}
+use Rattle.rules.specs.Buffer.{freePlace, cleared, Buffers, Lengths, lengths}
 use Rattle.rules.specs.View.{view, trianglesBuilt, placesOf, loopsOf}
 use Rattle.rules.specs.Test21.{sizesOf, countsFit, sumsFit, apart, placesFit, loopsFit, linksFit, trianglesFit, sound}
 use Rattle.rules.specs.Build.{viewed, operates, begunBuilder, begunBuffers, BegunBy, withTriangle, OperatedBy}
@@ -32,31 +32,31 @@ use Rattle.book.proofs.Counting.{and-left, and-right}
 use Rattle.book.proofs.Kept.{test-law}
 use Rattle.book.proofs.Bounds.{bounded-ranges}
 use Rattle.book.proofs.Calls.{Holds, holds-kept, machine-entered, refused-same, recounted-same, finish-same}
-use Rattle.building.specs.Building.{World, buffersOf, roomsOf, lastState, BeginningCalled, OperationCalled, FinishCalled}
+use Rattle.building.specs.Building.{World, buffersOf, lengthsOf, lastState, BeginningCalled, OperationCalled, FinishCalled}
 
 -- the machine that a world is read as
 abbrev pub viewOf : World → Machine
 viewOf w = viewed (w .state) (buffersOf w)
 
 -- the buffers have the lengths r; state and buffers pass 21 and hold the book's machine
-pub record Agrees (r : Rooms) (w : World) (b : Book) : Type 0 where
+pub record Agrees (r : Lengths) (w : World) (b : Book) : Type 0 where
   pub passes : sound (w .state) (buffersOf w) ≡ true
-  pub long : roomsOf w ≡ r
+  pub long : lengthsOf w ≡ r
   pub same : viewOf w ≡ b .machine
 
 -- what 21 tests
-abbrev roomFits : Builder → Buffers → Bool
-roomFits b r = roomy (lengths r) (b .stated)
+abbrev longFits : Builder → Buffers → Bool
+longFits b r = longEnough (lengths r) (b .stated)
 
-sound-all : (b : Builder) (r : Buffers) → roomFits b r ≡ true → countsFit b ≡ true → sumsFit b ≡ true → linksFit b (r .places) ≡ true
+sound-all : (b : Builder) (r : Buffers) → longFits b r ≡ true → countsFit b ≡ true → sumsFit b ≡ true → linksFit b (r .places) ≡ true
     → trianglesFit b (r .triangles) ≡ true → sound b r ≡ true
 unfolding sound
 sound-all b r x₁ x₂ x₃ x₄ x₅ = ap₂ _&&_ (ap₂ _&&_ (ap₂ _&&_ (ap₂ _&&_ x₁ x₂) x₃) x₄) x₅
 
-pub sound-room : (b : Builder) (r : Buffers) → sound b r ≡ true → roomy (lengths r) (b .stated) ≡ true
+pub sound-long : (b : Builder) (r : Buffers) → sound b r ≡ true → longEnough (lengths r) (b .stated) ≡ true
 unfolding sound
-sound-room b r h =
-    let x₁ = roomFits b r in
+sound-long b r h =
+    let x₁ = longFits b r in
     let x₂ = x₁ && countsFit b in
     let x₃ = x₂ && sumsFit b in
     let x₄ = x₃ && linksFit b (r .places) in
@@ -65,7 +65,7 @@ sound-room b r h =
 pub sound-links : (b : Builder) (r : Buffers) → sound b r ≡ true → linksFit b (r .places) ≡ true
 unfolding sound
 sound-links b r h =
-    let x₃ = roomFits b r && countsFit b && sumsFit b in
+    let x₃ = longFits b r && countsFit b && sumsFit b in
     let x₄ = x₃ && linksFit b (r .places) in
     and-right x₃ (linksFit b (r .places)) (and-left x₄ (trianglesFit b (r .triangles)) h)
 
@@ -102,25 +102,25 @@ cleared-long ps h =
     length-append (replicate maxPlaces freePlace) (drop maxPlaces ps)
     ∙ omega (arith, length-replicate maxPlaces freePlace, length-drop maxPlaces ps, h)
 
-roomy-places : (r : Rooms) (s : Counts) → roomy r s ≡ true → maxPlaces ≤ r .places
-roomy-places r s h = leb-true maxPlaces (r .places) (and-right (leb (3 * s .triangles) (r .triangles)) (leb maxPlaces (r .places)) h)
+long-places : (r : Lengths) (s : Counts) → longEnough r s ≡ true → maxPlaces ≤ r .places
+long-places r s h = leb-true maxPlaces (r .places) (and-right (leb (3 * s .triangles) (r .triangles)) (leb maxPlaces (r .places)) h)
 
-roomy-triangles : (r : Rooms) (s : Counts) → roomy r s ≡ true → 3 * s .triangles ≤ r .triangles
-roomy-triangles r s h =
+long-triangles : (r : Lengths) (s : Counts) → longEnough r s ≡ true → 3 * s .triangles ≤ r .triangles
+long-triangles r s h =
     leb-true (3 * s .triangles) (r .triangles) (and-left (leb (3 * s .triangles) (r .triangles)) (leb maxPlaces (r .places)) h)
 
 -- a beginning that passes 13 and 14
-pub record Roomed (r : Rooms) (s : Counts) (x : Step) : Type 0 where
+pub record LongEnough (r : Lengths) (s : Counts) (x : Step) : Type 0 where
   pub step : x ≡ begun (empty s)
   pub range : inRange s ≡ true
-  pub room : roomy r s ≡ true
+  pub long : longEnough r s ≡ true
 
-pub begins-roomed : (r : Rooms) (s : Counts) → isAccepted (beginning r s) ≡ true → Roomed r s (beginning r s)
+pub begins-long-enough : (r : Lengths) (s : Counts) → isAccepted (beginning r s) ≡ true → LongEnough r s (beginning r s)
 unfolding beginning
-begins-roomed r s =
-    test-law (λ (x : Step). isAccepted x ≡ true → Roomed r s x) (inRange s) _ _ (λ h. absurd (false≢true h))
-    (λ i. test-law (λ (x : Step). isAccepted x ≡ true → Roomed r s x) (roomy r s) _ _ (λ h. absurd (false≢true h))
-    (λ j h. record { step = refl; range = i; room = j }))
+begins-long-enough r s =
+    test-law (λ (x : Step). isAccepted x ≡ true → LongEnough r s x) (inRange s) _ _ (λ h. absurd (false≢true h))
+    (λ i. test-law (λ (x : Step). isAccepted x ≡ true → LongEnough r s x) (longEnough r s) _ _ (λ h. absurd (false≢true h))
+    (λ j h. record { step = refl; range = i; long = j }))
 
 -- what the answer to a beginning says of state and buffers
 begun-as : (b : Builder) (r : Buffers) (s : Counts) (x : Checked) (b′ : Builder) (r′ : Buffers) → checkedAnswer x ≡ accepted
@@ -166,8 +166,8 @@ Grows M (finished x) = Unit {0}
 grows : (M : Machine) (e : Effect) → Grows M (done M e)
 unfolding done
 grows M not-allowed = tt
-grows M (builds ls t pq qr rp n s k) = test-law (Grows M) _ _ _ tt (λ i. test-law (Grows M) _ _ _ tt (λ j. (refl, refl)))
-grows M (marks ls d rim) = test-law (Grows M) _ _ _ tt (λ i. tt)
+grows M (builds x) = test-law (Grows M) _ _ _ tt (λ i. test-law (Grows M) _ _ _ tt (λ j. (refl, refl)))
+grows M (marks x) = test-law (Grows M) _ _ _ tt (λ i. tt)
 
 within-triangles : (m : Machine) → within m ≡ true → length (m .triangles) ≤ m .stated .triangles
 within-triangles m h =
@@ -192,7 +192,7 @@ writes b r k (built t m) h e g l =
     let f : length (m .triangles) ≡ suc (b .built) =
     ap length (g .0) ∙ ap (λ (n : Machine). suc (length (n .triangles))) (sym e) ∙ ap suc (built-long (r .triangles) (b .built)) in
     let c : m .stated .triangles ≡ b .stated .triangles = ap (λ (c : Counts). c .triangles) (g .1 ∙ ap (λ (n : Machine). n .stated) (sym e)) in
-    omega (arith, f, c, within-triangles m (l .bounded .counts), roomy-triangles (lengths r) (b .stated) (sound-room b r h))
+    omega (arith, f, c, within-triangles m (l .bounded .counts), long-triangles (lengths r) (b .stated) (sound-long b r h))
 writes b r k (declared d m) h e g l = tt
 writes b r k (finished x) h e g l = tt
 
@@ -237,38 +237,38 @@ ranges-sums b r k =
     ap₂ _&&_ (ap₂ _&&_ (ap₂ _&&_ (le-leb (b .edges) n (k .edges)) (le-leb (b .starts) n (k .starts))) (le-leb (b .unions) n (k .unions)))
     (le-leb (b .rims) n (k .rims))
 
-same-rooms : (t p p′ : ℕ) → p ≡ p′ → _≡_ {A = Rooms} (record { triangles = t; places = p }) (record { triangles = t; places = p′ })
-same-rooms t p p′ e i = record { triangles = t; places = e i }
+same-lengths : (t p p′ : ℕ) → p ≡ p′ → _≡_ {A = Lengths} (record { triangles = t; places = p }) (record { triangles = t; places = p′ })
+same-lengths t p p′ e i = record { triangles = t; places = e i }
 
-module _ (R : Rooms) where
+module _ (R : Lengths) where
   -- the world after an accepted beginning
-  begun-agrees : (w : World) (s : Counts) → roomsOf w ≡ R → Roomed R s (beginning R s) → Agrees R (world-of (begunBuilder s) (begunBuffers (buffersOf w))) (emptyBook s)
+  begun-agrees : (w : World) (s : Counts) → lengthsOf w ≡ R → LongEnough R s (beginning R s) → Agrees R (world-of (begunBuilder s) (begunBuffers (buffersOf w))) (emptyBook s)
   begun-agrees w s l k =
       let r : Buffers = begunBuffers (buffersOf w) in
-      let m : maxPlaces ≤ length (w .places) = omega (arith, roomy-places R s (k .room), ap (λ (x : Rooms). x .places) l) in
-      let e : lengths r ≡ R = same-rooms (length (w .triangles)) (length (cleared (w .places))) (length (w .places)) (cleared-long (w .places) m) ∙ l in
+      let m : maxPlaces ≤ length (w .places) = omega (arith, long-places R s (k .long), ap (λ (x : Lengths). x .places) l) in
+      let e : lengths r ≡ R = same-lengths (length (w .triangles)) (length (cleared (w .places))) (length (w .places)) (cleared-long (w .places) m) ∙ l in
       record {
         passes =
-            sound-all (begunBuilder s) r (ap (λ (x : Rooms). roomy x s) e ∙ k .room) (begun-counts s (k .range)) (begun-sums s) (begun-links s (r .places))
+            sound-all (begunBuilder s) r (ap (λ (x : Lengths). longEnough x s) e ∙ k .long) (begun-counts s (k .range)) (begun-sums s) (begun-links s (r .places))
             (begun-triangles s (r .triangles));
         long = e;
         same = begun-viewed s r;
       }
 
-  module _ (s : Counts) (w : World) (a : Answer) (v : World) (l : roomsOf w ≡ R) (c : BeginningCalled s w a v) where
+  module _ (s : Counts) (w : World) (a : Answer) (v : World) (l : lengthsOf w ≡ R) (c : BeginningCalled s w a v) where
     begin-answered : begunAnswer (c .result) ≡ answerOf (beginning R s)
-    begin-answered = c .promised .answer ∙ ap (λ (r : Rooms). answerOf (beginning r s)) l
+    begin-answered = c .promised .answer ∙ ap (λ (r : Lengths). answerOf (beginning r s)) l
 
     pub begin-answer : a ≡ answerOf (beginning R s)
     begin-answer = c .answer ∙ begin-answered
 
     pub begin-agrees : isAccepted (beginning R s) ≡ true → Agrees R v (emptyBook s)
     begin-agrees h =
-        let e : begunAnswer (c .result) ≡ accepted = begin-answered ∙ ap answerOf (begins-roomed R s h .step) in
+        let e : begunAnswer (c .result) ≡ accepted = begin-answered ∙ ap answerOf (begins-long-enough R s h .step) in
         let x = begun-as (w .state) (buffersOf w) s (c .result .answer) (c .result .state) (buffersOf v) e (c .promised .after) in
         let f : v ≡ world-of (begunBuilder s) (begunBuffers (buffersOf w)) =
         same-world (v .state) (begunBuilder s) (buffersOf v) (begunBuffers (buffersOf w)) (c .state ∙ x .0) (x .1) in
-        subst (λ (u : World). Agrees R u (emptyBook s)) (sym f) (begun-agrees w s l (begins-roomed R s h))
+        subst (λ (u : World). Agrees R u (emptyBook s)) (sym f) (begun-agrees w s l (begins-long-enough R s h))
 
     pub begin-refused : isAccepted (beginning R s) ≡ false → v ≡ w
     begin-refused h =
@@ -318,10 +318,10 @@ module _ (R : Rooms) where
     operate-agrees = operate-by (isAccepted (operation (b .machine) o)) refl
 
   module _ (w : World) (a : Answer) (v : World) (b : Book) (k : Holds b) (g : Agrees R w b) (c : FinishCalled w a v) where
-    pub finish-answer : a ≡ answerOf (finish (recounted (b .machine)))
+    pub finish-answer : a ≡ answerOf (finishing (recounted (b .machine)))
     finish-answer =
-        c .answer ∙ c .promised .answer ∙ ap (λ (t : Bool). answerOf (elim t [ true ↦ finish (viewOf w) | false ↦ refused 21 ])) (g .passes)
-        ∙ ap (λ (m : Machine). answerOf (finish m)) (g .same ∙ sym (recounted-same b (k .consistent)))
+        c .answer ∙ c .promised .answer ∙ ap (λ (t : Bool). answerOf (elim t [ true ↦ finishing (viewOf w) | false ↦ refused 21 ])) (g .passes)
+        ∙ ap (λ (m : Machine). answerOf (finishing m)) (g .same ∙ sym (recounted-same b (k .consistent)))
 
-    pub finish-agrees : Agrees R v (after R b end)
+    pub finish-agrees : Agrees R v (after R b finish)
     finish-agrees = rw (c .same, finish-same b (recounted (b .machine))) g

@@ -17,10 +17,9 @@ use Rattle.rules.specs.declared.Performed.{Performed}
 use Rattle.rules.specs.declared.Finished.{Finished}
 use Rattle.rules.specs.Triangle.{corners, edgesOf}
 use Rattle.rules.specs.Count.{different, pairs}
-use Rattle.rules.specs.Machine.{Rooms}
 use Rattle.rules.specs.Answer.{Answer, accepted, begunAnswer, operatedAnswer, finishedAnswer}
-use Rattle.rules.specs.Book.{Call, begin, operate, end, Book, emptyBook, answer, answers, afterAll, logAll}
-use Rattle.rules.specs.Buffer.{Buffers, lengths}
+use Rattle.rules.specs.Book.{Call, begin, operate, finish, Book, emptyBook, answer, answers, afterAll, logAll}
+use Rattle.rules.specs.Buffer.{Buffers, Lengths, lengths}
 use Rattle.rules.specs.View.{openAt}
 use Rattle.rules.specs.Test21.{sound}
 use Rattle.rules.specs.Build.{viewed}
@@ -37,8 +36,8 @@ abbrev pub buffersOf : World → Buffers
 buffersOf w = lentTo (w .triangles) (w .places)
 
 -- the buffers' lengths
-abbrev pub roomsOf : World → Rooms
-roomsOf w = lengths (buffersOf w)
+abbrev pub lengthsOf : World → Lengths
+lengthsOf w = lengths (buffersOf w)
 
 -- a refused beginning returns its number only: the state before it is still the last
 abbrev pub lastState : Builder → Checked → Builder → Builder
@@ -69,7 +68,7 @@ pub record FinishCalled (w : World) (a : Answer) (v : World) : Type 0 where
 abbrev pub Called : Call → World → Answer → World → Type 0
 Called (begin s) w a v = BeginningCalled s w a v
 Called (operate o) w a v = OperationCalled o w a v
-Called end w a v = FinishCalled w a v
+Called finish w a v = FinishCalled w a v
 
 -- a call and then more: R says what these lead to
 pub record Goes (c : Call) (R : World → List Answer → World → Type 0) (w : World) (xs : List Answer) (v : World) : Type 0 where
@@ -101,9 +100,9 @@ Replayed (c ∷ cs) w v = Follows c (Replayed cs) w v
 -- the book. The book is fed the calls' arguments and the buffers' lengths, and nothing else of the builder.
 pub record KeepsTheBook (w : World) (s : Counts) (cs : List Call) (xs : List Answer) (v : World) (b : Book) : Type 0 where
   -- the beginning too is answered as by the book, whatever this held
-  pub first-answer : (b₀ : Book) → answer (roomsOf w) b₀ (begin s) ≡ accepted
+  pub first-answer : (b₀ : Book) → answer (lengthsOf w) b₀ (begin s) ≡ accepted
   -- each answer is the book's
-  pub each-answer : xs ≡ answers (roomsOf w) (emptyBook s) cs
+  pub each-answer : xs ≡ answers (lengthsOf w) (emptyBook s) cs
   -- 21 does not arise
   pub passes : sound (v .state) (buffersOf v) ≡ true
   -- triangles, live loops, numbers, peaks, edges, starts, unions and rims, as read off the state and the buffers, are the book's
@@ -127,10 +126,10 @@ pub record KeepsTheBook (w : World) (s : Counts) (cs : List Call) (xs : List Ans
   pub most-loops : v .state .peaks .loops ≡ b .machine .mostLoops
   -- A new builder, in buffers of the same lengths that hold anything, is given the last accepted beginning's counts and the operations
   -- accepted since, and is then u: it answers all further calls alike.
-  pub new-builder : (w′ u : World) → roomsOf w′ ≡ roomsOf w → Replayed (logAll (roomsOf w) (emptyBook s) (begin s ∷ []) cs) w′ u
+  pub new-builder : (w′ u : World) → lengthsOf w′ ≡ lengthsOf w → Replayed (logAll (lengthsOf w) (emptyBook s) (begin s ∷ []) cs) w′ u
       → (ds : List Call) (ys zs : List Answer) (u′ v′ : World) → Run ds u ys u′ → Run ds v zs v′ → ys ≡ zs
 
 -- The whole claim: in buffers that held anything, for every accepted beginning and every list of calls after it, refused ones included.
 abbrev pub BuildersBook : Type 0
 BuildersBook = (w : World) (s : Counts) (cs : List Call) (xs : List Answer) (v : World) → Run (begin s ∷ cs) w (accepted ∷ xs) v
-    → KeepsTheBook w s cs xs v (afterAll (roomsOf w) (emptyBook s) cs)
+    → KeepsTheBook w s cs xs v (afterAll (lengthsOf w) (emptyBook s) cs)

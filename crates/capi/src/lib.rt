@@ -171,12 +171,12 @@ pub extern "C" fn core_pack(
     v: usize,
     list: &[u16],
     numbering: &mut [u16],
-    room: &mut [u8],
+    buffer: &mut [u8],
     m: &mut [u16; 5320],
     n: usize,
     out: &mut [u32; 1],
 ) -> u32 {
-    let r = packer::pack_on(v, list, numbering, room, m, n);
+    let r = packer::pack_on(v, list, numbering, buffer, m, n);
     match r {
         Packed::Length(k) => {
             out[0] = k;

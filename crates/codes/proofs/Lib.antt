@@ -5,5 +5,5 @@ pub mod Operations
 pub mod Whole
 pub mod Fields
 pub mod Window
-pub mod Room
+pub mod Buffer
 pub mod Rest

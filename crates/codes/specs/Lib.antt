@@ -1,4 +1,4 @@
 pub mod Shape
 pub mod Whole
 pub mod Header
-pub mod Room
+pub mod Buffer

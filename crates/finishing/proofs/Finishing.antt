@@ -20,7 +20,7 @@ use Rattle.rules.specs.declared.Finished.the-variants as F
 use Rattle.rules.specs.Limits.{maxPlaces, inRange}
 use Rattle.rules.specs.Fan.{oneFanEach}
 use Rattle.rules.specs.View.{trianglesBuilt, view}
-use Rattle.rules.specs.Machine.{Machine, refused, test, complete, asStated, totals, finish}
+use Rattle.rules.specs.Machine.{Machine, refused, test, complete, asStated, totals, finishing}
 use Rattle.rules.specs.Answer.{Answer, refusal, numbers}
 use Rattle.rules.specs.Book.{answerOf}
 use Rattle.rules.specs.Buffer.{Buffers}
@@ -44,12 +44,12 @@ ended true false c x = refusal 19
 ended false b c x = refusal 15
 
 finish-ended : (M : Machine) (a b c : Bool) → complete M ≡ a → asStated M ≡ b → oneFanEach (M .used) (M .triangles) ≡ c
-    → answerOf (finish M) ≡ ended a b c (totals M)
-unfolding finish test
-finish-ended M true true true e f g = rw (finish, test, e, f, g)
-finish-ended M true true false e f g = rw (finish, test, e, f, g)
-finish-ended M true false c e f g = rw (finish, test, e, f)
-finish-ended M false b c e f g = rw (finish, test, e)
+    → answerOf (finishing M) ≡ ended a b c (totals M)
+unfolding finishing test
+finish-ended M true true true e f g = rw (finishing, test, e, f, g)
+finish-ended M true true false e f g = rw (finishing, test, e, f, g)
+finish-ended M true false c e f g = rw (finishing, test, e, f)
+finish-ended M false b c e f g = rw (finishing, test, e)
 
 module _ (f : Front) (xs : List ℕ) where
   totals-same : (M : Machine) (m : List ℕ) → Keeps maxPlaces f m M → totalsOf f ≡ totals M
@@ -101,8 +101,8 @@ length-built xs zero = refl
 length-built xs (suc k) = ap suc (length-built xs k)
 
 finishes-by : (b : Builder) (xs m : List ℕ) (n : ℕ) (t : Bool) → sound b (lent xs n m) ≡ t
-    → finishes b (lent xs n m) ≡ elim t [ true ↦ finish (viewed b (lent xs n m)) | false ↦ refused 21 ]
-finishes-by b xs m n t e = ap (λ (u : Bool). elim u [ true ↦ finish (viewed b (lent xs n m)) | false ↦ refused 21 ]) e
+    → finishes b (lent xs n m) ≡ elim t [ true ↦ finishing (viewed b (lent xs n m)) | false ↦ refused 21 ]
+finishes-by b xs m n t e = ap (λ (u : Bool). elim u [ true ↦ finishing (viewed b (lent xs n m)) | false ↦ refused 21 ]) e
 
 -- of a state that passes: the buffer has room for T triangles, and no more are built
 sound-parts : (b : Builder) (r : Buffers) → sound b r ≡ true

@@ -16,7 +16,7 @@ use Rattle.rules.specs.declared.Checked.the-variants.{Accepted, Refused}
 use Rattle.rules.specs.declared.Finished.{Finished}
 use Rattle.rules.specs.Limits.{maxPlaces, maxTriangles}
 use Rattle.rules.specs.View.{trianglesBuilt}
-use Rattle.rules.specs.Machine.{Machine, finish}
+use Rattle.rules.specs.Machine.{Machine, finishing}
 use Rattle.rules.specs.Answer.{begunAnswer, finishedAnswer}
 use Rattle.rules.specs.Book.{answerOf}
 use Rattle.rules.specs.Buffer.{freePlace}
@@ -64,7 +64,7 @@ pub record Fits (f : Front) (xs : List ℕ) : Type 0 where
 -- the answer is that of each machine that the state keeps, with these triangles
 abbrev pub FinishesFront : Front → List ℕ → Finished → Type 0
 FinishesFront f xs r = (M : Machine) (m : List ℕ) → Keeps maxPlaces f m M → M .triangles ≡ trianglesBuilt xs (f .built)
-    → finishedAnswer r ≡ answerOf (finish M)
+    → finishedAnswer r ≡ answerOf (finishing M)
 
 -- what a finish gives, of a core's state
 unfoldable pub totalsOf : Front → Totals

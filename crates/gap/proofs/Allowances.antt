@@ -12,14 +12,15 @@ use Rattle.rules.specs.Ring.{Node, Ring, vertex, startOr, reached, shown}
 use Rattle.rules.specs.Table.{Side, Effect, not-allowed, builds, marks, allowed, marking, atEdge, atRest}
 use Rattle.shown.specs.Shown.{shownAll}
 use Rattle.shown.proofs.Shown.{border-shown}
+use Rattle.shown.specs.Effects.{buildingOf}
 use Rattle.gap.specs.Trace.{afterBorder, withRing}
 use Rattle.gap.proofs.Tracking.{firstRing}
 
 -- where no loop is live only start is allowed, and it builds
 unfoldable pub OnlyStart : Operation → ℕ → Effect → Type 0
 OnlyStart o u not-allowed = Unit {0}
-OnlyStart o u (builds ls t pq qr rp n s k) = (o ≡ Start) × (ls ≡ firstRing u (suc u) (suc (suc u))) × (t ≡ tri u (suc u) (suc (suc u))) × (n ≡ 3)
-OnlyStart o u (marks ls d n) = ⊥
+OnlyStart o u (builds x) = (o ≡ Start) × (x .loops ≡ firstRing u (suc u) (suc (suc u))) × (x .triangle ≡ tri u (suc u) (suc (suc u))) × (x .added .vertices ≡ 3)
+OnlyStart o u (marks x) = ⊥
 
 pub only-start : (o : Operation) (u : ℕ) → OnlyStart o u (atRest o u)
 unfolding OnlyStart atRest
@@ -35,11 +36,11 @@ only-start Start u = (refl, refl, refl, refl)
 -- at an edge only border marks
 unfoldable pub OnlyBorder : Operation → Node → Node → List Node → List Ring → Effect → Type 0
 OnlyBorder o e f ps ws not-allowed = Unit {0}
-OnlyBorder o e f ps ws (builds ls t pq qr rp n s k) = Unit {0}
-OnlyBorder o e f ps ws (marks ls d n) = (o ≡ Border) × (ls ≡ shownAll (withRing (afterBorder e f ps) ws))
+OnlyBorder o e f ps ws (builds x) = Unit {0}
+OnlyBorder o e f ps ws (marks x) = (o ≡ Border) × (x .loops ≡ shownAll (withRing (afterBorder e f ps) ws))
 
 marks-allowed : (o : Operation) (e f : Node) (ps : List Node) (ws : List Ring) (b : Bool) (ls : List Ring) (t : Triangle) (pq qr rp : Side) (n s k : ℕ)
-    → OnlyBorder o e f ps ws (allowed b (builds ls t pq qr rp n s k))
+    → OnlyBorder o e f ps ws (allowed b (builds (buildingOf ls t pq qr rp n s k)))
 unfolding OnlyBorder allowed
 marks-allowed o e f ps ws true ls t pq qr rp n s k = tt
 marks-allowed o e f ps ws false ls t pq qr rp n s k = tt

@@ -23,6 +23,7 @@ use Rattle.fans.specs.Corner.{Rot, at-p, at-q, at-r, In, here, Once}
 use Rattle.fans.specs.Neighbours.{Neighbours}
 use Rattle.shown.specs.Shown.{shownAll, Live}
 use Rattle.shown.proofs.Shown.{reached-first}
+use Rattle.shown.specs.Effects.{markingOf}
 use Rattle.gap.specs.Turn.{Unused}
 use Rattle.gap.specs.Trace.{triangleAt, afterBorder, withRing}
 use Rattle.gap.specs.Tally.{newNumbers, openEdges, allOpenEdges}
@@ -59,7 +60,7 @@ labour s = 4 * length (s .left) + allOpenEdges (s .loops)
 
 -- what the packer's three branches come to
 pub choose-border : (s : Packing) (e f : Node) (ps : List Node) (ws ls : List Ring) (d : Edge) (n : ℕ) → s .loops ≡ (e ∷ (f ∷ ps)) ∷ ws
-    → across (vertex f) (vertex e) (s .mesh) ≡ Nothing → atEdge Border 0 (vertex e) (f ∷ ps) ws ≡ marks ls d n
+    → across (vertex f) (vertex e) (s .mesh) ≡ Nothing → atEdge Border 0 (vertex e) (f ∷ ps) ws ≡ marks (markingOf ls d n)
     → choose s ≡ limited Border (packingAfter s (s .left) (s .numbered) ls)
 unfolding chooseIn chooseAt taking
 choose-border s e f ps ws ls d n l h k = rw (l, chooseIn, chooseAt, h, k) refl
@@ -238,7 +239,7 @@ module _ (s : Packing) (B : List Triangle) (rims : List Ring) (fit : Fits s B ri
       free : Unused (vertex f) (vertex e) (s .mesh)
       free = border-free (s .mesh) (s .left) B e f ps ws rims before u
 
-      mark : (n : ℕ) × (atEdge Border 0 (vertex e) (f ∷ reached ps (not (isOpen f))) (shownAll ws) ≡ marks (shownAll (withRing (afterBorder e f ps) ws)) (edge (vertex e) (vertex f)) n)
+      mark : (n : ℕ) × (atEdge Border 0 (vertex e) (f ∷ reached ps (not (isOpen f))) (shownAll ws) ≡ marks (markingOf (shownAll (withRing (afterBorder e f ps) ws)) (edge (vertex e) (vertex f)) n))
       mark = let r = border-marks 0 e f ps ws in (r .0, ap (λ (k : List Node). atEdge Border 0 (vertex e) k (shownAll ws)) (sym (reached-first f ps)) ∙ r .1)
 
       goes : (last : Packing) (M : List Triangle) (os : List Operation)

@@ -17,6 +17,7 @@ use Rattle.rules.specs.Table.{glued, fresh, Effect, builds, marks, allowed, inO
 use Rattle.fans.proofs.Counting.{and-both}
 use Rattle.shown.specs.Shown.{Stays, shownAll, Live}
 use Rattle.shown.proofs.Shown.{reached-append, reached-first, reached-cut, border-shown, backward-shown, reached-some, take-cut, drop-cut, all-shown-append, all-shown-length, live-split, shown-start, waiting-shown}
+use Rattle.shown.specs.Effects.{buildingOf, markingOf}
 use Rattle.gap.specs.Surgery.{fewerFirst, Surgery, on-new, on-forward, on-backward, on-close, on-split, on-union}
 use Rattle.gap.specs.Trace.{triangleAt, afterBorder, withRing}
 use Rattle.gap.specs.Tally.{gluesA, gluesB, sideOf, newNumbers, unionsOf}
@@ -77,45 +78,45 @@ module _ (u : ℕ) (e f : Node) (ws : List Ring) where
   on-f : (p : Node) (qs : List Node) → isOpen f ≡ true
       → (eqb (suc (length (f ∷ (p ∷ qs)))) 3 ≡ true → allOpen (f ∷ (p ∷ qs)) ≡ true → ⊥)
       → atEdge Forward u (vertex e) (f ∷ (p ∷ qs)) ws
-      ≡ builds ((opened (vertex e) ∷ (p ∷ qs)) ∷ ws) (triangleAt e f (vertex p)) glued fresh glued 0 0 0
+      ≡ builds (buildingOf ((opened (vertex e) ∷ (p ∷ qs)) ∷ ws) (triangleAt e f (vertex p)) glued fresh glued 0 0 0)
   unfolding atEdge vertexAt
   on-f p qs h g =
       let k = suc (length (f ∷ (p ∷ qs))) in
-      allowed-true _ (builds ((opened (vertex e) ∷ (p ∷ qs)) ∷ ws) (triangleAt e f (vertex p)) glued fresh glued 0 0 0)
+      allowed-true _ (builds (buildingOf ((opened (vertex e) ∷ (p ∷ qs)) ∷ ws) (triangleAt e f (vertex p)) glued fresh glued 0 0 0))
       (and-both (leb 3 k && isOpen f) (not (eqb k 3 && allOpen (f ∷ (p ∷ qs)))) (and-both (leb 3 k) (isOpen f) (le-leb 3 k (omega arith)) h)
       (not-both (eqb k 3) (allOpen (f ∷ (p ∷ qs))) g))
 
   on-b : (qs : List Node) (p : Node) → isOpen p ≡ true
       → (eqb (suc (length (f ∷ (qs ++ (p ∷ []))))) 3 ≡ true → allOpen (f ∷ (qs ++ (p ∷ []))) ≡ true → ⊥)
       → atEdge Backward u (vertex e) (f ∷ (qs ++ (p ∷ []))) ws
-      ≡ builds ((opened (vertex p) ∷ (f ∷ qs)) ∷ ws) (triangleAt e f (vertex p)) glued glued fresh 0 0 0
+      ≡ builds (buildingOf ((opened (vertex p) ∷ (f ∷ qs)) ∷ ws) (triangleAt e f (vertex p)) glued glued fresh 0 0 0)
   unfolding atEdge
   on-b qs p h g =
       let l = (f ∷ qs) ++ (p ∷ []) in
       let k = suc (length l) in
       let n : length l ≡ length (f ∷ qs) + 1 = length-append (f ∷ qs) (p ∷ []) in
-      allowed-true _ (builds ((opened (lastVertex l) ∷ front l) ∷ ws) (triangleAt e f (lastVertex l)) glued glued fresh 0 0 0)
+      allowed-true _ (builds (buildingOf ((opened (lastVertex l) ∷ front l) ∷ ws) (triangleAt e f (lastVertex l)) glued glued fresh 0 0 0))
       (and-both (leb 3 k && lastOpen l) (not (eqb k 3 && allOpen l)) (and-both (leb 3 k) (lastOpen l) (le-leb 3 k (omega arith)) (last-open (f ∷ qs) p ∙ h))
       (not-both (eqb k 3) (allOpen l) g))
-      ∙ ap₂ (λ (v : ℕ) (k : List Node). builds ((opened v ∷ k) ∷ ws) (triangleAt e f v) glued glued fresh 0 0 0) (last-vertex (f ∷ qs) p) (front-of (f ∷ qs) p)
+      ∙ ap₂ (λ (v : ℕ) (k : List Node). builds (buildingOf ((opened v ∷ k) ∷ ws) (triangleAt e f v) glued glued fresh 0 0 0)) (last-vertex (f ∷ qs) p) (front-of (f ∷ qs) p)
 
   on-c : (p : Node) → isOpen f ≡ true → isOpen p ≡ true
-      → atEdge Close u (vertex e) (f ∷ (p ∷ [])) ws ≡ builds ws (triangleAt e f (vertex p)) glued glued glued 0 0 0
+      → atEdge Close u (vertex e) (f ∷ (p ∷ [])) ws ≡ builds (buildingOf ws (triangleAt e f (vertex p)) glued glued glued 0 0 0)
   unfolding atEdge vertexAt allOpen
   on-c p h k =
-      allowed-true _ (builds ws (triangleAt e f (vertex p)) glued glued glued 0 0 0)
+      allowed-true _ (builds (buildingOf ws (triangleAt e f (vertex p)) glued glued glued 0 0 0))
       (and-both (eqb 3 3) (allOpen (f ∷ (p ∷ []))) refl (all-open f (p ∷ []) h (all-open p [] k refl)))
 
   on-s : (us : List Node) (p : Node) (vs : List Node) → (isOpen f ≡ true → 1 ≤ length us) → (isOpen p ≡ true → 1 ≤ length vs)
       → atEdge (Split (suc (length us))) u (vertex e) (f ∷ (us ++ (p ∷ vs))) ws
-      ≡ builds (shorterFirst (opened (vertex p) ∷ (f ∷ us)) (opened (vertex e) ∷ (p ∷ vs)) ws) (triangleAt e f (vertex p)) glued fresh fresh 0 0 0
+      ≡ builds (buildingOf (shorterFirst (opened (vertex p) ∷ (f ∷ us)) (opened (vertex e) ∷ (p ∷ vs)) ws) (triangleAt e f (vertex p)) glued fresh fresh 0 0 0)
   unfolding atEdge vertexAt
   on-s us p vs lu lv =
       let l = (f ∷ us) ++ (p ∷ vs) in
       let i = suc (length us) in
       let k = suc (length l) in
       let n : length l ≡ suc (length us) + suc (length vs) = length-append (f ∷ us) (p ∷ vs) in
-      allowed-true _ (builds (shorterFirst (opened (vertexAt l i) ∷ take i l) (opened (vertex e) ∷ drop i l) ws) (triangleAt e f (vertexAt l i)) glued fresh fresh 0 0 0)
+      allowed-true _ (builds (buildingOf (shorterFirst (opened (vertexAt l i) ∷ take i l) (opened (vertex e) ∷ drop i l) ws) (triangleAt e f (vertexAt l i)) glued fresh fresh 0 0 0))
       (and-both (leb 1 i && leb (i + 2) k && not (eqb i 1 && isOpen f)) (not (eqb (i + 2) k && lastOpen l))
       (and-both (leb 1 i && leb (i + 2) k) (not (eqb i 1 && isOpen f)) (and-both (leb 1 i) (leb (i + 2) k) (le-leb 1 i (omega arith)) (le-leb (i + 2) k (omega arith)))
       (not-both (eqb i 1) (isOpen f) (λ x y. let z = eqb-true i 1 x in let w = lu y in omega arith)))
@@ -128,7 +129,7 @@ module _ (u : ℕ) (e f : Node) (ws : List Ring) where
 
   on-u : (before : List Ring) (us : List Node) (p : Node) (vs : List Node) (behind : List Ring) (ps : List Node)
       → atEdge (Union (suc (length before)) (length us)) u (vertex e) (f ∷ ps) (before ++ ((us ++ (p ∷ vs)) ∷ behind))
-      ≡ builds ((opened (vertex p) ∷ (f ∷ (ps ++ (opened (vertex e) ∷ (p ∷ (vs ++ us)))))) ∷ (before ++ behind)) (triangleAt e f (vertex p)) glued fresh fresh 0 0 1
+      ≡ builds (buildingOf ((opened (vertex p) ∷ (f ∷ (ps ++ (opened (vertex e) ∷ (p ∷ (vs ++ us)))))) ∷ (before ++ behind)) (triangleAt e f (vertex p)) glued fresh fresh 0 0 1)
   unfolding atEdge
   on-u before us p vs behind ps =
       let all = before ++ ((us ++ (p ∷ vs)) ∷ behind) in
@@ -139,20 +140,18 @@ module _ (u : ℕ) (e f : Node) (ws : List Ring) where
       let n : length all ≡ length before + suc (length behind) = length-append before ((us ++ (p ∷ vs)) ∷ behind) in
       let m : length (loopAt all k) ≡ length us + suc (length vs) = ap length at ∙ length-append us (p ∷ vs) in
       allowed-true _
-      (builds ((opened (vertexAt (loopAt all k) j) ∷ (f ∷ (ps ++ (opened (vertex e) ∷ (drop j (loopAt all k) ++ take j (loopAt all k)))))) ∷ without all k)
-      (triangleAt e f (vertexAt (loopAt all k) j)) glued fresh fresh 0 0 1)
+      (builds (buildingOf ((opened (vertexAt (loopAt all k) j) ∷ (f ∷ (ps ++ (opened (vertex e) ∷ (drop j (loopAt all k) ++ take j (loopAt all k)))))) ∷ without all k) (triangleAt e f (vertexAt (loopAt all k) j)) glued fresh fresh 0 0 1))
       (and-both (leb 1 (suc (length before)) && leb (suc (length before)) (length all)) (ltb j (length (loopAt all k)))
       (and-both (leb 1 (suc (length before))) (leb (suc (length before)) (length all)) (le-leb 1 (suc (length before)) (omega arith)) (le-leb (suc (length before)) (length all) (omega arith)))
       (lt-ltb j (length (loopAt all k)) (omega arith)))
       ∙ (ap₂
-      (λ (l : List Node) (r : List Ring). builds ((opened (vertexAt l j) ∷ (f ∷ (ps ++ (opened (vertex e) ∷ (drop j l ++ take j l))))) ∷ r)
-      (triangleAt e f (vertexAt l j)) glued fresh fresh 0 0 1)
+      (λ (l : List Node) (r : List Ring). builds (buildingOf ((opened (vertexAt l j) ∷ (f ∷ (ps ++ (opened (vertex e) ∷ (drop j l ++ take j l))))) ∷ r) (triangleAt e f (vertexAt l j)) glued fresh fresh 0 0 1))
       at (ap (without all) pred ∙ without-cut before (us ++ (p ∷ vs)) behind)
       ∙ rw (vertex-cut us p vs, take-cut us (p ∷ vs), drop-cut us (p ∷ vs)) refl)
 
 -- the effect of an operation that builds
 abbrev pub built : Operation → Node → Node → List Ring → ℕ → Effect
-built o e f ls c = builds ls (triangleAt e f c) glued (sideOf (gluesA o)) (sideOf (gluesB o)) (newNumbers o) 0 (unionsOf o)
+built o e f ls c = builds (buildingOf ls (triangleAt e f c) glued (sideOf (gluesA o)) (sideOf (gluesB o)) (newNumbers o) 0 (unionsOf o))
 
 moved : (o : Operation) (e f : Node) {ls ls′ : List Ring} {c c′ : ℕ} → ls ≡ ls′ → c ≡ c′ → built o e f ls′ c′ ≡ built o e f ls c
 moved o e f h k = ap₂ (built o e f) (sym h) (sym k)
@@ -264,12 +263,12 @@ pub allows : (o : Operation) (e f : Node) (ps : List Node) (ws ls : List Ring) (
 allows o e f ps ws ls c g s = allows-any o c e f ps ws ls c g s (λ h. refl)
 
 -- what border does, whichever edge comes next
-marked-by : (r : Ring) (ws : List Ring) (x y : ℕ) → (n : ℕ) × (marking (shown r) (shownAll ws) (edge x y) ≡ marks (shownAll (withRing r ws)) (edge x y) n)
+marked-by : (r : Ring) (ws : List Ring) (x y : ℕ) → (n : ℕ) × (marking (shown r) (shownAll ws) (edge x y) ≡ marks (markingOf (shownAll (withRing r ws)) (edge x y) n))
 marked-by [] ws x y = (1, refl)
 marked-by (p ∷ ps) ws x y = (0, refl)
 
 pub border-marks : (u : ℕ) (e f : Node) (ps : List Node) (ws : List Ring)
-    → (n : ℕ) × (atEdge Border u (vertex e) (reached (f ∷ ps) false) (shownAll ws) ≡ marks (shownAll (withRing (afterBorder e f ps) ws)) (edge (vertex e) (vertex f)) n)
+    → (n : ℕ) × (atEdge Border u (vertex e) (reached (f ∷ ps) false) (shownAll ws) ≡ marks (markingOf (shownAll (withRing (afterBorder e f ps) ws)) (edge (vertex e) (vertex f)) n))
 unfolding atEdge
 border-marks u e f ps ws =
     let r = marked-by (afterBorder e f ps) ws (vertex e) (vertex f) in (

@@ -10,7 +10,7 @@ use lib.Dec.{eqb}
 use borrow.Author.Tests.{eq-eqb}
 use Rattle.rules.specs.declared.Triangle.{Triangle}
 use Rattle.rules.specs.Fan.{oneFanEach}
-use Rattle.rules.specs.Machine.{Machine, Step, finished, test, complete, asStated, totals, finish}
+use Rattle.rules.specs.Machine.{Machine, Step, finished, test, complete, asStated, totals, finishing}
 use Rattle.fans.specs.Corner.{at-p, at-q, at-r, In, here, there, Once}
 use Rattle.fans.specs.Neighbours.{Linked, Pair, endOf, Round, Neighbours}
 use Rattle.fans.proofs.Counting.{and-both}
@@ -104,8 +104,8 @@ test-true b n s h = ap (λ (t : Bool). test t n s) h
 
 -- 15, 19 and 20 do not refuse
 pub finishes : (m : Machine) → length (m .triangles) ≡ m .stated .triangles → m .loops ≡ [] → m .used ≡ m .stated .vertices → m .mostPlaces ≡ m .stated .places
-    → m .mostLoops ≡ m .stated .loops → oneFanEach (m .used) (m .triangles) ≡ true → finish m ≡ finished (totals m)
-unfolding finish
+    → m .mostLoops ≡ m .stated .loops → oneFanEach (m .used) (m .triangles) ≡ true → finishing m ≡ finished (totals m)
+unfolding finishing
 finishes m a b c d e f =
     test-true (complete m) 15 _
     (and-both (eqb (length (m .triangles)) (m .stated .triangles)) (eqb (length (m .loops)) 0) (eq-eqb _ _ a) (eq-eqb (length (m .loops)) 0 (ap length b)))

@@ -13,6 +13,7 @@ use Rattle.rules.specs.Triangle.{Edge}
 use Rattle.rules.specs.Ring.{Ring, places}
 use Rattle.rules.specs.Table.{Side, Effect, not-allowed, builds, marks, effect, edgeRule}
 use Rattle.rules.specs.Machine.{Machine, afterBuild, afterMark, Step, refused, begun, built, declared, finished, test, within, done, operation}
+use Rattle.shown.specs.Effects.{buildingOf, markingOf}
 use Rattle.fans.proofs.Counting.{and-both}
 use Rattle.gap.proofs.Bools.{and-true}
 
@@ -30,19 +31,19 @@ pub record Built (m : Machine) (ef : Effect) (t : Triangle) (m′ : Machine) : T
   pub news : ℕ
   pub starts : ℕ
   pub unions : ℕ
-  pub effect : ef ≡ builds ls t pq qr rp news starts unions
+  pub effect : ef ≡ builds (buildingOf ls t pq qr rp news starts unions)
   pub rule : edgeRule t pq qr rp (m .triangles) ≡ true
   pub room : Room m ls
   pub not-full : suc (length (m .triangles)) ≤ m .stated .triangles
-  pub after : m′ ≡ afterBuild m ls t pq qr rp news starts unions
+  pub after : m′ ≡ afterBuild m (buildingOf ls t pq qr rp news starts unions)
 
 -- it declared d border
 pub record Declared (m : Machine) (ef : Effect) (d : Edge) (m′ : Machine) : Type 0 where
   pub ls : List Ring
   pub rim : ℕ
-  pub effect : ef ≡ marks ls d rim
+  pub effect : ef ≡ marks (markingOf ls d rim)
   pub room : Room m ls
-  pub after : m′ ≡ afterMark m ls rim
+  pub after : m′ ≡ afterMark m (markingOf ls d rim)
 
 abbrev Came : Machine → Effect → Step → Type 0
 Came m ef (refused n) = Unit {0}
@@ -74,26 +75,26 @@ full-of m h =
 came : (m : Machine) (ef : Effect) → Came m ef (done m ef)
 unfolding done
 came m not-allowed = tt
-came m (builds ls t pq qr rp n s k) =
-    came-test m (builds ls t pq qr rp n s k) _ 17 _
-    (λ w. came-test m (builds ls t pq qr rp n s k) _ 18 (built t (afterBuild m ls t pq qr rp n s k))
+came m (builds x) =
+    came-test m (builds x) _ 17 _
+    (λ w. came-test m (builds x) _ 18 (built (x .triangle) (afterBuild m x))
     (λ r. record {
-      ls = ls;
-      pq = pq;
-      qr = qr;
-      rp = rp;
-      news = n;
-      starts = s;
-      unions = k;
+      ls = x .loops;
+      pq = x .sides .pq;
+      qr = x .sides .qr;
+      rp = x .sides .rp;
+      news = x .added .vertices;
+      starts = x .added .starts;
+      unions = x .added .unions;
       effect = refl;
       rule = r;
-      room = room-of m (afterBuild m ls t pq qr rp n s k) refl w;
-      not-full = full-of (afterBuild m ls t pq qr rp n s k) w;
+      room = room-of m (afterBuild m x) refl w;
+      not-full = full-of (afterBuild m x) w;
       after = refl;
     }))
-came m (marks ls d rim) =
-    came-test m (marks ls d rim) _ 17 (declared d (afterMark m ls rim))
-    (λ w. record { ls = ls; rim = rim; effect = refl; room = room-of m (afterMark m ls rim) refl w; after = refl })
+came m (marks x) =
+    came-test m (marks x) _ 17 (declared (x .edge) (afterMark m x))
+    (λ w. record { ls = x .loops; rim = x .rims; effect = refl; room = room-of m (afterMark m x) refl w; after = refl })
 
 pub built-of : (m : Machine) (ef : Effect) (t : Triangle) (m′ : Machine) → done m ef ≡ built t m′ → Built m ef t m′
 built-of m ef t m′ h = subst (Came m ef) h (came m ef)
@@ -114,13 +115,13 @@ test-true b n s h = ap (λ (t : Bool). test t n s) h
 
 -- so an operation that the table and the edge rule allow is accepted
 pub operation-built : (m : Machine) (o : Operation) (ls : List Ring) (t : Triangle) (pq qr rp : Side) (n s k : ℕ)
-    → effect o (m .used) (m .loops) ≡ builds ls t pq qr rp n s k → within (afterBuild m ls t pq qr rp n s k) ≡ true
-    → edgeRule t pq qr rp (m .triangles) ≡ true → operation m o ≡ built t (afterBuild m ls t pq qr rp n s k)
+    → effect o (m .used) (m .loops) ≡ builds (buildingOf ls t pq qr rp n s k) → within (afterBuild m (buildingOf ls t pq qr rp n s k)) ≡ true
+    → edgeRule t pq qr rp (m .triangles) ≡ true → operation m o ≡ built t (afterBuild m (buildingOf ls t pq qr rp n s k))
 unfolding done
 operation-built m o ls t pq qr rp n s k e w r =
-    ap (done m) e ∙ (test-true (within (afterBuild m ls t pq qr rp n s k)) 17 _ w ∙ test-true (edgeRule t pq qr rp (m .triangles)) 18 _ r)
+    ap (done m) e ∙ (test-true (within (afterBuild m (buildingOf ls t pq qr rp n s k))) 17 _ w ∙ test-true (edgeRule t pq qr rp (m .triangles)) 18 _ r)
 
-pub operation-declared : (m : Machine) (o : Operation) (ls : List Ring) (d : Edge) (n : ℕ) → effect o (m .used) (m .loops) ≡ marks ls d n
-    → within (afterMark m ls n) ≡ true → operation m o ≡ declared d (afterMark m ls n)
+pub operation-declared : (m : Machine) (o : Operation) (ls : List Ring) (d : Edge) (n : ℕ) → effect o (m .used) (m .loops) ≡ marks (markingOf ls d n)
+    → within (afterMark m (markingOf ls d n)) ≡ true → operation m o ≡ declared d (afterMark m (markingOf ls d n))
 unfolding done
-operation-declared m o ls d n e w = ap (done m) e ∙ test-true (within (afterMark m ls n)) 17 _ w
+operation-declared m o ls d n e w = ap (done m) e ∙ test-true (within (afterMark m (markingOf ls d n))) 17 _ w

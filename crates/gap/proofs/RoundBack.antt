@@ -18,7 +18,7 @@ use Rattle.rules.specs.Limits.{maxTriangles, minPlaces, maxPlaces, maxLoops, be
 use Rattle.rules.specs.Fan.{oneFanEach}
 use Rattle.rules.specs.Check.{check}
 use Rattle.rules.specs.Ring.{Ring}
-use Rattle.rules.specs.Machine.{Machine, empty, Step, refused, begun, built, declared, finished, test, complete, asStated, totals, finish}
+use Rattle.rules.specs.Machine.{Machine, empty, Step, refused, begun, built, declared, finished, test, complete, asStated, totals, finishing}
 use Rattle.rules.specs.Choice.{has}
 use Rattle.rules.specs.Pack.{most, nothingBuilt, chosenFor}
 use Rattle.rules.specs.Unpack.{numbersOf}
@@ -59,8 +59,8 @@ nil-of : (ls : List Ring) → length ls ≡ 0 → ls ≡ []
 nil-of [] h = refl
 nil-of (l ∷ ls) h = absurd (omega arith)
 
-finished-of : (m : Machine) → Finished m (finish m)
-unfolding finish
+finished-of : (m : Machine) → Finished m (finishing m)
+unfolding finishing
 finished-of m =
     finished-test m (complete m) 15 _
     (λ a. finished-test m (asStated m) 19 _
@@ -78,7 +78,7 @@ finished-of m =
       fans = c;
     }))))
 
-pub done-of : (m : Machine) (x : Totals) → finish m ≡ finished x → Done m
+pub done-of : (m : Machine) (x : Totals) → finishing m ≡ finished x → Done m
 done-of m x h = subst (Finished m) h (finished-of m)
 
 -- a number below n is among those below n

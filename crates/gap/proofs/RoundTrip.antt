@@ -16,7 +16,7 @@ use Rattle.rules.specs.Triangle.{trianglesOf}
 use Rattle.rules.specs.Check.{check}
 use Rattle.rules.specs.Ring.{places}
 use Rattle.rules.specs.Fan.{oneFanEach}
-use Rattle.rules.specs.Machine.{empty, finished, totals, finish}
+use Rattle.rules.specs.Machine.{empty, finished, totals, finishing}
 use Rattle.rules.specs.Choice.{Packing}
 use Rattle.rules.specs.Pack.{chosen, Most, nothingBuilt, chosenFor, indexOf}
 use Rattle.fans.specs.Corner.{Once}
@@ -81,7 +81,7 @@ module _ (h : Most) (v : ℕ) (ts : List Triangle) (ok : Packable v ts) (os : Li
   fan-built x = fan-same ts (c .built) x (complete-all h ts os s c) (complete-only h ts os s c) (ok .fans x)
 
   -- and the machine's finish gives its numbers
-  pub unpack-finishes : finish (unpacks .end) ≡ finished (totals (unpacks .end))
+  pub unpack-finishes : finishing (unpacks .end) ≡ finished (totals (unpacks .end))
   unpack-finishes =
       let r = unpacks in
       let st = statedBy v ts s in

@@ -18,6 +18,7 @@ use Rattle.rules.specs.Ring.{Node, opened, marked, Ring, vertex, isOpen, firstO
 use Rattle.rules.specs.Table.{Side, glued, Effect, not-allowed, builds, marks, allowed, shorterFirst, marking, atEdge}
 use Rattle.shown.specs.Shown.{ends, Stays, shownAll, Live}
 use Rattle.shown.proofs.Shown.{ends-reached, reached-first, reached-cut, backward-shown, reached-some, take-cut, drop-cut, all-shown-append, all-shown-length, live-split, shown-live, FullCut, full-cut, open-ends, ends-last}
+use Rattle.shown.specs.Effects.{buildingOf}
 use Rattle.gap.specs.Corners.{endOr}
 use Rattle.gap.specs.Surgery.{fewerFirst, Surgery, on-new, on-forward, on-backward, on-close, on-split, on-union}
 use Rattle.gap.specs.Trace.{triangleAt}
@@ -48,8 +49,8 @@ pub record Builds (o : Operation) (u : ℕ) (e f : Node) (ps : List Node) (ws ls
 -- the same of any effect
 Law : Operation → ℕ → Node → Node → List Node → List Ring → Effect → Type 0
 Law o u e f ps ws not-allowed = Unit {0}
-Law o u e f ps ws (builds ls t pq qr rp n s k) = Builds o u e f ps ws ls t pq qr rp n s k
-Law o u e f ps ws (marks ls d n) = Unit {0}
+Law o u e f ps ws (builds x) = Builds o u e f ps ws (x .loops) (x .triangle) (x .sides .pq) (x .sides .qr) (x .sides .rp) (x .added .vertices) (x .added .starts) (x .added .unions)
+Law o u e f ps ws (marks x) = Unit {0}
 
 law-allowed : (o : Operation) (u : ℕ) (e f : Node) (ps : List Node) (ws : List Ring) (b : Bool) (ef : Effect)
     → (b ≡ true → Law o u e f ps ws ef) → Law o u e f ps ws (allowed b ef)
@@ -343,6 +344,6 @@ law (Union n j) u e f ps ws g =
 law Start u e f ps ws g = tt
 
 pub surgery-of : (o : Operation) (u : ℕ) (e f : Node) (ps : List Node) (ws ls : List Ring) (t : Triangle) (pq qr rp : Side) (n s k : ℕ) → Live ws
-    → atEdge o u (vertex e) (reached (f ∷ ps) false) (shownAll ws) ≡ builds ls t pq qr rp n s k → Builds o u e f ps ws ls t pq qr rp n s k
+    → atEdge o u (vertex e) (reached (f ∷ ps) false) (shownAll ws) ≡ builds (buildingOf ls t pq qr rp n s k) → Builds o u e f ps ws ls t pq qr rp n s k
 unfolding Law
 surgery-of o u e f ps ws ls t pq qr rp n s k g h = subst (Law o u e f ps ws) h (law o u e f ps ws g)

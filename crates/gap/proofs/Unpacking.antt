@@ -16,6 +16,7 @@ use Rattle.rules.specs.Table.{glued, fresh, atRest, effect, edgeRule}
 use Rattle.rules.specs.Machine.{Machine, afterBuild, afterMark, built, operation}
 use Rattle.fans.specs.Corner.{at-p, at-q, at-r, In, here, there}
 use Rattle.shown.specs.Shown.{shownAll, Live}
+use Rattle.shown.specs.Effects.{buildingOf, markingOf}
 use Rattle.gap.specs.Turn.{Unused}
 use Rattle.gap.specs.Surgery.{Surgery, on-new, on-forward, on-backward, on-close, on-split, on-union}
 use Rattle.gap.specs.Trace.{triangleAt, afterBorder, withRing}
@@ -100,7 +101,7 @@ module _ (name : ℕ → ℕ) (M : List Triangle) (tells : (x y : ℕ) → Met x
   builtBy e f c = triangleAt (node name e) (node name f) (name c)
 
   abbrev machineBy : Machine → Node → Node → ℕ → Operation → List Ring → Machine
-  machineBy m e f c o ls = afterBuild m (shownAll (rings name ls)) (builtBy e f c) glued (sideOf (gluesA o)) (sideOf (gluesB o)) (newNumbers o) 0 (unionsOf o)
+  machineBy m e f c o ls = afterBuild m (buildingOf (shownAll (rings name ls)) (builtBy e f c) glued (sideOf (gluesA o)) (sideOf (gluesB o)) (newNumbers o) 0 (unionsOf o))
 
   -- an operation that builds
   module _ (m : Machine) (B : List Triangle) (ws ls : List Ring) (e f : Node) (ps : List Node) (c : ℕ) (o : Operation) (vs : List ℕ) (live : Live ws) (does : Surgery e f ps ws ls c o)
@@ -173,7 +174,7 @@ module _ (name : ℕ → ℕ) (M : List Triangle) (tells : (x y : ℕ) → Met x
   abbrev machineStart : Machine → Machine
   machineStart m =
       let u = m .used in
-      afterBuild m (firstRing u (suc u) (suc (suc u))) (tri u (suc u) (suc (suc u))) fresh fresh fresh 3 1 0
+      afterBuild m (buildingOf (firstRing u (suc u) (suc (suc u))) (tri u (suc u) (suc (suc u))) fresh fresh fresh 3 1 0)
 
   module _ (m : Machine) (B : List Triangle) (p q r : ℕ) (vs : List ℕ)
       (none-p : (m n : ℕ) → In p m n B → ⊥) (none-q : (m n : ℕ) → In q m n B → ⊥) (none-r : (m n : ℕ) → In r m n B → ⊥)
@@ -242,7 +243,7 @@ module _ (name : ℕ → ℕ) (M : List Triangle) (tells : (x y : ℕ) → Met x
 
   -- border
   abbrev machineBorder : Machine → Node → Node → List Node → List Ring → ℕ → Machine
-  machineBorder m e f ps ws n = afterMark m (shownAll (withRing (afterBorder (node name e) (node name f) (nodes name ps)) (rings name ws))) n
+  machineBorder m e f ps ws n = afterMark m (markingOf (shownAll (withRing (afterBorder (node name e) (node name f) (nodes name ps)) (rings name ws))) (edge (vertex (node name e)) (vertex (node name f))) n)
 
   pub reach : {B : List Triangle} {rims ls : List Ring} {os : List Operation} {R : List Triangle} (run : Run M B rims ls os R) (m : Machine) (vs : List ℕ)
       → m .triangles ≡ triangles name B → m .loops ≡ shownAll (rings name ls) → m .used ≡ length vs → Agrees name vs run

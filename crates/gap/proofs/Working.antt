@@ -16,6 +16,7 @@ use Rattle.rules.specs.Table.{Side, glued, builds, marks, effect, edgeRule}
 use Rattle.rules.specs.Machine.{Machine, afterBuild, afterMark, built, declared, operation}
 use Rattle.fans.specs.Corner.{at-p, at-q, at-r, In, here, there}
 use Rattle.shown.specs.Shown.{shownAll}
+use Rattle.shown.specs.Effects.{buildingOf, markingOf}
 use Rattle.gap.specs.Corners.{Everywhere}
 use Rattle.gap.specs.Surgery.{Surgery, on-new, on-forward, on-backward, on-close, on-split, on-union}
 use Rattle.gap.specs.Trace.{triangleAt, afterBorder, withRing}
@@ -112,7 +113,7 @@ module _ (m : Machine) (e f : Node) (ps : List Node) (ws rims ls : List Ring) (o
   apart : ((vertex e ≡ vertex f) → ⊥) × ((vertex f ≡ t .r) → ⊥) × ((t .r ≡ vertex e) → ⊥)
   apart = (λ h. rules .apart .0 (sym h), λ h. rules .apart .2 (sym h), λ h. rules .apart .1 (sym h))
 
-  pub ready-built : Ready (afterBuild m ls t pq qr rp n s k) (lift .full) rims
+  pub ready-built : Ready (afterBuild m (buildingOf ls t pq qr rp n s k)) (lift .full) rims
   ready-built = record {
     shows = lift .shows;
     good = good-step e f ps ws (lift .full) (t .r) o (lift .does) (ready .good);
@@ -130,7 +131,7 @@ module _ (m : Machine) (e f : Node) (ps : List Node) (ws rims ls : List Ring) (o
   At p q u v end os =
       WorkedAt end (m .stated .places) (m .stated .loops) (max (m .mostPlaces) p) (max (m .mostLoops) q) u (v ∷ m .triangles) (lift .full) rims os
 
-  pub worked-built : (end : Machine) (os : List Operation) → Worked end (afterBuild m ls t pq qr rp n s k) (lift .full) rims os
+  pub worked-built : (end : Machine) (os : List Operation) → Worked end (afterBuild m (buildingOf ls t pq qr rp n s k)) (lift .full) rims os
       → Worked end m ((e ∷ (f ∷ ps)) ∷ ws) rims (o ∷ os)
   worked-built end os w0 =
       go
@@ -152,7 +153,7 @@ module _ (m : Machine) (e f : Node) (ps : List Node) (ws rims ls : List Ring) (o
 
 -- start
 module _ (m : Machine) (rims ls : List Ring) (o : Operation) (t : Triangle) (pq qr rp : Side) (n s k : ℕ) (ready : Ready m [] rims)
-    (b : OnlyStart o (m .used) (builds ls t pq qr rp n s k)) (room : Room m ls) where
+    (b : OnlyStart o (m .used) (builds (buildingOf ls t pq qr rp n s k))) (room : Room m ls) where
   abbrev first : Triangle
   first = tri (m .used) (suc (m .used)) (suc (suc (m .used)))
 
@@ -172,7 +173,7 @@ module _ (m : Machine) (rims ls : List Ring) (o : Operation) (t : Triangle) (pq 
   none : (x : ℕ) → m .used ≤ x → (y z : ℕ) → In x y z (m .triangles) → ⊥
   none x h y z i = let l = ready .low x y z i in omega arith
 
-  ready-start : Ready (afterBuild m ls t pq qr rp n s k) ring rims
+  ready-start : Ready (afterBuild m (buildingOf ls t pq qr rp n s k)) ring rims
   unfolding OnlyStart reached
   ready-start = record {
     shows = b .1;
@@ -194,7 +195,7 @@ module _ (m : Machine) (rims ls : List Ring) (o : Operation) (t : Triangle) (pq 
       ∙ (append-assoc (upTo (m .used) ++ (m .used ∷ [])) (suc (m .used) ∷ []) (suc (suc (m .used)) ∷ [])
       ∙ append-assoc (upTo (m .used)) (m .used ∷ []) (suc (m .used) ∷ (suc (suc (m .used)) ∷ [])))
 
-  worked-start : (end : Machine) (os : List Operation) → Worked end (afterBuild m ls t pq qr rp n s k) ring rims os → Worked end m [] rims (o ∷ os)
+  worked-start : (end : Machine) (os : List Operation) → Worked end (afterBuild m (buildingOf ls t pq qr rp n s k)) ring rims os → Worked end m [] rims (o ∷ os)
   unfolding OnlyStart reached
   worked-start end os w0 =
       subst (λ (k : Operation). Worked end m [] rims (k ∷ os)) (sym (b .0))
@@ -221,14 +222,14 @@ module _ (m : Machine) (rims ls : List Ring) (o : Operation) (t : Triangle) (pq 
 
 -- border
 module _ (m : Machine) (e f : Node) (ps : List Node) (ws rims ls : List Ring) (o : Operation) (d : Edge) (n : ℕ) (ready : Ready m ((e ∷ (f ∷ ps)) ∷ ws) rims)
-    (b : OnlyBorder o e f ps ws (marks ls d n)) (room : Room m ls) where
+    (b : OnlyBorder o e f ps ws (marks (markingOf ls d n))) (room : Room m ls) where
   abbrev next : List Ring
   next = withRing (afterBorder e f ps) ws
 
   abbrev rims-next : List Ring
   rims-next = withRim (afterBorder e f ps) (rimOf e f ps) rims
 
-  ready-border : Ready (afterMark m ls n) next rims-next
+  ready-border : Ready (afterMark m (markingOf ls d n)) next rims-next
   unfolding OnlyBorder
   ready-border = record {
     shows = b .1;
@@ -238,7 +239,7 @@ module _ (m : Machine) (e f : Node) (ps : List Node) (ws rims ls : List Ring) (o
     sound = sound-border (m .triangles) rims ws e f ps (ready .sound);
   }
 
-  worked-border : (end : Machine) (os : List Operation) → Worked end (afterMark m ls n) next rims-next os → Worked end m ((e ∷ (f ∷ ps)) ∷ ws) rims (o ∷ os)
+  worked-border : (end : Machine) (os : List Operation) → Worked end (afterMark m (markingOf ls d n)) next rims-next os → Worked end m ((e ∷ (f ∷ ps)) ∷ ws) rims (o ∷ os)
   unfolding OnlyBorder
   worked-border end os w0 =
       subst (λ (k : Operation). Worked end m ((e ∷ (f ∷ ps)) ∷ ws) rims (k ∷ os)) (sym (b .0))
@@ -274,7 +275,7 @@ pub step-built : (m m′ : Machine) (o : Operation) (t : Triangle) (full rims : 
 unfolding effect OnlyStart
 step-built m m′ o t [] rims h ready =
     let b = built-of m (effect o (m .used) (m .loops)) t m′ h in
-    let r : OnlyStart o (m .used) (builds (b .ls) t (b .pq) (b .qr) (b .rp) (b .news) (b .starts) (b .unions)) =
+    let r : OnlyStart o (m .used) (builds (buildingOf (b .ls) t (b .pq) (b .qr) (b .rp) (b .news) (b .starts) (b .unions))) =
     subst (OnlyStart o (m .used)) (sym (ap (effect o (m .used)) (ready .shows)) ∙ b .effect) (only-start o (m .used)) in
     record {
       full-after = firstRing (m .used) (suc (m .used)) (suc (suc (m .used)));
@@ -322,7 +323,7 @@ step-declared m m′ o d ([] ∷ ws) rims h ready = absurd (ready .good .0)
 step-declared m m′ o d ((e ∷ []) ∷ ws) rims h ready = let k = ready .good .0 .1 in absurd (omega arith)
 step-declared m m′ o d ((e ∷ (f ∷ ps)) ∷ ws) rims h ready =
     let b = declared-of m (effect o (m .used) (m .loops)) d m′ h in
-    let a : OnlyBorder o e f ps ws (marks (b .ls) d (b .rim)) =
+    let a : OnlyBorder o e f ps ws (marks (markingOf (b .ls) d (b .rim))) =
     subst (OnlyBorder o e f ps ws) (sym (ap (effect o (m .used)) (ready .shows)) ∙ b .effect) (only-border o (m .used) e f ps ws) in
     let next = withRing (afterBorder e f ps) ws in
     let rims′ = withRim (afterBorder e f ps) (rimOf e f ps) rims in

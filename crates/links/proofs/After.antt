@@ -77,8 +77,8 @@ placed-after Start q e ps ws k x = absurd k
 -- what holds if the effect is not a refusal
 abbrev pub Unless : Type 0 → Effect → Type 0
 Unless P not-allowed = Unit {0}
-Unless P (builds ls t pq qr rp n s k) = P
-Unless P (marks ls d rim) = P
+Unless P (builds x) = P
+Unless P (marks x) = P
 
 allowed-unless : (P : Type 0) (t : Bool) (e : Effect) → (t ≡ true → Unless P e) → Unless P (allowed t e)
 unfolding allowed
@@ -120,8 +120,8 @@ fits Start vs u a ps ws = tt
 -- an operation that takes a place has two new edges
 abbrev pub Grows : Effect → Type 0
 Grows not-allowed = Unit {0}
-Grows (builds ls t pq qr rp n s k) = (freshSides pq ≡ 0) × (freshSides qr ≡ 1) × (freshSides rp ≡ 1)
-Grows (marks ls d rim) = ⊥
+Grows (builds x) = (freshSides (x .sides .pq) ≡ 0) × (freshSides (x .sides .qr) ≡ 1) × (freshSides (x .sides .rp) ≡ 1)
+Grows (marks x) = ⊥
 
 allowed-grows : (t : Bool) (e : Effect) → Grows e → Grows (allowed t e)
 unfolding allowed

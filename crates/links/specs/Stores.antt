@@ -72,8 +72,8 @@ verticesAfter Start u q vs ps ws = vs
 -- an effect's loops are these
 abbrev pub HasLoops : List Ring → Effect → Type 0
 HasLoops ls not-allowed = Unit {0}
-HasLoops ls (builds l t pq qr rp n s k) = ls ≡ l
-HasLoops ls (marks l d rim) = ls ≡ l
+HasLoops ls (builds x) = ls ≡ x .loops
+HasLoops ls (marks x) = ls ≡ x .loops
 
 -- a place that is in no loop, the highest one below k
 unfoldable pub freeBelow : ℕ → List Ring → ℕ

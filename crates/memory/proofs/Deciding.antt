@@ -15,6 +15,7 @@ use Rattle.rules.specs.Triangle.{Edge}
 use Rattle.rules.specs.Ring.{Ring, places}
 use Rattle.rules.specs.Table.{Side, glued, fresh, Effect, not-allowed, builds, marks, effect, edgeRule}
 use Rattle.rules.specs.Machine.{Machine, freshSides, afterBuild, afterMark, built, declared, test, within, done, operation}
+use Rattle.shown.specs.Effects.{buildingOf, markingOf}
 use Rattle.book.specs.Consistent.{AllCurrent, Ranges}
 use Rattle.book.proofs.Counting.{and-left, and-right}
 use Rattle.book.proofs.Effects as effects
@@ -99,7 +100,7 @@ module _ (n : ℕ) (s : Front) (m : List ℕ) (M : Machine) (k : Keeps n s m M) 
 
   -- 17
   room-same : (ls : List Ring) (t : Triangle) (x y z : Side) (v a u : ℕ) (p : Plan) → PlanIs p t x y z v a u
-      → effects.Builds (s .used) (M .loops) ls t x y z v a u → roomFor n s p ≡ within (afterBuild M ls t x y z v a u)
+      → effects.Builds (s .used) (M .loops) ls t x y z v a u → roomFor n s p ≡ within (afterBuild M (buildingOf ls t x y z v a u))
   unfolding roomFor
   room-same ls t x y z v a u p i b =
       let c : Counts = M .stated in
@@ -122,7 +123,7 @@ module _ (n : ℕ) (s : Front) (m : List ℕ) (M : Machine) (k : Keeps n s m M) 
       (λ h. omega (arith, h, c₄, b .lives, before .live, i .pq, i .qr, i .rp, i .vertices, i .starts, i .unions)))
 
   keeps-built : (ls : List Ring) (t : Triangle) (x y z : Side) (v a u : ℕ) (p : Plan) (h : Held) → PlanIs p t x y z v a u
-      → (rs : List Ring) → Moved n (s .loops) m h rs (builds ls t x y z v a u) → Keeps n (builtFront n s p (h .loops)) (h .memory) (afterBuild M ls t x y z v a u)
+      → (rs : List Ring) → Moved n (s .loops) m h rs (builds (buildingOf ls t x y z v a u)) → Keeps n (builtFront n s p (h .loops)) (h .memory) (afterBuild M (buildingOf ls t x y z v a u))
   unfolding builtFront
   keeps-built ls t x y z v a u p h i rs d =
       let r = stood n (h .loops) (h .memory) rs ls (d .stands) (d .loops) in
@@ -142,7 +143,7 @@ module _ (n : ℕ) (s : Front) (m : List ℕ) (M : Machine) (k : Keeps n s m M) 
       }
 
   keeps-marked : (ls : List Ring) (d : Edge) (rim : ℕ) (h : Held) → effects.Marks (M .loops) ls d rim
-      → (rs : List Ring) → Moved n (s .loops) m h rs (marks ls d rim) → Keeps n (markedFront n s (h .loops)) (h .memory) (afterMark M ls rim)
+      → (rs : List Ring) → Moved n (s .loops) m h rs (marks (markingOf ls d rim)) → Keeps n (markedFront n s (h .loops)) (h .memory) (afterMark M (markingOf ls d rim))
   unfolding markedFront
   keeps-marked ls d rim h b rs w =
       let r = stood n (h .loops) (h .memory) rs ls (w .stands) (w .loops) in
@@ -169,11 +170,11 @@ module _ (n : ℕ) (s : Front) (m : List ℕ) (M : Machine) (k : Keeps n s m M) 
   rearranged o h E d = record { rings = rings-read n (h .loops) (h .memory) (next o) (d .stands); stack = d .stack }
 
   -- marking an edge stays within what is stated
-  mark-within : (ls : List Ring) (d : Edge) (rim : ℕ) → effects.Marks (M .loops) ls d rim → within M ≡ true → within (afterMark M ls rim) ≡ true
+  mark-within : (ls : List Ring) (d : Edge) (rim : ℕ) → effects.Marks (M .loops) ls d rim → within M ≡ true → within (afterMark M (markingOf ls d rim)) ≡ true
   mark-within ls d rim b h =
       let w = within-each M h in
       let o = b .fewer (λ x. 1) in
-      each-within (afterMark M ls rim)
+      each-within (afterMark M (markingOf ls d rim))
       (record {
         vertices = w .vertices;
         triangles = w .triangles;
@@ -181,45 +182,45 @@ module _ (n : ℕ) (s : Front) (m : List ℕ) (M : Machine) (k : Keeps n s m M) 
         loops = omega (arith, w .loops, b .lives);
       })
 
-  by-room : (o : Operation) (ls : List Ring) (t : Triangle) (x y z : Side) (v a u : ℕ) → operation M o ≡ done M (builds ls t x y z v a u) → (p : Plan)
+  by-room : (o : Operation) (ls : List Ring) (t : Triangle) (x y z : Side) (v a u : ℕ) → operation M o ≡ done M (builds (buildingOf ls t x y z v a u)) → (p : Plan)
       → PlanIs p t x y z v a u
-      → (places ls ≤ n → 5 * n + 2 * length ls ≤ length m → Moved n (s .loops) m (heldAfter n s m o p) (next o) (builds ls t x y z v a u)) → (r : Bool)
-      → within (afterBuild M ls t x y z v a u) ≡ r → Decides n s m M o (roomBy r p)
+      → (places ls ≤ n → 5 * n + 2 * length ls ≤ length m → Moved n (s .loops) m (heldAfter n s m o p) (next o) (builds (buildingOf ls t x y z v a u))) → (r : Bool)
+      → within (afterBuild M (buildingOf ls t x y z v a u)) ≡ r → Decides n s m M o (roomBy r p)
   unfolding done test
   by-room o ls t x y z v a u e p i moves true w =
-      let c = within-each (afterBuild M ls t x y z v a u) w in
+      let c = within-each (afterBuild M (buildingOf ls t x y z v a u)) w in
       let d =
       moves (omega (arith, c .places, ap (λ (r : Counts). r .places) (k .stated), k .roomy .enough))
       (omega (arith, c .loops, ap (λ (r : Counts). r .loops) (k .stated), k .roomy .long)) in
       record {
-        next = afterBuild M ls t x y z v a u;
+        next = afterBuild M (buildingOf ls t x y z v a u);
         step =
             rw (i .triangle, side-back x (p .pq) (i .pq), side-back y (p .qr) (i .qr), side-back z (p .rp) (i .rp))
-            (e ∙ ap (λ (r : Bool). test r 17 (test (edgeRule t x y z (M .triangles)) 18 (built t (afterBuild M ls t x y z v a u)))) w);
+            (e ∙ ap (λ (r : Bool). test r 17 (test (edgeRule t x y z (M .triangles)) 18 (built t (afterBuild M (buildingOf ls t x y z v a u))))) w);
         keeps = keeps-built ls t x y z v a u p (heldAfter n s m o p) i (next o) d;
         unchanged = record { lengths = d .lengths; rest = d .rest };
-        places = rearranged o (heldAfter n s m o p) (builds ls t x y z v a u) d;
+        places = rearranged o (heldAfter n s m o p) (builds (buildingOf ls t x y z v a u)) d;
       }
   by-room o ls t x y z v a u e p i moves false w =
-      e ∙ ap (λ (r : Bool). test r 17 (test (edgeRule t x y z (M .triangles)) 18 (built t (afterBuild M ls t x y z v a u)))) w
+      e ∙ ap (λ (r : Bool). test r 17 (test (edgeRule t x y z (M .triangles)) 18 (built t (afterBuild M (buildingOf ls t x y z v a u))))) w
 
   decides-by : (o : Operation) (E : Effect) (d : Decided) → operation M o ≡ done M E → within M ≡ true → effects.Law (s .used) (M .loops) E
       → Proposes n s m o (next o) d E → Decides n s m M o (decidedBy n s d)
   unfolding done test
   decides-by o not-allowed d e w l p = rw p e
-  decides-by o (builds ls t x y z v a u) d e w l p =
+  decides-by o (builds g) d e w l p =
       let i = p .is in
-      rw (i, room-same ls t x y z v a u (p .plan) (p .same) l)
-      (by-room o ls t x y z v a u e (p .plan) (p .same) (p .moves) (within (afterBuild M ls t x y z v a u)) refl)
-  decides-by o (marks ls x rim) d e w l p =
+      rw (i, room-same (g .loops) (g .triangle) (g .sides .pq) (g .sides .qr) (g .sides .rp) (g .added .vertices) (g .added .starts) (g .added .unions) (p .plan) (p .same) l)
+      (by-room o (g .loops) (g .triangle) (g .sides .pq) (g .sides .qr) (g .sides .rp) (g .added .vertices) (g .added .starts) (g .added .unions) e (p .plan) (p .same) (p .moves) (within (afterBuild M g)) refl)
+  decides-by o (marks y) d e w l p =
       let i = p .is in
       rw i
       (record {
-        next = afterMark M ls rim;
-        step = e ∙ ap (λ (r : Bool). test r 17 (declared x (afterMark M ls rim))) (mark-within ls x rim l w);
-        keeps = keeps-marked ls x rim (markedHeld n (s .loops) m) l (next o) (p .moves);
+        next = afterMark M y;
+        step = e ∙ ap (λ (r : Bool). test r 17 (declared (y .edge) (afterMark M y))) (mark-within (y .loops) (y .edge) (y .rims) l w);
+        keeps = keeps-marked (y .loops) (y .edge) (y .rims) (markedHeld n (s .loops) m) l (next o) (p .moves);
         unchanged = record { lengths = p .moves .lengths; rest = p .moves .rest };
-        places = rearranged o (markedHeld n (s .loops) m) (marks ls x rim) (p .moves);
+        places = rearranged o (markedHeld n (s .loops) m) (marks y) (p .moves);
       })
 
   -- the theorem

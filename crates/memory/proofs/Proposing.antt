@@ -16,6 +16,7 @@ use Rattle.rules.specs.Count.{num}
 use Rattle.rules.specs.Ring.{Node, opened, marked, Ring, isOpen, firstOpen, allOpen, startOr, vertexAt, lastOpen, lastVertex, onward, shown, places}
 use Rattle.rules.specs.Table.{Side, glued, fresh, Effect, not-allowed, builds, marks, allowed, marking, atEdge}
 use Rattle.rules.specs.Machine.{freshSides}
+use Rattle.shown.specs.Effects.{buildingOf, markingOf}
 use Rattle.book.proofs.Counting.{and-left}
 use Rattle.book.proofs.Effects as effects
 use Rattle.links.specs.Memory.{namedRing, namedLoops}
@@ -53,16 +54,16 @@ pub record Proposal (n : ℕ) (s : Front) (m : List ℕ) (o : Operation) (rs : L
   pub plan : Plan
   pub is : d ≡ Builds plan
   pub same : PlanIs plan t pq qr rp v a k
-  pub moves : places ls ≤ n → 5 * n + 2 * length ls ≤ length m → Moved n (s .loops) m (heldAfter n s m o plan) rs (builds ls t pq qr rp v a k)
+  pub moves : places ls ≤ n → 5 * n + 2 * length ls ≤ length m → Moved n (s .loops) m (heldAfter n s m o plan) rs (builds (buildingOf ls t pq qr rp v a k))
 
 pub record MarkProposal (n : ℕ) (s : Front) (m : List ℕ) (rs : List Ring) (d : Decided) (ls : List Ring) (x : Edge) (rim : ℕ) : Type 0 where
   pub is : d ≡ Marks (x .from) (x .to)
-  pub moves : Moved n (s .loops) m (markedHeld n (s .loops) m) rs (marks ls x rim)
+  pub moves : Moved n (s .loops) m (markedHeld n (s .loops) m) rs (marks (markingOf ls x rim))
 
 abbrev pub Proposes : ℕ → Front → List ℕ → Operation → List Ring → Decided → Effect → Type 0
 Proposes n s m o rs d not-allowed = d ≡ Refused 16
-Proposes n s m o rs d (builds ls t pq qr rp v a k) = Proposal n s m o rs d ls t pq qr rp v a k
-Proposes n s m o rs d (marks ls x rim) = MarkProposal n s m rs d ls x rim
+Proposes n s m o rs d (builds x) = Proposal n s m o rs d (x .loops) (x .triangle) (x .sides .pq) (x .sides .qr) (x .sides .rp) (x .added .vertices) (x .added .starts) (x .added .unions)
+Proposes n s m o rs d (marks y) = MarkProposal n s m rs d (y .loops) (y .edge) (y .rims)
 
 -- an operation that is allowed under a test
 pub allowed-proposes : (n : ℕ) (s : Front) (m : List ℕ) (o : Operation) (rs : List Ring) (t t′ : Bool) (d : Decided) (E : Effect) → t′ ≡ t

@@ -30,18 +30,18 @@ use Rattle.memory.proofs.Standing.{apart, below}
 -- the operation is allowed
 abbrev pub Goes : Effect → Type 0
 Goes not-allowed = ⊥
-Goes (builds ls t pq qr rp n s k) = Unit {0}
-Goes (marks ls d rim) = Unit {0}
+Goes (builds x) = Unit {0}
+Goes (marks x) = Unit {0}
 
 pub goes-so : (P : Type 0) (E : Effect) → Unless P E → Goes E → P
 goes-so P not-allowed h g = absurd g
-goes-so P (builds ls t pq qr rp n s k) h g = h
-goes-so P (marks ls d rim) h g = h
+goes-so P (builds x) h g = h
+goes-so P (marks x) h g = h
 
 pub current-has : (u : ℕ) (before ls : List Ring) (E : Effect) → HasLoops ls E → Law u before E → Goes E → AllCurrent ls
 current-has u before ls not-allowed h l g = absurd g
-current-has u before ls (builds r t pq qr rp n s k) h l g = subst AllCurrent (sym h) (l .current)
-current-has u before ls (marks r d rim) h l g = subst AllCurrent (sym h) (l .current)
+current-has u before ls (builds x) h l g = subst AllCurrent (sym h) (l .current)
+current-has u before ls (marks x) h l g = subst AllCurrent (sym h) (l .current)
 
 pub current-places : (vs : List ℕ) (rs : List Ring) → AllCurrent (namedLoops vs rs) → AllCurrent rs
 unfolding namedLoops

@@ -28,8 +28,8 @@ pub record Meets (o : Operation) (u : ℕ) (t : Triangle) (pq qr rp : Side) : Ty
 
 unfoldable pub Meeting : Operation → ℕ → Effect → Type 0
 Meeting o u not-allowed = Unit {0}
-Meeting o u (builds ls t pq qr rp n s k) = Meets o u t pq qr rp
-Meeting o u (marks ls d rim) = Unit {0}
+Meeting o u (builds x) = Meets o u (x .triangle) (x .sides .pq) (x .sides .qr) (x .sides .rp)
+Meeting o u (marks x) = Unit {0}
 
 fresh-once : (s : Side) → freshSides s ≤ 1
 fresh-once glued = omega arith

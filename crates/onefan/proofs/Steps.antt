@@ -112,24 +112,26 @@ kept-by : (met : ℕ → Bool) (M : Machine) (o : Operation) → Fanned met M �
     → Kept met o (done M e)
 unfolding Kept Meeting done
 kept-by met M o f not-allowed l m = tt
-kept-by met M o f (builds ls t pq qr rp n s k) l m =
+kept-by met M o f (builds x) l m =
     test-law (Kept met o) _ _ _ tt
-    (λ w. test-law (Kept met o) (edgeRule t pq qr rp (M .triangles)) _ _ tt
+    (λ w. test-law (Kept met o) (edgeRule (x .triangle) (x .sides .pq) (x .sides .qr) (x .sides .rp) (M .triangles)) _ _ tt
     (λ rule met′ unmet.
-    let d = rule-different t pq qr rp (M .triangles) rule in
+    let d = rule-different (x .triangle) (x .sides .pq) (x .sides .qr) (x .sides .rp) (M .triangles) rule in
     record {
       current = l .current;
-      unnumbered = unnumbered-kept o (M .used) (M .loops) ls (M .triangles) t pq qr rp n s k l m d (f .unnumbered);
+      unnumbered = unnumbered-kept o (M .used) (M .loops) (x .loops) (M .triangles) (x .triangle) (x .sides .pq) (x .sides .qr)
+          (x .sides .rp) (x .added .vertices) (x .added .starts) (x .added .unions) l m d (f .unnumbered);
       unmet = λ v h.
-          chain-kept o (M .used) (M .loops) ls (M .triangles) t pq qr rp n s k l m d (f .unnumbered) v (unmet v h .1) (f .unmet v (unmet v h .0));
+          chain-kept o (M .used) (M .loops) (x .loops) (M .triangles) (x .triangle) (x .sides .pq) (x .sides .qr)
+          (x .sides .rp) (x .added .vertices) (x .added .starts) (x .added .unions) l m d (f .unnumbered) v (unmet v h .1) (f .unmet v (unmet v h .0));
     }))
-kept-by met M o f (marks ls d rim) l m =
+kept-by met M o f (marks x) l m =
     test-law (Kept met o) _ _ _ tt
     (λ w. record {
       current = l .current;
       unnumbered = λ v h.
-          still-unnumbered v (M .loops) ls (M .triangles) (M .triangles) (fewer-marked v (M .loops) ls d rim l) refl (f .unnumbered v h);
-      unmet = λ v h. chain-stays v (M .loops) ls (M .triangles) (M .triangles) (fewer-marked v (M .loops) ls d rim l) refl (f .unmet v h);
+          still-unnumbered v (M .loops) (x .loops) (M .triangles) (M .triangles) (fewer-marked v (M .loops) (x .loops) (x .edge) (x .rims) l) refl (f .unnumbered v h);
+      unmet = λ v h. chain-stays v (M .loops) (x .loops) (M .triangles) (M .triangles) (fewer-marked v (M .loops) (x .loops) (x .edge) (x .rims) l) refl (f .unmet v h);
     })
 
 kept : (met : ℕ → Bool) (M : Machine) (o : Operation) → Fanned met M → Kept met o (operation M o)

@@ -7,14 +7,14 @@ ghost use mathlib.Core.Path.{_≡_};
 ghost use Prim.Native.Nat.{_*_, _≤_};
 ghost use lib.Dec.{leb};
 ghost use lib.ListN.{length};
-ghost use Rattle.rules.specs.Machine.{roomy};
+ghost use Rattle.rules.specs.Machine.{longEnough};
 ghost use Rattle.rules.specs.Check.{allBelow};
 ghost use Rattle.rules.specs.Test21.{sizesOf, countsFit, sumsFit, trianglesFit};
 ghost use Rattle.opening.specs.Marks.{numbersFit};
 
-// 14: whether the buffers have room for what is stated.
-fn is_roomy(stated: Counts, length: usize, n: usize) -> bool
-    ensures { λ r. ⌜ r ≡ roomy (record { triangles = length; places = n }) stated ⌝ }
+// 14: whether the buffers are long enough for what is stated.
+fn is_long_enough(stated: Counts, length: usize, n: usize) -> bool
+    ensures { λ r. ⌜ r ≡ longEnough (record { triangles = length; places = n }) stated ⌝ }
 {
     if length < 3 * (stated.triangles as usize) {
         return false;
@@ -114,7 +114,7 @@ pub(crate) fn numbers_fit(b: Builder, triangles: &[u16], n: usize) -> bool
     ensures { λ r. ⌜ r ≡ numbersFit b (now (triangles .entry)) n ⌝ }
 {
     let stated = b.stated;
-    if !is_roomy(stated, triangles.len(), n) {
+    if !is_long_enough(stated, triangles.len(), n) {
         return false;
     }
     if !counts_fit(b) {

@@ -13,7 +13,7 @@ use Rattle.rules.specs.declared.Place.{Place}
 use Rattle.rules.specs.declared.Builder.{Builder}
 use Rattle.rules.specs.Limits.{maxPlaces}
 use Rattle.rules.specs.Count.{num, occurs}
-use Rattle.rules.specs.Machine.{roomy}
+use Rattle.rules.specs.Machine.{longEnough}
 use Rattle.rules.specs.Buffer.{lengths}
 use Rattle.rules.specs.Build.{viewed}
 use Rattle.rules.specs.View.{placeRings, placesOf, loopsOf, trianglesBuilt, view}
@@ -50,7 +50,7 @@ not-so false b f h = refl
 
 -- the tests of the numbers, one by one
 pub record Numbers (b : Builder) (xs : List ℕ) (n : ℕ) : Type 0 where
-  pub room : roomy (record { triangles = length xs; places = n }) (b .stated) ≡ true
+  pub long : longEnough (record { triangles = length xs; places = n }) (b .stated) ≡ true
   pub counts : countsFit b ≡ true
   pub sums : sumsFit b ≡ true
   pub triangles : trianglesFit b xs ≡ true
@@ -58,11 +58,11 @@ pub record Numbers (b : Builder) (xs : List ℕ) (n : ℕ) : Type 0 where
 pub numbers : (b : Builder) (xs : List ℕ) (n : ℕ) → numbersFit b xs n ≡ true → Numbers b xs n
 unfolding numbersFit
 numbers b xs n h =
-    let r = roomy (record { triangles = length xs; places = n }) (b .stated) in
+    let r = longEnough (record { triangles = length xs; places = n }) (b .stated) in
     let three = and-left (r && countsFit b && sumsFit b) _ h in
     let two = and-left (r && countsFit b) _ three in
     record {
-      room = and-left r _ two;
+      long = and-left r _ two;
       counts = and-right r _ two;
       sums = and-right (r && countsFit b) _ three;
       triangles = and-right (r && countsFit b && sumsFit b) _ h;
@@ -71,13 +71,13 @@ numbers b xs n h =
 numbers-back : (b : Builder) (xs : List ℕ) (n : ℕ) → Numbers b xs n → numbersFit b xs n ≡ true
 unfolding numbersFit
 numbers-back b xs n f =
-    let r = roomy (record { triangles = length xs; places = n }) (b .stated) in
+    let r = longEnough (record { triangles = length xs; places = n }) (b .stated) in
     and-yes (r && countsFit b && sumsFit b) (trianglesFit b xs)
-    (and-yes (r && countsFit b) (sumsFit b) (and-yes r (countsFit b) (f .room) (f .counts)) (f .sums)) (f .triangles)
+    (and-yes (r && countsFit b) (sumsFit b) (and-yes r (countsFit b) (f .long) (f .counts)) (f .sums)) (f .triangles)
 
 pub all-places : (b : Builder) (xs : List ℕ) (n : ℕ) → n ≤ maxPlaces → numbersFit b xs n ≡ true → n ≡ maxPlaces
 all-places b xs n h t =
-    let l : maxPlaces ≤ n = leb-true maxPlaces n (and-right (leb (3 * b .stated .triangles) (length xs)) _ (numbers b xs n t .room)) in
+    let l : maxPlaces ≤ n = leb-true maxPlaces n (and-right (leb (3 * b .stated .triangles) (length xs)) _ (numbers b xs n t .long)) in
     omega (arith, h, l)
 
 pub few-live : (b : Builder) (xs : List ℕ) (n : ℕ) → numbersFit b xs n ≡ true → b .live ≤ 100
@@ -86,13 +86,13 @@ few-live b xs n t =
     omega (arith, c .live, c .range .loops)
 
 -- 21 is the tests of the numbers and of the links
-room-same : (b : Builder) (xs : List ℕ) (n : ℕ) (m : List ℕ)
-    → roomy (lengths (lent xs n m)) (b .stated) ≡ roomy (record { triangles = length xs; places = n }) (b .stated)
-room-same b xs n m = ap (λ (z : ℕ). leb (3 * b .stated .triangles) (length xs) && leb maxPlaces z) (length-records n m)
+long-same : (b : Builder) (xs : List ℕ) (n : ℕ) (m : List ℕ)
+    → longEnough (lengths (lent xs n m)) (b .stated) ≡ longEnough (record { triangles = length xs; places = n }) (b .stated)
+long-same b xs n m = ap (λ (z : ℕ). leb (3 * b .stated .triangles) (length xs) && leb maxPlaces z) (length-records n m)
 
 module _ (b : Builder) (xs : List ℕ) (n : ℕ) (m : List ℕ) where
-  abbrev roomTest : Bool
-  roomTest = roomy (lengths (lent xs n m)) (b .stated)
+  abbrev longTest : Bool
+  longTest = longEnough (lengths (lent xs n m)) (b .stated)
 
   abbrev linkTest : Bool
   linkTest = linksFit b (records n m)
@@ -100,29 +100,29 @@ module _ (b : Builder) (xs : List ℕ) (n : ℕ) (m : List ℕ) where
   sound-numbers : sound b (lent xs n m) ≡ true → numbersFit b xs n ≡ true
   unfolding sound
   sound-numbers h =
-      let four = and-left (roomTest && countsFit b && sumsFit b && linkTest) _ h in
-      let three = and-left (roomTest && countsFit b && sumsFit b) _ four in
-      let two = and-left (roomTest && countsFit b) _ three in
+      let four = and-left (longTest && countsFit b && sumsFit b && linkTest) _ h in
+      let three = and-left (longTest && countsFit b && sumsFit b) _ four in
+      let two = and-left (longTest && countsFit b) _ three in
       numbers-back b xs n
       (record {
-        room = sym (room-same b xs n m) ∙ and-left roomTest _ two;
-        counts = and-right roomTest _ two;
-        sums = and-right (roomTest && countsFit b) _ three;
-        triangles = and-right (roomTest && countsFit b && sumsFit b && linkTest) _ h;
+        long = sym (long-same b xs n m) ∙ and-left longTest _ two;
+        counts = and-right longTest _ two;
+        sums = and-right (longTest && countsFit b) _ three;
+        triangles = and-right (longTest && countsFit b && sumsFit b && linkTest) _ h;
       })
 
   sound-links : sound b (lent xs n m) ≡ true → linksFit b (records n m) ≡ true
   unfolding sound
   sound-links h =
-      and-right (roomTest && countsFit b && sumsFit b) _ (and-left (roomTest && countsFit b && sumsFit b && linkTest) _ h)
+      and-right (longTest && countsFit b && sumsFit b) _ (and-left (longTest && countsFit b && sumsFit b && linkTest) _ h)
 
   sound-by : numbersFit b xs n ≡ true → linksFit b (records n m) ≡ true → sound b (lent xs n m) ≡ true
   unfolding sound
   sound-by t l =
       let f = numbers b xs n t in
-      and-yes (roomTest && countsFit b && sumsFit b && linkTest) (trianglesFit b xs)
-      (and-yes (roomTest && countsFit b && sumsFit b) linkTest
-      (and-yes (roomTest && countsFit b) (sumsFit b) (and-yes roomTest (countsFit b) (room-same b xs n m ∙ f .room) (f .counts)) (f .sums)) l)
+      and-yes (longTest && countsFit b && sumsFit b && linkTest) (trianglesFit b xs)
+      (and-yes (longTest && countsFit b && sumsFit b) linkTest
+      (and-yes (longTest && countsFit b) (sumsFit b) (and-yes longTest (countsFit b) (long-same b xs n m ∙ f .long) (f .counts)) (f .sums)) l)
       (f .triangles)
 
   -- a state whose numbers do not fit fails; so does one whose loops cannot be marked

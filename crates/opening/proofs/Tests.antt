@@ -12,7 +12,7 @@ use borrow.Author.Tests.{leb-true, le-leb, lt-leb, lt-ltb, le-ltb}
 use Rattle.rules.specs.declared.Builder.{Builder}
 use Rattle.rules.specs.declared.Counts.{Counts}
 use Rattle.rules.specs.Limits.{inRange, vertexRange, between, minPlaces, maxPlaces, maxTriangles}
-use Rattle.rules.specs.Machine.{roomy}
+use Rattle.rules.specs.Machine.{longEnough}
 use Rattle.rules.specs.Check.{allBelow}
 use Rattle.rules.specs.Test21.{sizesOf, countsFit, sumsFit, trianglesFit}
 use Rattle.book.proofs.Counting.{and-left, and-right}
@@ -112,8 +112,8 @@ sums-fit b h =
     }
 
 -- the triangle buffer has the triangles built so far
-pub room-built : (b : Builder) (l n : ℕ) → roomy (record { triangles = l; places = n }) (b .stated) ≡ true → countsFit b ≡ true → 3 * b .built ≤ l
-room-built b l n r h =
+pub long-built : (b : Builder) (l n : ℕ) → longEnough (record { triangles = l; places = n }) (b .stated) ≡ true → countsFit b ≡ true → 3 * b .built ≤ l
+long-built b l n r h =
     omega (arith, leb-true (3 * b .stated .triangles) l (and-left (leb (3 * b .stated .triangles) l) (leb maxPlaces n) r), counts-fit b h .built)
 
 -- the tests of the sums, in their order
@@ -218,36 +218,36 @@ module _ (b : Builder) where
 
 -- the tests of all numbers, in their order
 module _ (b : Builder) (xs : List ℕ) (n : ℕ) where
-  abbrev pub hasRoom : Bool
-  hasRoom = roomy (record { triangles = length xs; places = n }) (b .stated)
+  abbrev pub isLong : Bool
+  isLong = longEnough (record { triangles = length xs; places = n }) (b .stated)
 
-  pub no-room : (r : Bool) → r ≡ hasRoom → r ≡ false → false ≡ numbersFit b xs n
+  pub too-short : (r : Bool) → r ≡ isLong → r ≡ false → false ≡ numbersFit b xs n
   unfolding numbersFit
-  no-room r e h =
-      sym (no-and (hasRoom && countsFit b && sumsFit b) (trianglesFit b xs)
-      (no-and (hasRoom && countsFit b) (sumsFit b) (no-and hasRoom (countsFit b) (sym e ∙ h))))
+  too-short r e h =
+      sym (no-and (isLong && countsFit b && sumsFit b) (trianglesFit b xs)
+      (no-and (isLong && countsFit b) (sumsFit b) (no-and isLong (countsFit b) (sym e ∙ h))))
 
   pub no-counts : (r : Bool) → r ≡ countsFit b → r ≡ false → false ≡ numbersFit b xs n
   unfolding numbersFit
   no-counts r e h =
-      sym (no-and (hasRoom && countsFit b && sumsFit b) (trianglesFit b xs)
-      (no-and (hasRoom && countsFit b) (sumsFit b) (and-no hasRoom (countsFit b) (sym e ∙ h))))
+      sym (no-and (isLong && countsFit b && sumsFit b) (trianglesFit b xs)
+      (no-and (isLong && countsFit b) (sumsFit b) (and-no isLong (countsFit b) (sym e ∙ h))))
 
   pub no-sums : (r : Bool) → r ≡ sumsFit b → r ≡ false → false ≡ numbersFit b xs n
   unfolding numbersFit
   no-sums r e h =
-      sym (no-and (hasRoom && countsFit b && sumsFit b) (trianglesFit b xs) (and-no (hasRoom && countsFit b) (sumsFit b) (sym e ∙ h)))
+      sym (no-and (isLong && countsFit b && sumsFit b) (trianglesFit b xs) (and-no (isLong && countsFit b) (sumsFit b) (sym e ∙ h)))
 
-  pub by-triangles : (r : Bool) → r ≡ hasRoom → r ≡ true → (s : Bool) → s ≡ countsFit b → s ≡ true → (t : Bool) → t ≡ sumsFit b → t ≡ true
+  pub by-triangles : (r : Bool) → r ≡ isLong → r ≡ true → (s : Bool) → s ≡ countsFit b → s ≡ true → (t : Bool) → t ≡ sumsFit b → t ≡ true
       → (u : Bool) → u ≡ trianglesFit b xs → u ≡ numbersFit b xs n
   unfolding numbersFit
   by-triangles r er hr s es hs t et ht u eu =
       eu
-      ∙ sym (yes-and (hasRoom && countsFit b && sumsFit b) (trianglesFit b xs)
-      (and-yes (hasRoom && countsFit b) (sumsFit b) (and-yes hasRoom (countsFit b) (sym er ∙ hr) (sym es ∙ hs)) (sym et ∙ ht)))
+      ∙ sym (yes-and (isLong && countsFit b && sumsFit b) (trianglesFit b xs)
+      (and-yes (isLong && countsFit b) (sumsFit b) (and-yes isLong (countsFit b) (sym er ∙ hr) (sym es ∙ hs)) (sym et ∙ ht)))
 
-  pub triangles-there : (r : Bool) → r ≡ hasRoom → r ≡ true → (s : Bool) → s ≡ countsFit b → s ≡ true → 3 * b .built ≤ length xs
-  triangles-there r er hr s es hs = room-built b (length xs) n (sym er ∙ hr) (sym es ∙ hs)
+  pub triangles-there : (r : Bool) → r ≡ isLong → r ≡ true → (s : Bool) → s ≡ countsFit b → s ≡ true → 3 * b .built ≤ length xs
+  triangles-there r er hr s es hs = long-built b (length xs) n (sym er ∙ hr) (sym es ∙ hs)
 
 -- the loops' sizes, taken one after the other from what is left of the places stated
 module _ (b : Builder) (n p : ℕ) where

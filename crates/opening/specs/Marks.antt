@@ -9,7 +9,7 @@ use lib.Dec.{eqb, ltb, leb}
 use Rattle.rules.specs.declared.Place.{Place}
 use Rattle.rules.specs.declared.Builder.{Builder}
 use Rattle.rules.specs.Limits.{maxPlaces}
-use Rattle.rules.specs.Machine.{roomy}
+use Rattle.rules.specs.Machine.{longEnough}
 use Rattle.rules.specs.View.{placeAt, follow, followed, loopPlaces}
 use Rattle.rules.specs.Test21.{countsFit, sumsFit, placeFits, trianglesFit}
 use Rattle.places.specs.Memory.{records}
@@ -17,7 +17,7 @@ use Rattle.places.specs.Memory.{records}
 -- what 21 asks of the numbers beside the loops' places
 unfoldable pub numbersFit : Builder → List ℕ → ℕ → Bool
 numbersFit b xs n =
-    roomy (record { triangles = length xs; places = n }) (b .stated) && countsFit b && sumsFit b && trianglesFit b xs
+    longEnough (record { triangles = length xs; places = n }) (b .stated) && countsFit b && sumsFit b && trianglesFit b xs
 
 -- place i is there, is not marked in s, and fits, its vertex below v
 unfoldable pub markable : List Place → ℕ → List ℕ → ℕ → Bool

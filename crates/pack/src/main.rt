@@ -16,7 +16,7 @@ const PARTS: usize = 256;
 const NUMBERS: usize = 24578;
 
 // More bytes than any pack has.
-const ROOM: usize = 65550;
+const BUFFER: usize = 65550;
 
 // How far a text is read: how many numbers have ended, the number that is being read if one is, and whether the text is no model.
 struct Text {
@@ -146,14 +146,14 @@ fn print_refused(r: Packed) {
 }
 
 // Writes what a packing answered: the pack that stands in the buffer, or the refusal.
-fn print_answer(r: Packed, room: &[u8]) {
+fn print_answer(r: Packed, buffer: &[u8]) {
     let Packed::Length(n) = r else {
         print_refused(r);
         return;
     };
     let k = n as usize;
-    if k <= room.len() {
-        io::write_all(STDOUT_FILENO, &room[..k]);
+    if k <= buffer.len() {
+        io::write_all(STDOUT_FILENO, &buffer[..k]);
     }
 }
 
@@ -167,7 +167,7 @@ fn pack_numbers(
     numbers: &[u16],
     n: usize,
     numbering: &mut [u16],
-    room: &mut [u8],
+    buffer: &mut [u8],
     m: &mut [u16; 5320],
 ) {
     if numbers.len() < n {
@@ -177,8 +177,8 @@ fn pack_numbers(
         return;
     }
     let v = wide(numbers[0]);
-    let r = packer::pack_on(v, &numbers[1..n], numbering, room, m, Builder::MAX_PLACES);
-    print_answer(r, room);
+    let r = packer::pack_on(v, &numbers[1..n], numbering, buffer, m, Builder::MAX_PLACES);
+    print_answer(r, buffer);
 }
 
 fn print_no_model() {
@@ -193,7 +193,7 @@ fn run(
     part: &mut [u8],
     numbers: &mut [u16],
     numbering: &mut [u16],
-    room: &mut [u8],
+    buffer: &mut [u8],
     m: &mut [u16; 5320],
 ) {
     let t = read_text(part, numbers);
@@ -203,14 +203,14 @@ fn run(
     if t.count == 0 {
         return print_no_model();
     }
-    pack_numbers(numbers, t.count, numbering, room, m);
+    pack_numbers(numbers, t.count, numbering, buffer, m);
 }
 
 fn main() {
     let mut part = [0u8; PART];
     let mut numbers = [0u16; NUMBERS];
     let mut numbering = [0u16; 4096];
-    let mut room = [0u8; ROOM];
+    let mut buffer = [0u8; BUFFER];
     let mut m = [0u16; 5320];
-    run(&mut part, &mut numbers, &mut numbering, &mut room, &mut m);
+    run(&mut part, &mut numbers, &mut numbering, &mut buffer, &mut m);
 }

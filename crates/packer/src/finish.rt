@@ -30,14 +30,14 @@ fn counts_at(v: usize, k: usize, t: Course) -> Counts
 }
 
 // A refusal past 8: the first v numbering entries and the whole pack buffer are zero.
-fn refuse(k: u8, v: usize, numbering: &mut [u16], room: &mut [u8]) -> Packed
+fn refuse(k: u8, v: usize, numbering: &mut [u16], buffer: &mut [u8]) -> Packed
     requires { ⌜ v ≤ length (now numbering) ⌝ }
     ensures answer { λ r. ⌜ r ≡ Packs.Refused k ⌝ }
     ensures numbers { λ _. ⌜ now (numbering .exit) ≡ zeroed v (now (numbering .entry)) ⌝ }
-    ensures pack { λ _. ⌜ now (room .exit) ≡ zeroed (length (now (room .entry))) (now (room .entry)) ⌝ }
+    ensures pack { λ _. ⌜ now (buffer .exit) ≡ zeroed (length (now (buffer .entry))) (now (buffer .entry)) ⌝ }
 {
     clear(numbering, v);
-    clear_bytes(room);
+    clear_bytes(buffer);
     Packed::Refused(k)
 }
 
@@ -52,20 +52,26 @@ fn number_of(end: Ran) -> u8
 }
 
 // The answer after a run: its refusal, or 11, or the pack's length, with the header written.
-pub(crate) fn finish(v: usize, k: usize, end: Ran, numbering: &mut [u16], room: &mut [u8]) -> Packed
+pub(crate) fn finish(
+    v: usize,
+    k: usize,
+    end: Ran,
+    numbering: &mut [u16],
+    buffer: &mut [u8],
+) -> Packed
     requires { ⌜ (v ≤ 4096) × (k ≤ 8192) × (v ≤ length (now numbering)) × Sized end ⌝ }
-    ensures answer { λ r. ⌜ r ≡ finishAnswer end (length (now (room .entry))) ⌝ }
-    ensures numbers { λ _. ⌜ now (numbering .exit) ≡ finishNumbers end v (length (now (room .entry))) (now (numbering .entry)) ⌝ }
-    ensures pack { λ _. ⌜ now (room .exit) ≡ finishPack end v k (now (room .entry)) ⌝ }
+    ensures answer { λ r. ⌜ r ≡ finishAnswer end (length (now (buffer .entry))) ⌝ }
+    ensures numbers { λ _. ⌜ now (numbering .exit) ≡ finishNumbers end v (length (now (buffer .entry))) (now (numbering .entry)) ⌝ }
+    ensures pack { λ _. ⌜ now (buffer .exit) ≡ finishPack end v k (now (buffer .entry)) ⌝ }
 {
     let Ran::Ended(t, at) = end else {
-        return refuse(number_of(end), v, numbering, room);
+        return refuse(number_of(end), v, numbering, buffer);
     };
     let n = (at + 7) / 8;
-    if room.len() < n {
-        return refuse(11, v, numbering, room);
+    if buffer.len() < n {
+        return refuse(11, v, numbering, buffer);
     }
     let counts = counts_at(v, k, t);
-    write_header(room, counts, n - 14);
+    write_header(buffer, counts, n - 14);
     Packed::Length(n as u32)
 }

@@ -54,11 +54,11 @@ fn pack_accepted(
     list: &[u16],
     chains: &Links,
     numbering: &mut [u16],
-    room: &mut [u8],
+    buffer: &mut [u8],
     m: &mut [u16],
 ) -> Packed
     requires { ⌜ Fitting v (now list) (now chains) (now numbering) (now m) ⌝ }
-    ensures { λ r. ⌜ RunGives v (now (list .entry)) (now (numbering .entry)) (now (room .entry)) r (now (numbering .exit)) (now (room .exit)) (now (m .exit)) ⌝ }
+    ensures { λ r. ⌜ RunGives v (now (list .entry)) (now (numbering .entry)) (now (buffer .entry)) r (now (numbering .exit)) (now (buffer .exit)) (now (m .exit)) ⌝ }
 {
     let k = list.len() / 3;
     let mut built = [0u8; 8192];
@@ -76,11 +76,11 @@ fn pack_accepted(
         4 * k + 1,
         &mut built,
         numbering,
-        room,
+        buffer,
         m,
     );
     clear(m, RECORDS);
-    finish(v, k, end, numbering, room)
+    finish(v, k, end, numbering, buffer)
 }
 
 // A list's refusal, 1 to 7, as the packing's.
@@ -99,11 +99,11 @@ pub fn pack_on(
     v: usize,
     list: &[u16],
     numbering: &mut [u16],
-    room: &mut [u8],
+    buffer: &mut [u8],
     m: &mut [u16; MEMORY],
     n: usize,
 ) -> Packed
-    ensures { λ r. ⌜ PackedOn v (now (list .entry)) (now (numbering .entry)) (now (room .entry)) (now (m .entry)) n r (now (numbering .exit)) (now (room .exit)) (now (m .exit)) ⌝ }
+    ensures { λ r. ⌜ PackedOn v (now (list .entry)) (now (numbering .entry)) (now (buffer .entry)) (now (m .entry)) n r (now (numbering .exit)) (now (buffer .exit)) (now (m .exit)) ⌝ }
 {
     let mut chains = [0u16; VERTICES + CORNERS];
     let checked = check_into(v, list, &mut chains);
@@ -116,5 +116,5 @@ pub fn pack_on(
     if n < PLACES {
         return Packed::Refused(8);
     }
-    pack_accepted(v, list, &chains, numbering, room, m)
+    pack_accepted(v, list, &chains, numbering, buffer, m)
 }

@@ -117,11 +117,11 @@ pub fn run(
     budget: usize,
     built: &mut Flags,
     numbering: &mut [u16],
-    room: &mut [u8],
+    buffer: &mut [u8],
     m: &mut [u16],
 ) -> Ran
     requires { ⌜ Held (now list) (now chains) start (now built) (now numbering) (now m) × (budget ≤ 32769) ⌝ }
-    ensures { λ r. ⌜ RunOf (now (list .entry)) budget start (now (built .entry)) (now (numbering .entry)) (now (room .entry)) (now (m .entry)) r (now (built .exit)) (now (numbering .exit)) (now (room .exit)) (now (m .exit)) ⌝ }
+    ensures { λ r. ⌜ RunOf (now (list .entry)) budget start (now (built .entry)) (now (numbering .entry)) (now (buffer .entry)) (now (m .entry)) r (now (built .exit)) (now (numbering .exit)) (now (buffer .exit)) (now (m .exit)) ⌝ }
 {
     let mut t = start;
     let mut at = 112;
@@ -134,7 +134,7 @@ pub fn run(
         let Taken::Going(o, after) = r else {
             return refusal_from(r);
         };
-        let w = write_operation(room, at, o);
+        let w = write_operation(buffer, at, o);
         t = after;
         at = w.next;
         left -= 1;

@@ -18,6 +18,7 @@ use Rattle.rules.specs.Count.{count}
 use Rattle.rules.specs.Ring.{Ring, places}
 use Rattle.rules.specs.Table.{Side, glued, fresh, builds, marks, effect, sideRule, edgeRule}
 use Rattle.rules.specs.Machine.{Machine, afterBuild, afterMark, Step, refused, built, declared, test, within, done, operation}
+use Rattle.shown.specs.Effects.{buildingOf, markingOf}
 use Rattle.book.specs.Consistent.{Ranges}
 use Rattle.book.proofs.Counting.{no-from, no-to}
 use Rattle.fans.proofs.Counting.{and-both}
@@ -232,11 +233,11 @@ module _ (v k : ℕ) (f : Front) (m : List ℕ) (ls : List Ring) (a b : ℕ) (st
         }
 
     -- an operation that builds a triangle
-    module _ (h : c ≤ v) (o : Operation) (ls′ : List Ring) (t : Triangle) (x y z : Side) (n i u : ℕ) (e : effect o c ls ≡ builds ls′ t x y z n i u)
+    module _ (h : c ≤ v) (o : Operation) (ls′ : List Ring) (t : Triangle) (x y z : Side) (n i u : ℕ) (e : effect o c ls ≡ builds (buildingOf ls′ t x y z n i u))
         (pq : t .p ≡ t .q → ⊥) (qr : t .q ≡ t .r → ⊥) (rp : t .r ≡ t .p → ⊥) (room-v : c + n ≤ v) (room-k : f .built + 1 ≤ k) where
       after : Machine
       unfolding machine
-      after = afterBuild machine ls′ t x y z n i u
+      after = afterBuild machine (buildingOf ls′ t x y z n i u)
 
       does : operation machine o ≡ test (within after) 17 (built t after)
       unfolding machine after done
@@ -287,10 +288,10 @@ module _ (v k : ℕ) (f : Front) (m : List ℕ) (ls : List Ring) (a b : ℕ) (st
   no-builds-marks : (p : Plan) (x y : ℕ) → D.Builds p ≡ D.Marks x y → ⊥
   no-builds-marks p x y e = let q : _≡_ {A = ℕ} 0 1 = cc in omega arith
 
-  module _ (live : f .loops .live ≡ 0 → ⊥) (ls′ : List Ring) (d : Edge) (rim : ℕ) (e : effect Border 0 ls ≡ marks ls′ d rim) where
+  module _ (live : f .loops .live ≡ 0 → ⊥) (ls′ : List Ring) (d : Edge) (rim : ℕ) (e : effect Border 0 ls ≡ marks (markingOf ls′ d rim)) where
     marked-after : Machine
     unfolding machine
-    marked-after = afterMark (machine 0) ls′ rim
+    marked-after = afterMark (machine 0) (markingOf ls′ d rim)
 
     marks-it : operation (machine 0) Border ≡ test (within marked-after) 17 (declared d marked-after)
     unfolding machine marked-after done

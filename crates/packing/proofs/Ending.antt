@@ -20,9 +20,9 @@ use Rattle.rules.specs.Check.{check}
 use Rattle.rules.specs.Answer.{refusal, packed, packedAnswer}
 use Rattle.rules.specs.Buffer.{zeroed}
 use Rattle.rules.specs.Choice.{Packing, has}
-use Rattle.rules.specs.Pack.{Chosen, stopped, chosen, chooseAll, most, nothingBuilt, chosenFor, packOf, newNumbers, PackResult, packRefused, packDone, packChosen, packRooms, turnedDown, packChecked}
+use Rattle.rules.specs.Pack.{Chosen, stopped, chosen, chooseAll, most, nothingBuilt, chosenFor, packOf, newNumbers, PackResult, packRefused, packDone, packChosen, packLongEnough, turnedDown, packChecked}
 use Rattle.fans.proofs.Checks.{check-accepted}
-use Rattle.codes.specs.Room.{bytesFor}
+use Rattle.codes.specs.Buffer.{bytesFor}
 use Rattle.chains.specs.Chains.{Linked}
 use Rattle.gap.proofs.Bools.{and-true}
 use Rattle.gap.proofs.Whole as whole
@@ -136,10 +136,10 @@ module _ (v : ℕ) (xs cs ns m : List ℕ) (h : Fitting v xs cs ns m) (k : ℕ) 
 
 -- ---- the end
 
-ends-sized : (v : ℕ) (xs : List ℕ) (c : Chosen) (budget : ℕ) (room : List ℕ) (end : Ran) (fs ns rest room′ m : List ℕ)
-    → Ends v xs c budget room end fs ns rest room′ m → budget ≤ 32769 → Sized end
-ends-sized v xs c budget room (Refused k) fs ns rest room′ m e b = tt
-ends-sized v xs c budget room (Ended t at) fs ns rest room′ m e b = (omega (arith, e .writes .position), omega (arith, e .near, b))
+ends-sized : (v : ℕ) (xs : List ℕ) (c : Chosen) (budget : ℕ) (buffer : List ℕ) (end : Ran) (fs ns rest buffer′ m : List ℕ)
+    → Ends v xs c budget buffer end fs ns rest buffer′ m → budget ≤ 32769 → Sized end
+ends-sized v xs c budget buffer (Refused k) fs ns rest buffer′ m e b = tt
+ends-sized v xs c budget buffer (Ended t at) fs ns rest buffer′ m e b = (omega (arith, e .writes .position), omega (arith, e .near, b))
 
 zeroed-all : (bs bs′ : List ℕ) → length bs′ ≡ length bs → zeroed (length bs′) bs′ ≡ zeroed (length bs) bs
 zeroed-all bs bs′ e =
@@ -308,7 +308,7 @@ module _ (v : ℕ) (xs ns bs m : List ℕ) (n : ℕ) (r : Checked) (e : r ≡ ch
     packed-short : leb v (length ns) && leb maxPlaces n ≡ false → PackedOn v xs ns bs m n (P.Refused 8) ns bs m
     unfolding packChecked
     packed-short z =
-        let z′ : packRooms v (lent n ns bs) ≡ false = ap (λ (i : ℕ). leb v (length ns) && leb maxPlaces i) (length-replicate n _) ∙ z in
+        let z′ : packLongEnough v (lent n ns bs) ≡ false = ap (λ (i : ℕ). leb v (length ns) && leb maxPlaces i) (length-replicate n _) ∙ z in
         let w : packOn v xs n ns bs ≡ turnedDown 8 (lent n ns bs) =
         ap (packChecked most v (trianglesOf xs) (lent n ns bs)) accepted
         ∙ ap (λ (b : Bool). elim b [ true ↦ packChosen v (trianglesOf xs) (lent n ns bs) (chosenFor most (trianglesOf xs)) | false ↦ turnedDown 8 (lent n ns bs) ]) z′ in
@@ -335,7 +335,7 @@ module _ (v : ℕ) (xs ns bs m : List ℕ) (n : ℕ) (r : Checked) (e : r ≡ ch
       unfolding packChecked
       packed-ran p ns′ bs′ m′ g =
           let z : leb v (length ns) && leb maxPlaces n ≡ true = ap₂ _&&_ (le-leb v (length ns) enough) (le-leb maxPlaces n many) in
-          let z′ : packRooms v (lent n ns bs) ≡ true = ap (λ (i : ℕ). leb v (length ns) && leb maxPlaces i) (length-replicate n _) ∙ z in
+          let z′ : packLongEnough v (lent n ns bs) ≡ true = ap (λ (i : ℕ). leb v (length ns) && leb maxPlaces i) (length-replicate n _) ∙ z in
           let w : packOn v xs n ns bs ≡ packChosen v (trianglesOf xs) (lent n ns bs) (chosenFor most (trianglesOf xs)) =
           ap (packChecked most v (trianglesOf xs) (lent n ns bs)) accepted
           ∙ ap (λ (b : Bool). elim b [ true ↦ packChosen v (trianglesOf xs) (lent n ns bs) (chosenFor most (trianglesOf xs)) | false ↦ turnedDown 8 (lent n ns bs) ]) z′ in

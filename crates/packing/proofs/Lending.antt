@@ -15,7 +15,7 @@ use Rattle.rules.specs.Limits.{maxPlaces}
 use Rattle.rules.specs.Triangle.{trianglesOf}
 use Rattle.rules.specs.Check.{check}
 use Rattle.rules.specs.Buffer.{freePlace, cleared}
-use Rattle.rules.specs.Pack.{Chosen, stopped, chosen, most, chosenFor, packOf, newNumbers, PackBuffers, PackResult, turnedDown, packRefused, packDone, packStored, packChosen, packRooms, packChecked, pack}
+use Rattle.rules.specs.Pack.{Chosen, stopped, chosen, most, chosenFor, packOf, newNumbers, PackBuffers, PackResult, turnedDown, packRefused, packDone, packStored, packChosen, packLongEnough, packChecked, pack}
 use Rattle.packing.specs.Lent.{packOn, isPast}
 
 abbrev pub lentTo : List ℕ → List Place → List ℕ → PackBuffers
@@ -47,20 +47,20 @@ unfolding packChosen
 alike-chosen v ts ns bs ps qs (stopped n) = record { answer = refl; numbering = refl; bytes = refl }
 alike-chosen v ts ns bs ps qs (chosen os s) = alike-stored v (newNumbers v (s .numbered)) (packOf v ts os s) ns bs ps qs
 
-alike-rooms : (v : ℕ) (ts : List Triangle) (ns bs : List ℕ) (ps qs : List Place) (a b : Bool) → a ≡ b
+alike-long : (v : ℕ) (ts : List Triangle) (ns bs : List ℕ) (ps qs : List Place) (a b : Bool) → a ≡ b
     → Alike (elim a [ true ↦ packChosen v ts (lentTo ns ps bs) (chosenFor most ts) | false ↦ turnedDown 8 (lentTo ns ps bs) ])
     (elim b [ true ↦ packChosen v ts (lentTo ns qs bs) (chosenFor most ts) | false ↦ turnedDown 8 (lentTo ns qs bs) ])
-alike-rooms v ts ns bs ps qs true true e = alike-chosen v ts ns bs ps qs (chosenFor most ts)
-alike-rooms v ts ns bs ps qs false false e = record { answer = refl; numbering = refl; bytes = refl }
-alike-rooms v ts ns bs ps qs true false e = absurd (false≢true (sym e))
-alike-rooms v ts ns bs ps qs false true e = absurd (false≢true e)
+alike-long v ts ns bs ps qs true true e = alike-chosen v ts ns bs ps qs (chosenFor most ts)
+alike-long v ts ns bs ps qs false false e = record { answer = refl; numbering = refl; bytes = refl }
+alike-long v ts ns bs ps qs true false e = absurd (false≢true (sym e))
+alike-long v ts ns bs ps qs false true e = absurd (false≢true e)
 
 alike-checked : (v : ℕ) (ts : List Triangle) (ns bs : List ℕ) (ps qs : List Place) → leb maxPlaces (length ps) ≡ leb maxPlaces (length qs) → (c : Checked)
     → Alike (packChecked most v ts (lentTo ns ps bs) c) (packChecked most v ts (lentTo ns qs bs) c)
 unfolding packChecked
 alike-checked v ts ns bs ps qs e (Refused n) = record { answer = refl; numbering = refl; bytes = refl }
 alike-checked v ts ns bs ps qs e Accepted =
-    alike-rooms v ts ns bs ps qs (packRooms v (lentTo ns ps bs)) (packRooms v (lentTo ns qs bs)) (ap (λ (b : Bool). leb v (length ns) && b) e)
+    alike-long v ts ns bs ps qs (packLongEnough v (lentTo ns ps bs)) (packLongEnough v (lentTo ns qs bs)) (ap (λ (b : Bool). leb v (length ns) && b) e)
 
 -- a list of n records and any list are alike, if both are long enough or neither is
 pub lend-pack : (v : ℕ) (xs ns bs : List ℕ) (ps : List Place) (n : ℕ) → leb maxPlaces (length ps) ≡ leb maxPlaces n
@@ -89,7 +89,7 @@ places-checked : (v : ℕ) (ts : List Triangle) (ns bs : List ℕ) (ps : List Pl
     → listOf (packChecked most v ts (lentTo ns ps bs) c) ≡ clearedIf (isPast c v (length ps) (length ns)) ps
 unfolding packChecked
 places-checked v ts ns bs ps (Refused n) = refl
-places-checked v ts ns bs ps Accepted = go (packRooms v (lentTo ns ps bs))
+places-checked v ts ns bs ps Accepted = go (packLongEnough v (lentTo ns ps bs))
   where
     go : (b : Bool) → listOf (elim b [ true ↦ packChosen v ts (lentTo ns ps bs) (chosenFor most ts) | false ↦ turnedDown 8 (lentTo ns ps bs) ]) ≡ clearedIf b ps
     go true = places-chosen v ts ns bs ps (chosenFor most ts)

@@ -15,7 +15,7 @@ use Rattle.rules.specs.Limits.{maxPlaces}
 use Rattle.rules.specs.Code.{operationBits}
 use Rattle.rules.specs.Choice.{Packing, ended, refuses, takes, choose}
 use Rattle.rules.specs.Pack.{Chosen, stopped, chosen, cons, chooseAll}
-use Rattle.codes.specs.Room.{writtenAt, bytesFor}
+use Rattle.codes.specs.Buffer.{writtenAt, bytesFor}
 use Rattle.codes.specs.Whole.{widthOf}
 use Rattle.codes.proofs.Operations.{width-most}
 use Rattle.gap.proofs.Whole.{all-ended, all-taken, choose-ended}
@@ -79,24 +79,24 @@ is-done f h = go (eqb (f .built) (f .stated .triangles)) refl h
 
 -- ---- the loop
 
-module _ (xs cs : List ℕ) (budget : ℕ) (t₀ : Course) (fs₀ ns₀ room₀ m₀ : List ℕ) where
-  pub loop-first : Held xs cs t₀ fs₀ ns₀ m₀ → Loop xs cs budget t₀ fs₀ ns₀ room₀ m₀ budget t₀ headerBits fs₀ ns₀ room₀ m₀
+module _ (xs cs : List ℕ) (budget : ℕ) (t₀ : Course) (fs₀ ns₀ buffer₀ m₀ : List ℕ) where
+  pub loop-first : Held xs cs t₀ fs₀ ns₀ m₀ → Loop xs cs budget t₀ fs₀ ns₀ buffer₀ m₀ budget t₀ headerBits fs₀ ns₀ buffer₀ m₀
   unfolding prepended
   loop-first h = record {
-    come = λ v s rest g. record { operations = []; packing = s; ran = refl; holds = g; writes = writes-none room₀; count = omega arith };
+    come = λ v s rest g. record { operations = []; packing = s; ran = refl; holds = g; writes = writes-none buffer₀; count = omega arith };
     held = h;
     few = omega arith;
     near = omega arith;
     numbers-long = refl;
-    room-long = refl;
+    buffer-long = refl;
     memory-long = refl;
   }
 
-  module _ (left : ℕ) (t : Course) (at : ℕ) (fs ns room m : List ℕ) (l : Loop xs cs budget t₀ fs₀ ns₀ room₀ m₀ left t at fs ns room m) where
+  module _ (left : ℕ) (t : Course) (at : ℕ) (fs ns buffer m : List ℕ) (l : Loop xs cs budget t₀ fs₀ ns₀ buffer₀ m₀ left t at fs ns buffer m) where
     -- nothing is left to do, or no step is
     ends-with : (v : ℕ) (s : Packing) (rest : List ℕ) → Holds v xs s t₀ fs₀ ns₀ rest m₀ → (fs′ ns′ m′ : List ℕ)
         → ((p : Packing) → Holds v xs p t fs ns rest m → (chooseAll left p ≡ chosen [] p) × Holds v xs p t fs′ ns′ rest m′)
-        → EndsAt v xs (chooseAll budget s) budget room₀ t at fs′ ns′ rest room m′
+        → EndsAt v xs (chooseAll budget s) budget buffer₀ t at fs′ ns′ rest buffer m′
     ends-with v s rest g fs′ ns′ m′ f =
         let c = l .come v s rest g in
         let e = f (c .packing) (c .holds) in
@@ -111,10 +111,10 @@ module _ (xs cs : List ℕ) (budget : ℕ) (t₀ : Course) (fs₀ ns₀ room₀ 
           near = omega (arith, l .near);
         }
 
-    pub loop-out : left ≤ 0 → RunOf xs budget t₀ fs₀ ns₀ room₀ m₀ (R.Ended t at) fs ns room m
+    pub loop-out : left ≤ 0 → RunOf xs budget t₀ fs₀ ns₀ buffer₀ m₀ (R.Ended t at) fs ns buffer m
     loop-out q v s rest g = ends-with v s rest g fs ns m (λ p h. (all-none left p q, h))
 
-    pub loop-done : isDone (t .front) ≡ true → RunOf xs budget t₀ fs₀ ns₀ room₀ m₀ (R.Ended t at) fs ns room m
+    pub loop-done : isDone (t .front) ≡ true → RunOf xs budget t₀ fs₀ ns₀ buffer₀ m₀ (R.Ended t at) fs ns buffer m
     loop-done q v s rest g = ends-with v s rest g fs ns m (λ p h. (all-end left p (done-ended v p rest h q), h))
       where
         done-ended : (v : ℕ) (p : Packing) (rest : List ℕ) → Holds v xs p t fs ns rest m → isDone (t .front) ≡ true → choose p ≡ ended
@@ -130,11 +130,11 @@ module _ (xs cs : List ℕ) (budget : ℕ) (t₀ : Course) (fs₀ ns₀ room₀ 
             none (x ∷ ts) e = absurd (omega arith)
 
     module _ (r : Taken) (fs′ ns′ m′ : List ℕ) (step : StepOf xs t fs ns m r fs′ ns′ m′) where
-      pub loop-stopped : 0 < left → (k : ℕ) → r ≡ T.Refused k → (e : Ran) → e ≡ R.Refused k → RunOf xs budget t₀ fs₀ ns₀ room₀ m₀ e fs′ ns′ room m′
+      pub loop-stopped : 0 < left → (k : ℕ) → r ≡ T.Refused k → (e : Ran) → e ≡ R.Refused k → RunOf xs budget t₀ fs₀ ns₀ buffer₀ m₀ e fs′ ns′ buffer m′
       loop-stopped z k q e i v s rest g =
           let c = l .come v s rest g in
           let w = subst (λ (w : Taken). Steps v xs (c .packing) t w fs′ ns′ rest m′) q (step v (c .packing) rest (c .holds)) in
-          subst (λ (w : Ran). Ends v xs (chooseAll budget s) budget room₀ w fs′ ns′ rest room m′) (sym i) (
+          subst (λ (w : Ran). Ends v xs (chooseAll budget s) budget buffer₀ w fs′ ns′ rest buffer m′) (sym i) (
             c .ran ∙ ap (prepended (c .operations)) (all-stop left k (c .packing) z (w .0)) ∙ prepended-stopped (c .operations) k,
             w .1,
           )
@@ -147,11 +147,11 @@ module _ (xs cs : List ℕ) (budget : ℕ) (t₀ : Course) (fs₀ ns₀ room₀ 
         pub loop-room : 0 < left → at + widthOf o ≤ headerBits + 20 * budget
         loop-room z = omega (arith, l .near, width-most o)
 
-        pub loop-on : 0 < left → (at′ : ℕ) (room′ : List ℕ) → at′ ≡ at + widthOf o → length room′ ≡ length room
-            → (bytesFor (at + widthOf o) ≤ length room → room′ ≡ writtenAt room at (operationBits o))
+        pub loop-on : 0 < left → (at′ : ℕ) (buffer′ : List ℕ) → at′ ≡ at + widthOf o → length buffer′ ≡ length buffer
+            → (bytesFor (at + widthOf o) ≤ length buffer → buffer′ ≡ writtenAt buffer at (operationBits o))
             → length ns′ ≡ length ns → length m′ ≡ length m
-            → Loop xs cs budget t₀ fs₀ ns₀ room₀ m₀ (left - 1) t′ at′ fs′ ns′ room′ m′
-        loop-on z at′ room′ ea er ew en em = record {
+            → Loop xs cs budget t₀ fs₀ ns₀ buffer₀ m₀ (left - 1) t′ at′ fs′ ns′ buffer′ m′
+        loop-on z at′ buffer′ ea er ew en em = record {
           come = comes;
           held =
               record {
@@ -164,12 +164,12 @@ module _ (xs cs : List ℕ) (budget : ℕ) (t₀ : Course) (fs₀ ns₀ room₀ 
           few = omega (arith, l .few);
           near = omega (arith, l .near, ea, width-most o);
           numbers-long = en ∙ l .numbers-long;
-          room-long = er ∙ l .room-long;
+          buffer-long = er ∙ l .buffer-long;
           memory-long = em ∙ l .memory-long;
         }
           where
             comes : (v : ℕ) (s : Packing) (rest : List ℕ) → Holds v xs s t₀ fs₀ ns₀ rest m₀
-                → Comes v xs (chooseAll budget s) budget room₀ (left - 1) t′ at′ fs′ ns′ rest room′ m′
+                → Comes v xs (chooseAll budget s) budget buffer₀ (left - 1) t′ at′ fs′ ns′ rest buffer′ m′
             comes v s rest g =
                 let c = l .come v s rest g in
                 let w = gone v (c .packing) rest (c .holds) in
@@ -180,6 +180,6 @@ module _ (xs cs : List ℕ) (budget : ℕ) (t₀ : Course) (fs₀ ns₀ room₀ 
                       c .ran ∙ ap (prepended (c .operations)) (all-take left (c .packing) (w .after) o z (w .goes))
                       ∙ prepended-more (c .operations) o (chooseAll (left - 1) (w .after));
                   holds = w .holds;
-                  writes = writes-more (c .operations) o room₀ room room′ at at′ (c .writes) ea er ew;
+                  writes = writes-more (c .operations) o buffer₀ buffer buffer′ at at′ (c .writes) ea er ew;
                   count = omega (arith, c .count, length-append (c .operations) (o ∷ []), z);
                 }

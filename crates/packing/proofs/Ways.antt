@@ -21,7 +21,7 @@ use Rattle.rules.specs.Across.{across}
 use Rattle.rules.specs.Choice.{choosePlace}
 use Rattle.rules.specs.Buffer.{over, zeroed}
 use Rattle.codes.specs.Header.{headerOf}
-use Rattle.codes.specs.Room.{bytesFor}
+use Rattle.codes.specs.Buffer.{bytesFor}
 use Rattle.chains.specs.Chains.{Finds}
 use Rattle.chains.proofs.Finding.{linked-found}
 use Rattle.memory.specs.declared.Loops.{Loops}
@@ -47,7 +47,7 @@ use Rattle.packing.specs.Numbers.{unnumbered}
 use Rattle.packing.specs.Doing.{refusalAt, doneBy, memoryBy, doneOf, memoryOf}
 use Rattle.packing.specs.Course.{startOf, endOf, isNumbered, placedBy, flagsBy, moveBy, moveOf, flagsOf, givenBy, numbersBy, renamed, Chooses}
 use Rattle.packing.specs.Steps.{isDone, Lowest, Renames}
-use Rattle.packing.specs.Finish.{countsAt, fitsRoom, answerIf, finishAnswer, numbersIf, finishNumbers, packIf, finishPack, Sized}
+use Rattle.packing.specs.Finish.{countsAt, fitsBuffer, answerIf, finishAnswer, numbersIf, finishNumbers, packIf, finishPack, Sized}
 
 -- ---- what is taken
 
@@ -226,7 +226,7 @@ module _ (end : Ran) (v k : ℕ) (ns bs : List ℕ) where
     pub finish-short : length bs < (at + 7) / 8 → (r : Packed) → r ≡ P.Refused 11 → (ns′ bs′ : List ℕ) → ns′ ≡ zeroed v ns → bs′ ≡ zeroed (length bs) bs
         → (r ≡ finishAnswer end (length bs)) × ((ns′ ≡ finishNumbers end v (length bs) ns) × (bs′ ≡ finishPack end v k bs))
     finish-short l r er ns′ bs′ en eb =
-        let q : fitsRoom at (length bs) ≡ false = lt-leb (bytesFor at) (length bs) l in (
+        let q : fitsBuffer at (length bs) ≡ false = lt-leb (bytesFor at) (length bs) l in (
           er ∙ sym (ap (λ (w : Ran). finishAnswer w (length bs)) e ∙ ap (λ (b : Bool). answerIf b (bytesFor at)) q),
           (
             en ∙ sym (ap (λ (w : Ran). finishNumbers w v (length bs) ns) e ∙ ap (λ (b : Bool). numbersIf b v ns) q),
@@ -237,7 +237,7 @@ module _ (end : Ran) (v k : ℕ) (ns bs : List ℕ) where
     pub finish-whole : (at + 7) / 8 ≤ length bs → (c : Counts) → c ≡ countsAt v k t → (bs′ : List ℕ) → bs′ ≡ over (headerOf c ((at + 7) / 8 - 14)) bs
         → (P.Length ((at + 7) / 8) ≡ finishAnswer end (length bs)) × ((ns ≡ finishNumbers end v (length bs) ns) × (bs′ ≡ finishPack end v k bs))
     finish-whole l c ec bs′ eb =
-        let q : fitsRoom at (length bs) ≡ true = le-leb (bytesFor at) (length bs) l in (
+        let q : fitsBuffer at (length bs) ≡ true = le-leb (bytesFor at) (length bs) l in (
           sym (ap (λ (w : Ran). finishAnswer w (length bs)) e ∙ ap (λ (b : Bool). answerIf b (bytesFor at)) q),
           (
             sym (ap (λ (w : Ran). finishNumbers w v (length bs) ns) e ∙ ap (λ (b : Bool). numbersIf b v ns) q),

@@ -10,7 +10,7 @@ use Rattle.rules.specs.declared.Packed.{Packed}
 use Rattle.rules.specs.declared.Packed.the-variants as P
 use Rattle.rules.specs.Buffer.{over, zeroed}
 use Rattle.codes.specs.Header.{headerOf}
-use Rattle.codes.specs.Room.{bytesFor}
+use Rattle.codes.specs.Buffer.{bytesFor}
 use Rattle.packing.specs.declared.Course.{Course}
 use Rattle.packing.specs.declared.Ran.{Ran}
 use Rattle.packing.specs.declared.Ran.the-variants.{Refused, Ended}
@@ -20,8 +20,8 @@ abbrev pub countsAt : ℕ → ℕ → Course → Counts
 countsAt v k t = record { vertices = v; triangles = k; places = t .front .peaks .places; loops = t .front .peaks .loops }
 
 -- 11: whether the pack, whose bits end at a position, fits a buffer of so many bytes
-abbrev pub fitsRoom : ℕ → ℕ → Bool
-fitsRoom at size = leb (bytesFor at) size
+abbrev pub fitsBuffer : ℕ → ℕ → Bool
+fitsBuffer at size = leb (bytesFor at) size
 
 abbrev pub answerIf : Bool → ℕ → Packed
 answerIf true n = P.Length n
@@ -29,7 +29,7 @@ answerIf false n = P.Refused 11
 
 abbrev pub finishAnswer : Ran → ℕ → Packed
 finishAnswer (Refused k) size = P.Refused k
-finishAnswer (Ended t at) size = answerIf (fitsRoom at size) (bytesFor at)
+finishAnswer (Ended t at) size = answerIf (fitsBuffer at size) (bytesFor at)
 
 abbrev pub numbersIf : Bool → ℕ → List ℕ → List ℕ
 numbersIf true v ns = ns
@@ -37,7 +37,7 @@ numbersIf false v ns = zeroed v ns
 
 abbrev pub finishNumbers : Ran → ℕ → ℕ → List ℕ → List ℕ
 finishNumbers (Refused k) v size ns = zeroed v ns
-finishNumbers (Ended t at) v size ns = numbersIf (fitsRoom at size) v ns
+finishNumbers (Ended t at) v size ns = numbersIf (fitsBuffer at size) v ns
 
 abbrev pub packIf : Bool → Counts → ℕ → List ℕ → List ℕ
 packIf true c n bs = over (headerOf c n) bs
@@ -45,7 +45,7 @@ packIf false c n bs = zeroed (length bs) bs
 
 abbrev pub finishPack : Ran → ℕ → ℕ → List ℕ → List ℕ
 finishPack (Refused j) v k bs = zeroed (length bs) bs
-finishPack (Ended t at) v k bs = packIf (fitsRoom at (length bs)) (countsAt v k t) (bytesFor at - 14) bs
+finishPack (Ended t at) v k bs = packIf (fitsBuffer at (length bs)) (countsAt v k t) (bytesFor at - 14) bs
 
 -- the bit position is one of a pack
 abbrev pub Sized : Ran → Type 0

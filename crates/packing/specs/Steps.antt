@@ -82,22 +82,22 @@ pub record Renames (m : List ℕ) (e : ℕ) : Type 0 where
 -- ---- a run
 
 -- it has ended in the state t′, with the bits written as far as at′
-pub record EndsAt (v : ℕ) (xs : List ℕ) (C : Chosen) (budget : ℕ) (room : List ℕ) (t′ : Course) (at′ : ℕ) (fs′ ns′ rest room′ m′ : List ℕ) : Type 0 where
+pub record EndsAt (v : ℕ) (xs : List ℕ) (C : Chosen) (budget : ℕ) (buffer : List ℕ) (t′ : Course) (at′ : ℕ) (fs′ ns′ rest buffer′ m′ : List ℕ) : Type 0 where
   pub operations : List Operation
   pub last : Packing
   pub ran : C ≡ chosen operations last
   pub holds : Holds v xs last t′ fs′ ns′ rest m′
-  pub writes : Writes operations room room′ at′
+  pub writes : Writes operations buffer buffer′ at′
   pub near : at′ ≤ headerBits + 20 * budget
 
 abbrev pub Ends : ℕ → List ℕ → Chosen → ℕ → List ℕ → Ran → List ℕ → List ℕ → List ℕ → List ℕ → List ℕ → Type 0
-Ends v xs C budget room (R.Refused k) fs′ ns′ rest room′ m′ = (C ≡ stopped k) × Beyond v ns′ rest
-Ends v xs C budget room (R.Ended t′ at′) fs′ ns′ rest room′ m′ = EndsAt v xs C budget room t′ at′ fs′ ns′ rest room′ m′
+Ends v xs C budget buffer (R.Refused k) fs′ ns′ rest buffer′ m′ = (C ≡ stopped k) × Beyond v ns′ rest
+Ends v xs C budget buffer (R.Ended t′ at′) fs′ ns′ rest buffer′ m′ = EndsAt v xs C budget buffer t′ at′ fs′ ns′ rest buffer′ m′
 
 -- of each packing that was held
 abbrev pub RunOf : List ℕ → ℕ → Course → List ℕ → List ℕ → List ℕ → List ℕ → Ran → List ℕ → List ℕ → List ℕ → List ℕ → Type 0
-RunOf xs budget t fs ns room m r fs′ ns′ room′ m′ = (v : ℕ) (s : Packing) (rest : List ℕ) → Holds v xs s t fs ns rest m
-    → Ends v xs (chooseAll budget s) budget room r fs′ ns′ rest room′ m′
+RunOf xs budget t fs ns buffer m r fs′ ns′ buffer′ m′ = (v : ℕ) (s : Packing) (rest : List ℕ) → Holds v xs s t fs ns rest m
+    → Ends v xs (chooseAll budget s) budget buffer r fs′ ns′ rest buffer′ m′
 
 -- operations taken before the others
 unfoldable pub prepended : List Operation → Chosen → Chosen
@@ -105,21 +105,21 @@ prepended [] c = c
 prepended (o ∷ os) c = cons o (prepended os c)
 
 -- the run C has come to the state t, with `left` steps to go
-pub record Comes (v : ℕ) (xs : List ℕ) (C : Chosen) (budget : ℕ) (room₀ : List ℕ) (left : ℕ) (t : Course) (at : ℕ) (fs ns rest room m : List ℕ) : Type 0 where
+pub record Comes (v : ℕ) (xs : List ℕ) (C : Chosen) (budget : ℕ) (buffer₀ : List ℕ) (left : ℕ) (t : Course) (at : ℕ) (fs ns rest buffer m : List ℕ) : Type 0 where
   pub operations : List Operation
   pub packing : Packing
   pub ran : C ≡ prepended operations (chooseAll left packing)
   pub holds : Holds v xs packing t fs ns rest m
-  pub writes : Writes operations room₀ room at
+  pub writes : Writes operations buffer₀ buffer at
   pub count : length operations + left ≡ budget
 
 -- the invariant of the loop
-pub record Loop (xs cs : List ℕ) (budget : ℕ) (t₀ : Course) (fs₀ ns₀ room₀ m₀ : List ℕ) (left : ℕ) (t : Course) (at : ℕ) (fs ns room m : List ℕ) : Type 0 where
+pub record Loop (xs cs : List ℕ) (budget : ℕ) (t₀ : Course) (fs₀ ns₀ buffer₀ m₀ : List ℕ) (left : ℕ) (t : Course) (at : ℕ) (fs ns buffer m : List ℕ) : Type 0 where
   pub come : (v : ℕ) (s : Packing) (rest : List ℕ) → Holds v xs s t₀ fs₀ ns₀ rest m₀
-      → Comes v xs (chooseAll budget s) budget room₀ left t at fs ns rest room m
+      → Comes v xs (chooseAll budget s) budget buffer₀ left t at fs ns rest buffer m
   pub held : Held xs cs t fs ns m
   pub few : left ≤ budget
   pub near : at + 20 * left ≤ headerBits + 20 * budget
   pub numbers-long : length ns ≡ length ns₀
-  pub room-long : length room ≡ length room₀
+  pub buffer-long : length buffer ≡ length buffer₀
   pub memory-long : length m ≡ length m₀

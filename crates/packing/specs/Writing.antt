@@ -8,18 +8,18 @@ use Rattle.rules.specs.declared.Operation.{Operation}
 use Rattle.rules.specs.Bits.{bitsOfBytes, bytesOf}
 use Rattle.rules.specs.Code.{operationsBits}
 use Rattle.rules.specs.Buffer.{over}
-use Rattle.codes.specs.Room.{bytesFor}
+use Rattle.codes.specs.Buffer.{bytesFor}
 
 -- how many bits stand before the operations
 abbrev pub headerBits : ℕ
 headerBits = 112
 
 abbrev pub Written : List Operation → List ℕ → List ℕ → Type 0
-Written [] room₀ room = room ≡ room₀
-Written (o ∷ os) room₀ room = room ≡ over (bytesOf (take headerBits (bitsOfBytes room₀) ++ operationsBits (o ∷ os))) room₀
+Written [] buffer₀ buffer = buffer ≡ buffer₀
+Written (o ∷ os) buffer₀ buffer = buffer ≡ over (bytesOf (take headerBits (bitsOfBytes buffer₀) ++ operationsBits (o ∷ os))) buffer₀
 
 -- the operations os are written, as far as the bit position at; if they do not fit, the buffer holds anything
-pub record Writes (os : List Operation) (room₀ room : List ℕ) (at : ℕ) : Type 0 where
+pub record Writes (os : List Operation) (buffer₀ buffer : List ℕ) (at : ℕ) : Type 0 where
   pub position : at ≡ headerBits + length (operationsBits os)
-  pub lengths : length room ≡ length room₀
-  pub bytes : bytesFor at ≤ length room₀ → Written os room₀ room
+  pub lengths : length buffer ≡ length buffer₀
+  pub bytes : bytesFor at ≤ length buffer₀ → Written os buffer₀ buffer

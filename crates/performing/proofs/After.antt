@@ -69,24 +69,24 @@ follows-by : (M : Machine) (o : Operation) (e : Effect) → effect o (M .used) (
     → Follows M (done M e)
 unfolding done
 follows-by M o not-allowed e c h = tt
-follows-by M o (builds ls t pq qr rp n s k) e c h =
+follows-by M o (builds x) e c h =
     test-law (Follows M) _ _ _ tt
     (λ w. test-law (Follows M) _ _ _ tt
     (λ rule.
-    let b = below-built o (M .used) (M .loops) ls t pq qr rp n s k c h e in
+    let b = below-built o (M .used) (M .loops) (x .loops) (x .triangle) (x .sides .pq) (x .sides .qr) (x .sides .rp) (x .added .vertices) (x .added .starts) (x .added .unions) c h e in
     record {
       next = record { stated = refl; counts = w; more = omega arith; below = b .0; places = refl; loops = refl };
       triangles = refl;
       corners = b .1;
     }))
-follows-by M o (marks ls d rim) e c h =
+follows-by M o (marks x) e c h =
     test-law (Follows M) _ _ _ tt
     (λ w. record {
       next = record {
         stated = refl;
         counts = w;
         more = omega arith;
-        below = below-marked o (M .used) (M .loops) ls d rim h e;
+        below = below-marked o (M .used) (M .loops) (x .loops) (x .edge) (x .rims) h e;
         places = refl;
         loops = refl;
       };

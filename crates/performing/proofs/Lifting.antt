@@ -12,7 +12,7 @@ use Rattle.rules.specs.declared.Place.{Place}
 use Rattle.rules.specs.declared.Builder.{Builder}
 use Rattle.rules.specs.declared.Performed.{Performed}
 use Rattle.rules.specs.Limits.{maxPlaces}
-use Rattle.rules.specs.Machine.{Machine, Step, refused, begun, built, declared, finished, operation, finish}
+use Rattle.rules.specs.Machine.{Machine, Step, refused, begun, built, declared, finished, operation, finishing}
 use Rattle.rules.specs.Book.{answerOf, isAccepted}
 use Rattle.rules.specs.Buffer.{Buffers}
 use Rattle.rules.specs.View.{view}
@@ -114,4 +114,4 @@ operates-lent b o xs ps r xs′ m′ ps′ p e =
 
 -- a finish
 pub finishes-same : (b : Builder) (xs : List ℕ) (ps : List Place) → finishes b (lentTo xs ps) ≡ finishes b (lent xs (counted ps) (memoryOf ps))
-finishes-same b xs ps = same-step b xs ps finish
+finishes-same b xs ps = same-step b xs ps finishing

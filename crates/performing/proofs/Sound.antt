@@ -13,7 +13,7 @@ use Rattle.rules.specs.declared.Builder.{Builder}
 use Rattle.rules.specs.Limits.{maxPlaces, inRange}
 use Rattle.rules.specs.Check.{allBelow}
 use Rattle.rules.specs.Ring.{opened, marked, vertex, places}
-use Rattle.rules.specs.Machine.{roomy}
+use Rattle.rules.specs.Machine.{longEnough}
 use Rattle.rules.specs.Buffer.{Buffers, lengths}
 use Rattle.rules.specs.View.{placeAt, follow, nodes, loopPlaces, placesOf, loopsOf, trianglesBuilt, view}
 use Rattle.rules.specs.Test21.{sizesOf, countsFit, sumsFit, apart, placeFits, placesFit, loopsFit, linksFit, trianglesFit, sound}
@@ -25,7 +25,7 @@ use Rattle.reading.proofs.Current.{fit-parts, current-loops}
 
 -- the five parts of 21
 pub record Parts (b : Builder) (r : Buffers) : Type 0 where
-  pub room : roomy (lengths r) (b .stated) ≡ true
+  pub room : longEnough (lengths r) (b .stated) ≡ true
   pub counts : countsFit b ≡ true
   pub sums : sumsFit b ≡ true
   pub links : linksFit b (r .places) ≡ true
@@ -34,7 +34,7 @@ pub record Parts (b : Builder) (r : Buffers) : Type 0 where
 pub parts : (b : Builder) (r : Buffers) → sound b r ≡ true → Parts b r
 unfolding sound
 parts b r h =
-    let x₁ = roomy (lengths r) (b .stated) in
+    let x₁ = longEnough (lengths r) (b .stated) in
     let x₂ = x₁ && countsFit b in
     let x₃ = x₂ && sumsFit b in
     let x₄ = x₃ && linksFit b (r .places) in

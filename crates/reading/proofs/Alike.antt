@@ -12,7 +12,7 @@ use Rattle.rules.specs.declared.Builder.{Builder}
 use Rattle.rules.specs.Limits.{maxPlaces}
 use Rattle.rules.specs.Ring.{Node, Ring}
 use Rattle.rules.specs.Check.{allBelow}
-use Rattle.rules.specs.Machine.{roomy}
+use Rattle.rules.specs.Machine.{longEnough}
 use Rattle.rules.specs.Buffer.{Buffers, lengths}
 use Rattle.rules.specs.View.{placeAt, follow, followed, nodeOf, nodes, loopPlaces, placesOf, loopsOf, view}
 use Rattle.rules.specs.Test21.{countsFit, sumsFit, apart, placeFits, placesFit, loopFits, loopsFit, linksFit, trianglesFit, sound}
@@ -231,5 +231,5 @@ sound-alike ps qs a l b xs =
 pub sound-links : (b : Builder) (r : Buffers) → sound b r ≡ true → linksFit b (r .places) ≡ true
 unfolding sound
 sound-links b r h =
-    let front = roomy (lengths r) (b .stated) && countsFit b && sumsFit b in
+    let front = longEnough (lengths r) (b .stated) && countsFit b && sumsFit b in
     and-right front (linksFit b (r .places)) (and-left (front && linksFit b (r .places)) (trianglesFit b (r .triangles)) h)

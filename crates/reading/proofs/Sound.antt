@@ -11,7 +11,7 @@ use borrow.Author.Tests.{le-leb}
 use Rattle.rules.specs.declared.Builder.{Builder}
 use Rattle.rules.specs.Limits.{maxPlaces, inRange}
 use Rattle.rules.specs.Ring.{places}
-use Rattle.rules.specs.Machine.{Machine, within, roomy}
+use Rattle.rules.specs.Machine.{Machine, within, longEnough}
 use Rattle.rules.specs.Buffer.{lengths}
 use Rattle.rules.specs.View.{trianglesBuilt, view}
 use Rattle.rules.specs.Test21.{sizesOf, countsFit, sumsFit, trianglesFit, sound}
@@ -76,9 +76,9 @@ pub closes-sound : (f : Front) (m xs : List ℕ) (M : Machine) (b : Builder) →
     → sumsFit b ≡ true → sound b (lent xs maxPlaces m) ≡ true
 unfolding sound
 closes-sound f m xs M b c r w p l long t s =
-    both _ _ (both _ _ (both _ _ (both _ _ room (closes-counts f m xs M b c r w p l)) s) (c .links)) t
+    both _ _ (both _ _ (both _ _ (both _ _ enough (closes-counts f m xs M b c r w p l)) s) (c .links)) t
   where
-    room : roomy (lengths (lent xs maxPlaces m)) (b .stated) ≡ true
-    room =
+    enough : longEnough (lengths (lent xs maxPlaces m)) (b .stated) ≡ true
+    enough =
         both _ _ (le-leb (3 * b .stated .triangles) (length xs) long)
         (le-leb maxPlaces (length (records maxPlaces m)) (omega (arith, length-records maxPlaces m)))

@@ -128,8 +128,8 @@ pub data SameWant (w w′ : Want) : Type 0 where
 
 wanting-same : (o : Operation) (ts us : List Triangle) (vs : List ℕ) (ef : Effect) → Same ts us → SameWant (wanting o ts vs ef) (wanting o us vs ef)
 wanting-same o ts us vs not-allowed s = both-idle refl refl
-wanting-same o ts us vs (builds ls t pq qr rp n k u) s = both-want o ts us vs ls refl refl s
-wanting-same o ts us vs (marks ls d rim) s = both-want o ts us vs ls refl refl s
+wanting-same o ts us vs (builds x) s = both-want o ts us vs (x .loops) refl refl s
+wanting-same o ts us vs (marks x) s = both-want o ts us vs (x .loops) refl refl s
 
 triangle-same : (L L′ : List Triangle) (N : List ℕ) (ls : List Ring) (a b c : ℕ) (ps : List Node) (ws : List Ring) (t : Bool) → Same L L′
     → SameWant (wantTriangle L N ls a b c ps ws t) (wantTriangle L′ N ls a b c ps ws t)

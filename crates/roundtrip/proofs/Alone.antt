@@ -19,7 +19,7 @@ use Rattle.rules.specs.Bits.{bytesOf}
 use Rattle.rules.specs.Code.{operationsBits}
 use Rattle.rules.specs.Fields.{fields, fieldsOf}
 use Rattle.rules.specs.Choice.{Packing}
-use Rattle.rules.specs.Pack.{Chosen, stopped, chosen, most, chosenFor, packOf, newNumbers, PackBuffers, PackResult, packDone, packRefused, packStored, packChosen, packRooms, packChecked, pack}
+use Rattle.rules.specs.Pack.{Chosen, stopped, chosen, most, chosenFor, packOf, newNumbers, PackBuffers, PackResult, packDone, packRefused, packStored, packChosen, packLongEnough, packChecked, pack}
 use Rattle.rules.specs.Pack as P
 use Rattle.roundtrip.specs.Run.{runLoops, peakOf}
 use Rattle.roundtrip.specs.Claims.{SameInAllBuffers, SameAnswerInAllBuffers, StatedPeaksAreTrue}
@@ -64,12 +64,12 @@ unfolding packChosen
 chosen-answer v ts r r′ (stopped n) e = refl
 chosen-answer v ts r r′ (chosen os s) e = stored-answer v (newNumbers v (s .numbered)) (packOf v ts os s) r r′ e
 
-checked-answer : (v : ℕ) (ts : List Triangle) (r r′ : PackBuffers) (c : Checked) → packRooms v r ≡ packRooms v r′ → length (r .pack) ≡ length (r′ .pack)
+checked-answer : (v : ℕ) (ts : List Triangle) (r r′ : PackBuffers) (c : Checked) → packLongEnough v r ≡ packLongEnough v r′ → length (r .pack) ≡ length (r′ .pack)
     → packChecked most v ts r c .answer ≡ packChecked most v ts r′ c .answer
 unfolding packChecked
 checked-answer v ts r r′ (Refused n) k e = refl
 checked-answer v ts r r′ Accepted k e =
-    same (packRooms v r) ∙ ap (λ (w : Bool). answer (elim w [ true ↦ packChosen v ts r′ (chosenFor most ts) | false ↦ P.turnedDown 8 r′ ])) k
+    same (packLongEnough v r) ∙ ap (λ (w : Bool). answer (elim w [ true ↦ packChosen v ts r′ (chosenFor most ts) | false ↦ P.turnedDown 8 r′ ])) k
   where
     same : (t : Bool) → answer (elim t [ true ↦ packChosen v ts r (chosenFor most ts) | false ↦ P.turnedDown 8 r ]) ≡ answer (elim t [ true ↦ packChosen v ts r′ (chosenFor most ts) | false ↦ P.turnedDown 8 r′ ])
     same true = chosen-answer v ts r r′ (chosenFor most ts) e

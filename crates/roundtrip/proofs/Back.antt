@@ -22,7 +22,7 @@ use Rattle.rules.specs.Answer.{unpacked}
 use Rattle.rules.specs.Bits.{bitsOfBytes, bytesOf, allZero}
 use Rattle.rules.specs.Code.{operationBits, operationsBits}
 use Rattle.rules.specs.Fields.{packBytes}
-use Rattle.rules.specs.Pack.{Chosen, stopped, chosen, most, chosenFor, packOf, indexOf, newNumbers, PackBuffers, PackResult, packDone, packChosen, packRooms, pack}
+use Rattle.rules.specs.Pack.{Chosen, stopped, chosen, most, chosenFor, packOf, indexOf, newNumbers, PackBuffers, PackResult, packDone, packChosen, packLongEnough, pack}
 use Rattle.rules.specs.Buffer.{Buffers}
 use Rattle.rules.specs.Unpack.{numbersOf, UnpackResult, unpack}
 use Rattle.fans.proofs.Accepted.{accepted-mesh}
@@ -157,13 +157,13 @@ module _ (bytes : List ℕ) (hb : Bytes bytes) (r : Buffers) (m : Model) (u : Un
   pub pack-is : packOf (m .vertices) (trianglesOf (listIn m (unpack bytes r))) (held bytes r m u .operations) (back bytes r m u .last) ≡ bytes
   pack-is = ap₂ packBytes counts-are (sym ops-are) ∙ sym (found .from)
 
-  module _ (r′ : PackBuffers) (rooms : packRooms (m .vertices) r′ ≡ true) (long : length bytes ≤ length (r′ .pack)) where
+  module _ (r′ : PackBuffers) (enough : packLongEnough (m .vertices) r′ ≡ true) (long : length bytes ≤ length (r′ .pack)) where
     packs : pack (m .vertices) (listIn m (unpack bytes r)) r′ ≡ packDone (newNumbers (m .vertices) (back bytes r m u .last .numbered)) bytes r′
     unfolding packChosen
     packs =
         let l = listIn m (unpack bytes r) in
         let bs = packOf (m .vertices) (trianglesOf l) (held bytes r m u .operations) (back bytes r m u .last) in
-        within-checked most (m .vertices) l r′ (checks bytes r m u) rooms
+        within-checked most (m .vertices) l r′ (checks bytes r m u) enough
         ∙ (ap (packChosen (m .vertices) (trianglesOf l) r′) (chose bytes r m u)
         ∙ (stored-done (m .vertices) (newNumbers (m .vertices) (back bytes r m u .last .numbered)) bs r′ (le-leb (length bs) (length (r′ .pack)) (omega (arith, ap length pack-is)))
         ∙ ap (λ (x : List ℕ). packDone (newNumbers (m .vertices) (back bytes r m u .last .numbered)) x r′) pack-is))

@@ -29,7 +29,7 @@ use Rattle.gap.proofs.RoundTrip as T
 use Rattle.gap.proofs.Rechecking.{length-numbers}
 use Rattle.gap.proofs.Repacking.{in-onto, run-onto, numbersIn, triangles-in, numbers-onto, built-order, works-facts, works-order}
 use Rattle.roundtrip.specs.Run.{enough, buildOrder}
-use Rattle.roundtrip.specs.Claims.{renumbered, Rearranged, OneToOne, newNumber, RoomFor, EachOnce, EachTriangleOnce}
+use Rattle.roundtrip.specs.Claims.{renumbered, Rearranged, OneToOne, newNumber, LongEnoughFor, EachOnce, EachTriangleOnce}
 use Rattle.roundtrip.proofs.Numbers.{getD-front, length-new, new-at, index-below, has-at, index-at}
 use Rattle.roundtrip.proofs.Renumber.{named-is-renumbered, renumbered-agree}
 use Rattle.roundtrip.proofs.Results.{PackedBy, packed-by}
@@ -141,12 +141,12 @@ module _ (v : ℕ) (xs : List ℕ) (r : PackBuffers) (n : ℕ) (p : PackedBy mos
       ∙ renumbered-agree (T.newNumber s) (newNumber (pack v xs r)) (c .runs .order)
       (λ x y z i. sym (number-is x (good .below x y z (only x y z (run-facts .subR x y z i)))))
 
-  module _ (r′ : Buffers) (room : RoomFor (length (trianglesOf xs)) r′) where
+  module _ (r′ : Buffers) (enough : LongEnoughFor (length (trianglesOf xs)) r′) where
     done : unpack (take n (pack v xs r .buffers .pack)) r′
         ≡ unpackDone (T.statedBy v (trianglesOf xs) (p .last)) (totals (reached v xs (p .operations) (p .last) (p .accepted) (p .chose) .end))
         (reached v xs (p .operations) (p .last) (p .accepted) (p .chose) .end .triangles) r′
     done =
-        ap (λ (bs : List ℕ). unpack bs r′) (front-bytes v xs r n p) ∙ unpacks-done v xs os s (p .accepted) (p .chose) r′ (room .0) (room .1)
+        ap (λ (bs : List ℕ). unpack bs r′) (front-bytes v xs r n p) ∙ unpacks-done v xs os s (p .accepted) (p .chose) r′ (enough .0) (enough .1)
 
     list-is : take (3 * length (trianglesOf xs)) (unpack (take n (pack v xs r .buffers .pack)) r′ .buffers .triangles)
         ≡ numbersOf (reached v xs (p .operations) (p .last) (p .accepted) (p .chose) .end .triangles)
@@ -171,4 +171,4 @@ module _ (v : ℕ) (xs : List ℕ) (r : PackBuffers) (n : ℕ) (p : PackedBy mos
     }
 
 pub each-triangle-once : EachTriangleOnce
-each-triangle-once v xs r n e r′ room = each-once v xs r n (packed-by most v xs r n e) r′ room
+each-triangle-once v xs r n e r′ enough = each-once v xs r n (packed-by most v xs r n e) r′ enough

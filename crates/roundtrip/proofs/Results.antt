@@ -17,11 +17,11 @@ use Rattle.rules.specs.Limits.{inRange}
 use Rattle.rules.specs.Triangle.{trianglesOf}
 use Rattle.rules.specs.Fan.{oneFanEach}
 use Rattle.rules.specs.Check.{check}
-use Rattle.rules.specs.Machine.{Machine, asStated, roomy, totals}
+use Rattle.rules.specs.Machine.{Machine, asStated, longEnough, totals}
 use Rattle.rules.specs.Answer.{Answer, refusal, accepted, triangle, no-triangle, numbers, packed, unpacked}
 use Rattle.rules.specs.Fields.{Fields, no-pack, fields, fieldsOf}
 use Rattle.rules.specs.Choice.{Packing}
-use Rattle.rules.specs.Pack.{Chosen, stopped, chosen, Most, chosenFor, packOf, newNumbers, PackBuffers, PackResult, packRefused, packDone, packStored, packChosen, packRooms, packChecked, packWithin}
+use Rattle.rules.specs.Pack.{Chosen, stopped, chosen, Most, chosenFor, packOf, newNumbers, PackBuffers, PackResult, packRefused, packDone, packStored, packChosen, packLongEnough, packChecked, packWithin}
 use Rattle.rules.specs.Pack as P
 use Rattle.rules.specs.Buffer.{Buffers, lengths}
 use Rattle.rules.specs.Unpack as U
@@ -31,7 +31,7 @@ use Rattle.gap.proofs.Bools.{and-true}
 -- a packing that was not refused
 pub record PackedBy (h : Most) (v : ℕ) (xs : List ℕ) (r : PackBuffers) (n : ℕ) : Type 0 where
   pub accepted : check v xs ≡ Accepted
-  pub rooms : packRooms v r ≡ true
+  pub enough : packLongEnough v r ≡ true
   pub operations : List Operation
   pub last : Packing
   pub chose : chosenFor h (trianglesOf xs) ≡ chosen operations last
@@ -86,7 +86,7 @@ pub stored-refused : (v : ℕ) (ns bytes : List ℕ) (r : PackBuffers) → leb (
 stored-refused v ns bytes r h = ap (λ (t : Bool). elim t [ true ↦ packDone ns bytes r | false ↦ packRefused 11 v r ]) h
 
 -- a list that passes 1 to 8
-pub within-checked : (h : Most) (v : ℕ) (xs : List ℕ) (r : PackBuffers) → check v xs ≡ Accepted → packRooms v r ≡ true
+pub within-checked : (h : Most) (v : ℕ) (xs : List ℕ) (r : PackBuffers) → check v xs ≡ Accepted → packLongEnough v r ≡ true
     → packWithin h v xs r ≡ packChosen v (trianglesOf xs) r (chosenFor h (trianglesOf xs))
 unfolding packChecked
 within-checked h v xs r a k =
@@ -97,13 +97,13 @@ pub packed-by : (h : Most) (v : ℕ) (xs : List ℕ) (r : PackBuffers) (n : ℕ)
 unfolding packChecked packChosen
 packed-by h v xs r n e = at-check (check v xs) refl e
   where
-    at-store : (os : List Operation) (s : Packing) (t : Bool) → check v xs ≡ Accepted → packRooms v r ≡ true → chosenFor h (trianglesOf xs) ≡ chosen os s
+    at-store : (os : List Operation) (s : Packing) (t : Bool) → check v xs ≡ Accepted → packLongEnough v r ≡ true → chosenFor h (trianglesOf xs) ≡ chosen os s
         → leb (length (packOf v (trianglesOf xs) os s)) (length (r .pack)) ≡ t
         → _≡_ {A = Answer} (packAnswer (elim t [ true ↦ packDone (newNumbers v (s .numbered)) (packOf v (trianglesOf xs) os s) r | false ↦ packRefused 11 v r ])) (packed n)
         → PackedBy h v xs r n
     at-store os s true a k c l q = record {
       accepted = a;
-      rooms = k;
+      enough = k;
       operations = os;
       last = s;
       chose = c;
@@ -115,19 +115,19 @@ packed-by h v xs r n e = at-check (check v xs) refl e
     }
     at-store os s false a k c l q = absurd (not-packed n 11 q)
 
-    at-chosen : (x : Chosen) → check v xs ≡ Accepted → packRooms v r ≡ true → chosenFor h (trianglesOf xs) ≡ x
+    at-chosen : (x : Chosen) → check v xs ≡ Accepted → packLongEnough v r ≡ true → chosenFor h (trianglesOf xs) ≡ x
         → packChosen v (trianglesOf xs) r x .answer ≡ packed n → PackedBy h v xs r n
     at-chosen (stopped k) a b c q = absurd (not-packed n k q)
     at-chosen (chosen os s) a b c q = at-store os s (leb (length (packOf v (trianglesOf xs) os s)) (length (r .pack))) a b c refl q
 
-    at-rooms : (t : Bool) → check v xs ≡ Accepted → packRooms v r ≡ t
+    at-enough : (t : Bool) → check v xs ≡ Accepted → packLongEnough v r ≡ t
         → _≡_ {A = Answer} (packAnswer (elim t [ true ↦ packChosen v (trianglesOf xs) r (chosenFor h (trianglesOf xs)) | false ↦ P.turnedDown 8 r ])) (packed n)
         → PackedBy h v xs r n
-    at-rooms true a k q = at-chosen (chosenFor h (trianglesOf xs)) a k refl q
-    at-rooms false a k q = absurd (not-packed n 8 q)
+    at-enough true a k q = at-chosen (chosenFor h (trianglesOf xs)) a k refl q
+    at-enough false a k q = absurd (not-packed n 8 q)
 
     at-check : (c : Checked) → check v xs ≡ c → packChecked h v (trianglesOf xs) r c .answer ≡ packed n → PackedBy h v xs r n
-    at-check Accepted a q = at-rooms (packRooms v r) a refl q
+    at-check Accepted a q = at-enough (packLongEnough v r) a refl q
     at-check (Refused k) a q = absurd (not-packed n k q)
 
 -- an unpacking that was not refused
@@ -136,7 +136,7 @@ pub record UnpackedBy (bytes : List ℕ) (r : Buffers) (m : Model) : Type 0 wher
   pub ops : List ℕ
   pub found : fieldsOf bytes ≡ fields counts ops
   pub range : inRange counts ≡ true
-  pub rooms : roomy (lengths r) counts ≡ true
+  pub enough : longEnough (lengths r) counts ≡ true
   pub end : Machine
   pub left : List ℕ
   pub ran : runOf counts ops ≡ completed end left
@@ -156,13 +156,13 @@ ended-done s r e b h k =
     ∙ ap (λ (t : Bool). elim t [ true ↦ unpackDone s (totals e) (e .triangles) r | false ↦ unpackRefused 20 s r ]) k
 
 -- bytes that pass 12 to 14
-pub fields-run : (bytes : List ℕ) (r : Buffers) (s : Counts) (ops : List ℕ) → fieldsOf bytes ≡ fields s ops → inRange s ≡ true → roomy (lengths r) s ≡ true
+pub fields-run : (bytes : List ℕ) (r : Buffers) (s : Counts) (ops : List ℕ) → fieldsOf bytes ≡ fields s ops → inRange s ≡ true → longEnough (lengths r) s ≡ true
     → unpack bytes r ≡ unpackRun s r (runOf s ops)
 unfolding unpackFields
 fields-run bytes r s ops f i k =
     ap (unpackFields r) f
     ∙ (ap (λ (t : Bool). elim t [
-      | true ↦ elim (roomy (lengths r) s) [ true ↦ unpackRun s r (runOf s ops) | false ↦ U.turnedDown 14 r ]
+      | true ↦ elim (longEnough (lengths r) s) [ true ↦ unpackRun s r (runOf s ops) | false ↦ U.turnedDown 14 r ]
       | false ↦ U.turnedDown 13 r
     ]) i
     ∙ ap (λ (t : Bool). elim t [ true ↦ unpackRun s r (runOf s ops) | false ↦ U.turnedDown 14 r ]) k)
@@ -171,7 +171,7 @@ pub unpacked-by : (bytes : List ℕ) (r : Buffers) (m : Model) → unpack bytes 
 unfolding unpackFields unpackRun
 unpacked-by bytes r m e = at-fields (fieldsOf bytes) refl e
   where
-    at-end : (s : Counts) (ops : List ℕ) (k : Machine) (ys : List ℕ) (t u : Bool) → fieldsOf bytes ≡ fields s ops → inRange s ≡ true → roomy (lengths r) s ≡ true
+    at-end : (s : Counts) (ops : List ℕ) (k : Machine) (ys : List ℕ) (t u : Bool) → fieldsOf bytes ≡ fields s ops → inRange s ≡ true → longEnough (lengths r) s ≡ true
         → runOf s ops ≡ completed k ys → restFits ys && asStated k ≡ t → oneFanEach (k .used) (k .triangles) ≡ u
         → _≡_ {A = Answer}
         (unpackAnswer (elim t [
@@ -187,7 +187,7 @@ unpacked-by bytes r m e = at-fields (fieldsOf bytes) refl e
           ops = ops;
           found = f;
           range = i;
-          rooms = w;
+          enough = w;
           end = k;
           left = ys;
           ran = d;
@@ -200,12 +200,12 @@ unpacked-by bytes r m e = at-fields (fieldsOf bytes) refl e
     at-end s ops k ys true false f i w d a b q = absurd (not-unpacked m 20 q)
     at-end s ops k ys false u f i w d a b q = absurd (not-unpacked m 19 q)
 
-    at-run : (s : Counts) (ops : List ℕ) (x : Ran) → fieldsOf bytes ≡ fields s ops → inRange s ≡ true → roomy (lengths r) s ≡ true → runOf s ops ≡ x
+    at-run : (s : Counts) (ops : List ℕ) (x : Ran) → fieldsOf bytes ≡ fields s ops → inRange s ≡ true → longEnough (lengths r) s ≡ true → runOf s ops ≡ x
         → unpackRun s r x .answer ≡ unpacked m → UnpackedBy bytes r m
     at-run s ops (U.stopped n) f i w d q = absurd (not-unpacked m n q)
     at-run s ops (completed k ys) f i w d q = at-end s ops k ys (restFits ys && asStated k) (oneFanEach (k .used) (k .triangles)) f i w d refl refl q
 
-    at-counts : (s : Counts) (ops : List ℕ) (t u : Bool) → fieldsOf bytes ≡ fields s ops → inRange s ≡ t → roomy (lengths r) s ≡ u
+    at-counts : (s : Counts) (ops : List ℕ) (t u : Bool) → fieldsOf bytes ≡ fields s ops → inRange s ≡ t → longEnough (lengths r) s ≡ u
         → _≡_ {A = Answer}
         (unpackAnswer (elim t [ true ↦ elim u [ true ↦ unpackRun s r (runOf s ops) | false ↦ U.turnedDown 14 r ] | false ↦ U.turnedDown 13 r ])) (unpacked m)
         → UnpackedBy bytes r m
@@ -215,4 +215,4 @@ unpacked-by bytes r m e = at-fields (fieldsOf bytes) refl e
 
     at-fields : (x : Fields) → fieldsOf bytes ≡ x → unpackFields r x .answer ≡ unpacked m → UnpackedBy bytes r m
     at-fields no-pack f q = absurd (not-unpacked m 12 q)
-    at-fields (fields s ops) f q = at-counts s ops (inRange s) (roomy (lengths r) s) f refl refl q
+    at-fields (fields s ops) f q = at-counts s ops (inRange s) (longEnough (lengths r) s) f refl refl q

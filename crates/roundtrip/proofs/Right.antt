@@ -22,6 +22,7 @@ use Rattle.fans.specs.Corner.{In, Once}
 use Rattle.fans.specs.Neighbours.{Neighbours}
 use Rattle.shown.specs.Shown.{shownAll, Live}
 use Rattle.shown.proofs.Shown.{reached-first}
+use Rattle.shown.specs.Effects.{buildingOf}
 use Rattle.gap.specs.Turn.{Unused}
 use Rattle.gap.specs.Spots.{seat}
 use Rattle.gap.specs.Trace.{triangleAt}
@@ -200,13 +201,13 @@ module _ (s : Packing) (B : List Triangle) (rims : List Ring) (fit : Fits s B ri
       ∙ ap (λ (o : Operation). limited o after) (sym named)
 
   allowed : (u : ℕ) → effect (operationFor (afterCurrent (s .loops)) (pl .ring) (seat (pl .spot))) u (s .loops)
-      ≡ builds (shownAll (al .ls)) (tri (vertex f) (vertex e) c) glued (sideOf (gluesA (al .o))) (sideOf (gluesB (al .o))) 0 0 (unionsOf (al .o))
+      ≡ builds (buildingOf (shownAll (al .ls)) (tri (vertex f) (vertex e) c) glued (sideOf (gluesA (al .o))) (sideOf (gluesB (al .o))) 0 0 (unionsOf (al .o)))
   unfolding effect
   allowed u =
       ap (λ (o : Operation). effect o u (s .loops)) named
       ∙ (ap (effect (al .o) u) looks
       ∙ (allows-any (al .o) u e f ps ws (al .ls) c (live .1) (al .does) (λ q. absurd (never-new q))
-      ∙ ap (λ (j : ℕ). builds (shownAll (al .ls)) (tri b a c) glued (sideOf (gluesA (al .o))) (sideOf (gluesB (al .o))) j 0 (unionsOf (al .o))) no-numbers))
+      ∙ ap (λ (j : ℕ). builds (buildingOf (shownAll (al .ls)) (tri b a c) glued (sideOf (gluesA (al .o))) (sideOf (gluesB (al .o))) j 0 (unionsOf (al .o)))) no-numbers))
 
   pub right-choice : RightChoice s (vertex e) (vertex f) c
   right-choice = record {

@@ -15,7 +15,7 @@ use Rattle.rules.specs.Code.{operationsBits}
 use Rattle.rules.specs.Fields.{packBytes}
 use Rattle.rules.specs.Choice.{Packing}
 use Rattle.rules.specs.Pack as P
-use Rattle.rules.specs.Pack.{Chosen, stopped, chosen, chooseAll, most, nothingBuilt, chosenFor, newNumbers, PackBuffers, PackResult, packStored, packChosen, packRefused, packRooms, packChecked}
+use Rattle.rules.specs.Pack.{Chosen, stopped, chosen, chooseAll, most, nothingBuilt, chosenFor, newNumbers, PackBuffers, PackResult, packStored, packChosen, packRefused, packLongEnough, packChecked}
 use Rattle.fans.specs.Corner.{at-p, In, here, there, Once}
 use Rattle.gap.proofs.Links.{free-rot}
 use Rattle.gap.proofs.Turning.{others, others-length, others-once}
@@ -75,5 +75,5 @@ same-starts-same-packing v xs ys r a b h e =
       from = λ x y z. h x y z .1;
     } in
     ap (packChecked most v ts r) a
-    ∙ (ap (λ (p : PackResult). elim (packRooms v r) [ true ↦ p | false ↦ P.turnedDown 8 r ]) (all-alike v ts us r s e)
+    ∙ (ap (λ (p : PackResult). elim (packLongEnough v r) [ true ↦ p | false ↦ P.turnedDown 8 r ]) (all-alike v ts us r s e)
     ∙ sym (ap (packChecked most v us r) b))

@@ -14,7 +14,7 @@ use Rattle.rules.specs.declared.Checked.the-variants.{Accepted}
 use Rattle.rules.specs.Triangle.{trianglesOf}
 use Rattle.rules.specs.Check.{check}
 use Rattle.rules.specs.Answer.{Answer, refusal, accepted, triangle, no-triangle, numbers, packed, unpacked}
-use Rattle.rules.specs.Pack.{Chosen, stopped, chosen, Most, nothingBuilt, packOf, newNumbers, PackBuffers, PackResult, packDone, packChosen, packRooms, packWithin}
+use Rattle.rules.specs.Pack.{Chosen, stopped, chosen, Most, nothingBuilt, packOf, newNumbers, PackBuffers, PackResult, packDone, packChosen, packLongEnough, packWithin}
 use Rattle.gap.proofs.Whole.{Complete}
 use Rattle.gap.proofs.RoundTrip.{accepted-complete}
 use Rattle.roundtrip.specs.Run.{unlimited, runLoops, NoFault, FirstFault}
@@ -40,7 +40,7 @@ number-for : (l k : ℕ) → numberOf (answerFor l k) ≡ k
 number-for l zero = refl
 number-for l (suc n) = refl
 
-module _ (h : Most) (v : ℕ) (xs : List ℕ) (r : PackBuffers) (a : check v xs ≡ Accepted) (room : packRooms v r ≡ true) where
+module _ (h : Most) (v : ℕ) (xs : List ℕ) (r : PackBuffers) (a : check v xs ≡ Accepted) (enough : packLongEnough v r ≡ true) where
   abbrev ts : List Triangle
   ts = trianglesOf xs
 
@@ -66,7 +66,7 @@ module _ (h : Most) (v : ℕ) (xs : List ℕ) (r : PackBuffers) (a : check v xs 
 
   chose : (c : Chosen) → limitedTo h (runLoops ts) (chosen (run-ends ts .operations) (run-ends ts .last)) ≡ c → packWithin h v xs r .answer ≡ packChosen v (trianglesOf xs) r c .answer
   chose c e =
-      ap (λ (p : PackResult). p .answer) (within-checked h v xs r a room)
+      ap (λ (p : PackResult). p .answer) (within-checked h v xs r a enough)
       ∙ ap (λ (x : Chosen). packChosen v (trianglesOf xs) r x .answer) (chosen-with ts h ∙ e)
 
   due : (k : ℕ) × Due k × (packWithin h v xs r .answer ≡ answerFor (length bytes) k)
@@ -105,7 +105,7 @@ module _ (h : Most) (v : ℕ) (xs : List ℕ) (r : PackBuffers) (a : check v xs 
           → packWithin h v xs r ≡ packDone (newNumbers v (run-ends ts .last .numbered)) bytes r
       go (at-fault n w y e) = absurd (fault-or-none h n (runLoops ts) y x)
       go (no-fault y e) =
-          within-checked h v xs r a room
+          within-checked h v xs r a enough
           ∙ (ap (packChosen v (trianglesOf xs) r) (chosen-with ts h ∙ e)
           ∙ stored-done v (newNumbers v (run-ends ts .last .numbered)) bytes r (le-leb (length bytes) (length (r .pack)) l))
 
@@ -161,4 +161,4 @@ module _ (h : Most) (v : ℕ) (xs : List ℕ) (r : PackBuffers) (a : check v xs 
   }
 
 pub packing-is-never-stuck : PackingIsNeverStuck
-packing-is-never-stuck h v xs r a room = (run-ends (trianglesOf xs) .operations, run-ends (trianglesOf xs) .last, stuck-never h v xs r a room)
+packing-is-never-stuck h v xs r a enough = (run-ends (trianglesOf xs) .operations, run-ends (trianglesOf xs) .last, stuck-never h v xs r a enough)

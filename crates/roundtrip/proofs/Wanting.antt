@@ -25,8 +25,8 @@ pub data Want : Type 0 where
 
 abbrev pub wanting : Operation → List Triangle → List ℕ → Effect → Want
 wanting o ts vs not-allowed = idle
-wanting o ts vs (builds ls t pq qr rp n k u) = wants o ts vs ls
-wanting o ts vs (marks ls d rim) = wants o ts vs ls
+wanting o ts vs (builds x) = wants o ts vs (x .loops)
+wanting o ts vs (marks x) = wants o ts vs (x .loops)
 
 abbrev pub wantTriangle : List Triangle → List ℕ → List Ring → ℕ → ℕ → ℕ → List Node → List Ring → Bool → Want
 wantTriangle L N ls a b c ps ws t =
@@ -61,8 +61,8 @@ doing s (wants o ts vs ls) = limited o (packingAfter s ts vs ls)
 taking-want : (o : Operation) (s : Packing) (ts : List Triangle) (vs : List ℕ) (ef : Effect) → taking o s ts vs ef ≡ doing s (wanting o ts vs ef)
 unfolding taking
 taking-want o s ts vs not-allowed = refl
-taking-want o s ts vs (builds ls t pq qr rp n k u) = refl
-taking-want o s ts vs (marks ls d rim) = refl
+taking-want o s ts vs (builds x) = refl
+taking-want o s ts vs (marks x) = refl
 
 at-want : (s : Packing) (a b : ℕ) (ps : List Node) (ws : List Ring)
     → chooseAt s a b ps ws ≡ doing s (wantAt (s .left) (s .numbered) (s .loops) a b ps ws (across b a (s .mesh)))
@@ -105,8 +105,8 @@ choose-want s = in-want s (s .loops) (s .left)
 -- how much an operation adds to p places and l loops
 abbrev Grows : ℕ → ℕ → Effect → Type 0
 Grows p l not-allowed = Unit {0}
-Grows p l (builds ls t pq qr rp n k u) = (places ls ≤ p + 1) × (length ls ≤ l + 1)
-Grows p l (marks ls d rim) = (places ls ≤ p + 1) × (length ls ≤ l + 1)
+Grows p l (builds x) = (places (x .loops) ≤ p + 1) × (length (x .loops) ≤ l + 1)
+Grows p l (marks x) = (places (x .loops) ≤ p + 1) × (length (x .loops) ≤ l + 1)
 
 grows-allowed : (p l : ℕ) (b : Bool) (ef : Effect) → Grows p l ef → Grows p l (allowed b ef)
 unfolding allowed
@@ -178,8 +178,8 @@ Grown p l (wants o ts vs ls) = (places ls ≤ p + 3) × (length ls ≤ l + 1)
 
 wanting-grown : (p l : ℕ) (o : Operation) (ts : List Triangle) (vs : List ℕ) (ef : Effect) → Grows p l ef → Grown p l (wanting o ts vs ef)
 wanting-grown p l o ts vs not-allowed h = tt
-wanting-grown p l o ts vs (builds ls t pq qr rp n k u) h = (omega (arith, h .0), h .1)
-wanting-grown p l o ts vs (marks ls d rim) h = (omega (arith, h .0), h .1)
+wanting-grown p l o ts vs (builds x) h = (omega (arith, h .0), h .1)
+wanting-grown p l o ts vs (marks x) h = (omega (arith, h .0), h .1)
 
 at-grown : (L : List Triangle) (N : List ℕ) (all : List Ring) (a b : ℕ) (ps : List Node) (ws : List Ring) (m : Across)
     → Grown (suc (length ps) + places ws) (suc (length ws)) (wantAt L N all a b ps ws m)

@@ -24,7 +24,7 @@ use Rattle.rules.specs.Table.{Side, glued, builds, effect, edgeRule}
 use Rattle.rules.specs.Answer.{refusal, packed, unpacked}
 use Rattle.rules.specs.Fields.{fields, fieldsOf}
 use Rattle.rules.specs.Choice.{Packing, has, operationFor, limited, choose, afterCurrent}
-use Rattle.rules.specs.Pack.{chosen, Most, chosenFor, packOf, newNumbers, PackBuffers, PackResult, packDone, packRooms, packWithin, pack}
+use Rattle.rules.specs.Pack.{chosen, Most, chosenFor, packOf, newNumbers, PackBuffers, PackResult, packDone, packLongEnough, packWithin, pack}
 use Rattle.rules.specs.Buffer.{Buffers}
 use Rattle.rules.specs.Machine.{Machine, empty, totals}
 use Rattle.rules.specs.Book.{recounted}
@@ -56,7 +56,7 @@ pub record NeverStuck (h : Most) (v : ℕ) (ts : List Triangle) (r : PackBuffers
 
 -- on every list that passes 1 to 7 and all buffers that pass 8, for any limits; p is what the packing does
 abbrev pub PackingIsNeverStuck : Type 0
-PackingIsNeverStuck = (h : Most) (v : ℕ) (xs : List ℕ) (r : PackBuffers) → check v xs ≡ Accepted → packRooms v r ≡ true
+PackingIsNeverStuck = (h : Most) (v : ℕ) (xs : List ℕ) (r : PackBuffers) → check v xs ≡ Accepted → packLongEnough v r ≡ true
     → (operations : List Operation) × (last : Packing) × NeverStuck h v (trianglesOf xs) r (packWithin h v xs r) operations last
 
 -- B are the triangles that a packing has built: those of its list that are not left
@@ -76,7 +76,12 @@ pub record RightChoice (s : Packing) (a b c : ℕ) : Type 0 where
   pub r-p : Side
   pub unions : ℕ
   pub allowed : (u : ℕ) → effect (operationFor (afterCurrent (s .loops)) loop place) u (s .loops)
-      ≡ builds (after .loops) (tri b a c) glued q-r r-p 0 0 unions
+      ≡ builds (record {
+        loops = after .loops;
+        triangle = tri b a c;
+        sides = record { pq = glued; qr = q-r; rp = r-p };
+        added = record { vertices = 0; starts = 0; unions = unions };
+      })
   pub edge-rule : (B : List Triangle) → Built s B → edgeRule (tri b a c) glued q-r r-p B ≡ true
 
 -- at each step of packing an accepted list
@@ -111,9 +116,9 @@ written n u = trianglesOf (take (3 * n) (u .buffers .triangles))
 abbrev pub newNumber : PackResult → ℕ → ℕ
 newNumber p x = getD (p .buffers .numbering) x 0
 
--- unpacking has room for n triangles
-abbrev pub RoomFor : ℕ → Buffers → Type 0
-RoomFor n r = (3 * n ≤ length (r .triangles)) × (maxPlaces ≤ length {A = Place} (r .places))
+-- the buffers of an unpacking are long enough for n triangles
+abbrev pub LongEnoughFor : ℕ → Buffers → Type 0
+LongEnoughFor n r = (3 * n ≤ length (r .triangles)) × (maxPlaces ≤ length {A = Place} (r .places))
 
 -- p is what the packing of the triangles ts did, u what the unpacking of its pack did
 pub record EachOnce (v : ℕ) (ts : List Triangle) (p : PackResult) (u : UnpackResult) : Type 0 where
@@ -127,7 +132,7 @@ pub record EachOnce (v : ℕ) (ts : List Triangle) (p : PackResult) (u : UnpackR
 
 abbrev pub EachTriangleOnce : Type 0
 EachTriangleOnce = (v : ℕ) (xs : List ℕ) (r : PackBuffers) (n : ℕ) → pack v xs r .answer ≡ packed n
-    → (r′ : Buffers) → RoomFor (length (trianglesOf xs)) r′
+    → (r′ : Buffers) → LongEnoughFor (length (trianglesOf xs)) r′
     → EachOnce v (trianglesOf xs) (pack v xs r) (unpack (take n (pack v xs r .buffers .pack)) r′)
 
 -- 3. Every accepted pack is the pack of its list. A packing p gives these bytes, and each vertex below v its own number
@@ -140,7 +145,7 @@ pub record Gives (bytes : List ℕ) (v : ℕ) (p : PackResult) : Type 0 where
 pub record PackOf (bytes : List ℕ) (m : Model) (xs : List ℕ) : Type 0 where
   pub accepted : check (m .vertices) xs ≡ Accepted
   pub count : length (trianglesOf xs) ≡ m .triangles
-  pub packs : (r : PackBuffers) → packRooms (m .vertices) r ≡ true → length bytes ≤ length (r .pack) → Gives bytes (m .vertices) (pack (m .vertices) xs r)
+  pub packs : (r : PackBuffers) → packLongEnough (m .vertices) r ≡ true → length bytes ≤ length (r .pack) → Gives bytes (m .vertices) (pack (m .vertices) xs r)
 
 abbrev pub listIn : Model → UnpackResult → List ℕ
 listIn m u = take (3 * m .triangles) (u .buffers .triangles)
@@ -180,7 +185,7 @@ SameStartsSamePacking = (v : ℕ) (xs ys : List ℕ) (r : PackBuffers) → check
 -- and lists with the same triangles, whatever their starts, unpack to the same model: up to the numbers of its vertices
 abbrev pub SameTrianglesSameModel : Type 0
 SameTrianglesSameModel = (v : ℕ) (xs ys : List ℕ) (r q : PackBuffers) (n m : ℕ) → pack v xs r .answer ≡ packed n → pack v ys q .answer ≡ packed m
-    → SameTriangles xs ys → (r′ q′ : Buffers) → RoomFor (length (trianglesOf xs)) r′ → RoomFor (length (trianglesOf ys)) q′
+    → SameTriangles xs ys → (r′ q′ : Buffers) → LongEnoughFor (length (trianglesOf xs)) r′ → LongEnoughFor (length (trianglesOf ys)) q′
     → (f : ℕ → ℕ) × OneToOne v f
     × Rearranged (renumbered f (written (length (trianglesOf xs)) (unpack (take n (pack v xs r .buffers .pack)) r′)))
     (written (length (trianglesOf ys)) (unpack (take m (pack v ys q .buffers .pack)) q′))

@@ -10,8 +10,8 @@ use lib.IntN.{pos, negsuc}
 use Rattle.rules.specs.declared.Operation.the-variants.{New, Forward, Backward, Border, Split, Close, Union, Start}
 use Rattle.rules.specs.Triangle.{tri}
 use Rattle.rules.specs.Answer.{refusal, accepted, triangle, no-triangle, numbers, packed}
-use Rattle.rules.specs.Book.{begin, operate, end}
-use Rattle.rules.proofs.Rows.{PackRow, UnpackRow, CallRow, place, packLent, unpackLent, rooms, counts, totalsOf, modelOf}
+use Rattle.rules.specs.Book.{begin, operate, finish}
+use Rattle.rules.proofs.Rows.{PackRow, UnpackRow, CallRow, place, packLent, unpackLent, lengths, counts, totalsOf, modelOf}
 use Rattle.rules.proofs.Rows.{equal, equalPlaces, equalAnswers, packRight, unpackRight, writtenRing, writtenRings, writtenEdges, callsRight, allRight}
 use Rattle.rules.specs.Triangle.{trianglesOf, corners, edgesOf}
 use Rattle.rules.specs.Count.{same, hit, occurs, count, different, pairs}
@@ -20,13 +20,13 @@ use Rattle.rules.specs.Across.{inTriangle, across}
 use Rattle.rules.specs.Check.{allBelow, allDistinct, noneTwice, allUsed, passes, checkTriangles, check}
 use Rattle.rules.specs.Ring.{allOpen, vertexAt, lastOpen, lastVertex, front, onward, reached, places, loopAt, without}
 use Rattle.rules.specs.Table.{allowed, inOrder, atEdge, atRest, effect}
-use Rattle.rules.specs.Machine.{test, done, beginning, finish}
+use Rattle.rules.specs.Buffer.{cleared}
+use Rattle.rules.specs.Machine.{test, done, beginning, finishing}
 use Rattle.rules.specs.Book.{answers, afterAll, logAll}
 use Rattle.rules.specs.Bits.{bits, valueOf, bitsOfBytes, bytesWithin, readNumber, allZero}
 use Rattle.rules.specs.Code.{operationBits, operationsBits, kindIn, readOperation}
 use Rattle.rules.specs.Fields.{packBytes, takeField, fieldsOf}
 use Rattle.rules.specs.Choice.{has, dropTriangle, turnIn, turnOut, edgeIn, spotOf, choosePlace, limited, taking, chooseAt, chooseIn}
-use Rattle.rules.specs.Buffer.{cleared}
 use Rattle.rules.specs.Pack.{chooseAll, indexOf, newNumbers, packChosen, packChecked}
 use Rattle.rules.specs.Unpack.{runAll, numbersOf, unpackRun, unpackFields}
 use Rattle.rules.specs.View.{follow, followed, nodes, placesOf, openAmong, loopsOf, trianglesBuilt, view}
@@ -577,244 +577,244 @@ unpackRows =
 unfoldable pub callRows : List CallRow
 callRows =
     -- M1
-    record { rooms = rooms 3 1024; calls = begin (counts 3 1 3 1) ∷ operate Start ∷ operate Border ∷ operate Border ∷ operate Border ∷ end ∷ []; told = accepted ∷ triangle (tri 0 1 2) ∷ no-triangle ∷ no-triangle ∷ no-triangle ∷ numbers (totalsOf 3 1 0 (pos 1)) ∷ []; machine = ((3 ∷ 3 ∷ 3 ∷ 1 ∷ 1 ∷ 0 ∷ 1 ∷ 0 ∷ 1 ∷ 2 ∷ [])); borders = ((2 ∷ 0 ∷ 1 ∷ 2 ∷ 0 ∷ 1 ∷ [])) }
+    record { lengths = lengths 3 1024; calls = begin (counts 3 1 3 1) ∷ operate Start ∷ operate Border ∷ operate Border ∷ operate Border ∷ finish ∷ []; told = accepted ∷ triangle (tri 0 1 2) ∷ no-triangle ∷ no-triangle ∷ no-triangle ∷ numbers (totalsOf 3 1 0 (pos 1)) ∷ []; machine = ((3 ∷ 3 ∷ 3 ∷ 1 ∷ 1 ∷ 0 ∷ 1 ∷ 0 ∷ 1 ∷ 2 ∷ [])); borders = ((2 ∷ 0 ∷ 1 ∷ 2 ∷ 0 ∷ 1 ∷ [])) }
     ∷
     -- M2
-    record { rooms = rooms 12 1024; calls = begin (counts 4 4 4 1) ∷ operate Start ∷ operate New ∷ operate Forward ∷ operate Close ∷ end ∷ []; told = accepted ∷ triangle (tri 0 1 2) ∷ triangle (tri 1 0 3) ∷ triangle (tri 1 3 2) ∷ triangle (tri 2 3 0) ∷ numbers (totalsOf 6 0 0 (pos 2)) ∷ []; machine = ((4 ∷ 6 ∷ 4 ∷ 1 ∷ 1 ∷ 0 ∷ 0 ∷ 0 ∷ 1 ∷ 2 ∷ 1 ∷ 0 ∷ 3 ∷ 1 ∷ 3 ∷ 2 ∷ 2 ∷ 3 ∷ 0 ∷ [])); borders = [] }
+    record { lengths = lengths 12 1024; calls = begin (counts 4 4 4 1) ∷ operate Start ∷ operate New ∷ operate Forward ∷ operate Close ∷ finish ∷ []; told = accepted ∷ triangle (tri 0 1 2) ∷ triangle (tri 1 0 3) ∷ triangle (tri 1 3 2) ∷ triangle (tri 2 3 0) ∷ numbers (totalsOf 6 0 0 (pos 2)) ∷ []; machine = ((4 ∷ 6 ∷ 4 ∷ 1 ∷ 1 ∷ 0 ∷ 0 ∷ 0 ∷ 1 ∷ 2 ∷ 1 ∷ 0 ∷ 3 ∷ 1 ∷ 3 ∷ 2 ∷ 2 ∷ 3 ∷ 0 ∷ [])); borders = [] }
     ∷
     -- M3
-    record { rooms = rooms 6 1024; calls = begin (counts 4 2 4 1) ∷ operate Start ∷ operate New ∷ operate Border ∷ operate Border ∷ operate Border ∷ operate Border ∷ end ∷ []; told = accepted ∷ triangle (tri 0 1 2) ∷ triangle (tri 1 0 3) ∷ no-triangle ∷ no-triangle ∷ no-triangle ∷ no-triangle ∷ numbers (totalsOf 5 1 0 (pos 1)) ∷ []; machine = ((4 ∷ 5 ∷ 4 ∷ 1 ∷ 1 ∷ 0 ∷ 1 ∷ 0 ∷ 1 ∷ 2 ∷ 1 ∷ 0 ∷ 3 ∷ [])); borders = ((0 ∷ 3 ∷ 2 ∷ 0 ∷ 1 ∷ 2 ∷ 3 ∷ 1 ∷ [])) }
+    record { lengths = lengths 6 1024; calls = begin (counts 4 2 4 1) ∷ operate Start ∷ operate New ∷ operate Border ∷ operate Border ∷ operate Border ∷ operate Border ∷ finish ∷ []; told = accepted ∷ triangle (tri 0 1 2) ∷ triangle (tri 1 0 3) ∷ no-triangle ∷ no-triangle ∷ no-triangle ∷ no-triangle ∷ numbers (totalsOf 5 1 0 (pos 1)) ∷ []; machine = ((4 ∷ 5 ∷ 4 ∷ 1 ∷ 1 ∷ 0 ∷ 1 ∷ 0 ∷ 1 ∷ 2 ∷ 1 ∷ 0 ∷ 3 ∷ [])); borders = ((0 ∷ 3 ∷ 2 ∷ 0 ∷ 1 ∷ 2 ∷ 3 ∷ 1 ∷ [])) }
     ∷
     -- M4
-    record { rooms = rooms 6 1024; calls = begin (counts 3 2 3 1) ∷ operate Start ∷ operate Close ∷ end ∷ []; told = accepted ∷ triangle (tri 0 1 2) ∷ triangle (tri 1 0 2) ∷ numbers (totalsOf 3 0 0 (pos 2)) ∷ []; machine = ((3 ∷ 3 ∷ 3 ∷ 1 ∷ 1 ∷ 0 ∷ 0 ∷ 0 ∷ 1 ∷ 2 ∷ 1 ∷ 0 ∷ 2 ∷ [])); borders = [] }
+    record { lengths = lengths 6 1024; calls = begin (counts 3 2 3 1) ∷ operate Start ∷ operate Close ∷ finish ∷ []; told = accepted ∷ triangle (tri 0 1 2) ∷ triangle (tri 1 0 2) ∷ numbers (totalsOf 3 0 0 (pos 2)) ∷ []; machine = ((3 ∷ 3 ∷ 3 ∷ 1 ∷ 1 ∷ 0 ∷ 0 ∷ 0 ∷ 1 ∷ 2 ∷ 1 ∷ 0 ∷ 2 ∷ [])); borders = [] }
     ∷
     -- M5
-    record { rooms = rooms 6 1024; calls = begin (counts 6 2 3 1) ∷ operate Start ∷ operate Border ∷ operate Border ∷ operate Border ∷ operate Start ∷ operate Border ∷ operate Border ∷ operate Border ∷ end ∷ []; told = accepted ∷ triangle (tri 0 1 2) ∷ no-triangle ∷ no-triangle ∷ no-triangle ∷ triangle (tri 3 4 5) ∷ no-triangle ∷ no-triangle ∷ no-triangle ∷ numbers (totalsOf 6 2 0 (pos 2)) ∷ []; machine = ((6 ∷ 6 ∷ 3 ∷ 1 ∷ 2 ∷ 0 ∷ 2 ∷ 0 ∷ 1 ∷ 2 ∷ 3 ∷ 4 ∷ 5 ∷ [])); borders = ((5 ∷ 3 ∷ 4 ∷ 5 ∷ 3 ∷ 4 ∷ 2 ∷ 0 ∷ 1 ∷ 2 ∷ 0 ∷ 1 ∷ [])) }
+    record { lengths = lengths 6 1024; calls = begin (counts 6 2 3 1) ∷ operate Start ∷ operate Border ∷ operate Border ∷ operate Border ∷ operate Start ∷ operate Border ∷ operate Border ∷ operate Border ∷ finish ∷ []; told = accepted ∷ triangle (tri 0 1 2) ∷ no-triangle ∷ no-triangle ∷ no-triangle ∷ triangle (tri 3 4 5) ∷ no-triangle ∷ no-triangle ∷ no-triangle ∷ numbers (totalsOf 6 2 0 (pos 2)) ∷ []; machine = ((6 ∷ 6 ∷ 3 ∷ 1 ∷ 2 ∷ 0 ∷ 2 ∷ 0 ∷ 1 ∷ 2 ∷ 3 ∷ 4 ∷ 5 ∷ [])); borders = ((5 ∷ 3 ∷ 4 ∷ 5 ∷ 3 ∷ 4 ∷ 2 ∷ 0 ∷ 1 ∷ 2 ∷ 0 ∷ 1 ∷ [])) }
     ∷
     -- forward at three places; c is reached from the edge that enters its place only
-    record { rooms = rooms 9 1024; calls = begin (counts 4 3 4 1) ∷ operate Start ∷ operate New ∷ operate Border ∷ operate Border ∷ operate Forward ∷ operate Border ∷ end ∷ []; told = accepted ∷ triangle (tri 0 1 2) ∷ triangle (tri 1 0 3) ∷ no-triangle ∷ no-triangle ∷ triangle (tri 0 2 3) ∷ no-triangle ∷ numbers (totalsOf 6 1 0 (pos 1)) ∷ []; machine = ((4 ∷ 6 ∷ 4 ∷ 1 ∷ 1 ∷ 0 ∷ 1 ∷ 0 ∷ 1 ∷ 2 ∷ 1 ∷ 0 ∷ 3 ∷ 0 ∷ 2 ∷ 3 ∷ [])); borders = ((2 ∷ 3 ∷ 1 ∷ 2 ∷ 3 ∷ 1 ∷ [])) }
+    record { lengths = lengths 9 1024; calls = begin (counts 4 3 4 1) ∷ operate Start ∷ operate New ∷ operate Border ∷ operate Border ∷ operate Forward ∷ operate Border ∷ finish ∷ []; told = accepted ∷ triangle (tri 0 1 2) ∷ triangle (tri 1 0 3) ∷ no-triangle ∷ no-triangle ∷ triangle (tri 0 2 3) ∷ no-triangle ∷ numbers (totalsOf 6 1 0 (pos 1)) ∷ []; machine = ((4 ∷ 6 ∷ 4 ∷ 1 ∷ 1 ∷ 0 ∷ 1 ∷ 0 ∷ 1 ∷ 2 ∷ 1 ∷ 0 ∷ 3 ∷ 0 ∷ 2 ∷ 3 ∷ [])); borders = ((2 ∷ 3 ∷ 1 ∷ 2 ∷ 3 ∷ 1 ∷ [])) }
     ∷
     -- backward at three places; c is reached from the edge that leaves its place only
-    record { rooms = rooms 15 1024; calls = begin (counts 5 5 4 1) ∷ operate Start ∷ operate New ∷ operate Border ∷ operate Border ∷ operate New ∷ operate Forward ∷ operate Backward ∷ operate Border ∷ end ∷ []; told = accepted ∷ triangle (tri 0 1 2) ∷ triangle (tri 1 0 3) ∷ no-triangle ∷ no-triangle ∷ triangle (tri 0 2 4) ∷ triangle (tri 0 4 3) ∷ triangle (tri 3 4 2) ∷ no-triangle ∷ numbers (totalsOf 9 1 0 (pos 1)) ∷ []; machine = ((5 ∷ 9 ∷ 4 ∷ 1 ∷ 1 ∷ 0 ∷ 1 ∷ 0 ∷ 1 ∷ 2 ∷ 1 ∷ 0 ∷ 3 ∷ 0 ∷ 2 ∷ 4 ∷ 0 ∷ 4 ∷ 3 ∷ 3 ∷ 4 ∷ 2 ∷ [])); borders = ((2 ∷ 3 ∷ 1 ∷ 2 ∷ 3 ∷ 1 ∷ [])) }
+    record { lengths = lengths 15 1024; calls = begin (counts 5 5 4 1) ∷ operate Start ∷ operate New ∷ operate Border ∷ operate Border ∷ operate New ∷ operate Forward ∷ operate Backward ∷ operate Border ∷ finish ∷ []; told = accepted ∷ triangle (tri 0 1 2) ∷ triangle (tri 1 0 3) ∷ no-triangle ∷ no-triangle ∷ triangle (tri 0 2 4) ∷ triangle (tri 0 4 3) ∷ triangle (tri 3 4 2) ∷ no-triangle ∷ numbers (totalsOf 9 1 0 (pos 1)) ∷ []; machine = ((5 ∷ 9 ∷ 4 ∷ 1 ∷ 1 ∷ 0 ∷ 1 ∷ 0 ∷ 1 ∷ 2 ∷ 1 ∷ 0 ∷ 3 ∷ 0 ∷ 2 ∷ 4 ∷ 0 ∷ 4 ∷ 3 ∷ 3 ∷ 4 ∷ 2 ∷ [])); borders = ((2 ∷ 3 ∷ 1 ∷ 2 ∷ 3 ∷ 1 ∷ [])) }
     ∷
     -- split k - 2 across a link; the second part has fewer places, in full loops as many
-    record { rooms = rooms 15 1024; calls = begin (counts 5 5 5 2) ∷ operate Start ∷ operate New ∷ operate New ∷ operate Border ∷ operate Border ∷ operate (Split 2) ∷ operate Border ∷ operate Close ∷ end ∷ []; told = accepted ∷ triangle (tri 0 1 2) ∷ triangle (tri 1 0 3) ∷ triangle (tri 1 3 4) ∷ no-triangle ∷ no-triangle ∷ triangle (tri 0 2 4) ∷ no-triangle ∷ triangle (tri 0 4 3) ∷ numbers (totalsOf 9 1 0 (pos 1)) ∷ []; machine = ((5 ∷ 9 ∷ 5 ∷ 2 ∷ 1 ∷ 0 ∷ 1 ∷ 0 ∷ 1 ∷ 2 ∷ 1 ∷ 0 ∷ 3 ∷ 1 ∷ 3 ∷ 4 ∷ 0 ∷ 2 ∷ 4 ∷ 0 ∷ 4 ∷ 3 ∷ [])); borders = ((2 ∷ 4 ∷ 1 ∷ 2 ∷ 4 ∷ 1 ∷ [])) }
+    record { lengths = lengths 15 1024; calls = begin (counts 5 5 5 2) ∷ operate Start ∷ operate New ∷ operate New ∷ operate Border ∷ operate Border ∷ operate (Split 2) ∷ operate Border ∷ operate Close ∷ finish ∷ []; told = accepted ∷ triangle (tri 0 1 2) ∷ triangle (tri 1 0 3) ∷ triangle (tri 1 3 4) ∷ no-triangle ∷ no-triangle ∷ triangle (tri 0 2 4) ∷ no-triangle ∷ triangle (tri 0 4 3) ∷ numbers (totalsOf 9 1 0 (pos 1)) ∷ []; machine = ((5 ∷ 9 ∷ 5 ∷ 2 ∷ 1 ∷ 0 ∷ 1 ∷ 0 ∷ 1 ∷ 2 ∷ 1 ∷ 0 ∷ 3 ∷ 1 ∷ 3 ∷ 4 ∷ 0 ∷ 2 ∷ 4 ∷ 0 ∷ 4 ∷ 3 ∷ [])); borders = ((2 ∷ 4 ∷ 1 ∷ 2 ∷ 4 ∷ 1 ∷ [])) }
     ∷
     -- split, the first part is smaller
-    record { rooms = rooms 18 1024; calls = begin (counts 6 6 7 2) ∷ operate Start ∷ operate New ∷ operate Border ∷ operate New ∷ operate New ∷ operate (Split 2) ∷ operate Close ∷ operate Border ∷ operate Border ∷ operate Border ∷ end ∷ []; told = accepted ∷ triangle (tri 0 1 2) ∷ triangle (tri 1 0 3) ∷ no-triangle ∷ triangle (tri 2 1 4) ∷ triangle (tri 2 4 5) ∷ triangle (tri 2 5 3) ∷ triangle (tri 2 3 0) ∷ no-triangle ∷ no-triangle ∷ no-triangle ∷ numbers (totalsOf 11 1 0 (pos 1)) ∷ []; machine = ((6 ∷ 11 ∷ 7 ∷ 2 ∷ 1 ∷ 0 ∷ 1 ∷ 0 ∷ 1 ∷ 2 ∷ 1 ∷ 0 ∷ 3 ∷ 2 ∷ 1 ∷ 4 ∷ 2 ∷ 4 ∷ 5 ∷ 2 ∷ 5 ∷ 3 ∷ 2 ∷ 3 ∷ 0 ∷ [])); borders = ((4 ∷ 5 ∷ 1 ∷ 4 ∷ 5 ∷ 3 ∷ 3 ∷ 1 ∷ [])) }
+    record { lengths = lengths 18 1024; calls = begin (counts 6 6 7 2) ∷ operate Start ∷ operate New ∷ operate Border ∷ operate New ∷ operate New ∷ operate (Split 2) ∷ operate Close ∷ operate Border ∷ operate Border ∷ operate Border ∷ finish ∷ []; told = accepted ∷ triangle (tri 0 1 2) ∷ triangle (tri 1 0 3) ∷ no-triangle ∷ triangle (tri 2 1 4) ∷ triangle (tri 2 4 5) ∷ triangle (tri 2 5 3) ∷ triangle (tri 2 3 0) ∷ no-triangle ∷ no-triangle ∷ no-triangle ∷ numbers (totalsOf 11 1 0 (pos 1)) ∷ []; machine = ((6 ∷ 11 ∷ 7 ∷ 2 ∷ 1 ∷ 0 ∷ 1 ∷ 0 ∷ 1 ∷ 2 ∷ 1 ∷ 0 ∷ 3 ∷ 2 ∷ 1 ∷ 4 ∷ 2 ∷ 4 ∷ 5 ∷ 2 ∷ 5 ∷ 3 ∷ 2 ∷ 3 ∷ 0 ∷ [])); borders = ((4 ∷ 5 ∷ 1 ∷ 4 ∷ 5 ∷ 3 ∷ 3 ∷ 1 ∷ [])) }
     ∷
     -- split k - 2, the second part is smaller
-    record { rooms = rooms 18 1024; calls = begin (counts 6 6 6 2) ∷ operate Start ∷ operate New ∷ operate Border ∷ operate New ∷ operate New ∷ operate Border ∷ operate Border ∷ operate (Split 3) ∷ operate Border ∷ operate Backward ∷ operate Border ∷ operate Border ∷ end ∷ []; told = accepted ∷ triangle (tri 0 1 2) ∷ triangle (tri 1 0 3) ∷ no-triangle ∷ triangle (tri 2 1 4) ∷ triangle (tri 2 4 5) ∷ no-triangle ∷ no-triangle ∷ triangle (tri 3 0 5) ∷ no-triangle ∷ triangle (tri 3 5 4) ∷ no-triangle ∷ no-triangle ∷ numbers (totalsOf 12 2 0 (pos 0)) ∷ []; machine = ((6 ∷ 12 ∷ 6 ∷ 2 ∷ 1 ∷ 0 ∷ 2 ∷ 0 ∷ 1 ∷ 2 ∷ 1 ∷ 0 ∷ 3 ∷ 2 ∷ 1 ∷ 4 ∷ 2 ∷ 4 ∷ 5 ∷ 3 ∷ 0 ∷ 5 ∷ 3 ∷ 5 ∷ 4 ∷ [])); borders = ((1 ∷ 4 ∷ 4 ∷ 3 ∷ 0 ∷ 5 ∷ 2 ∷ 0 ∷ 5 ∷ 2 ∷ 3 ∷ 1 ∷ [])) }
+    record { lengths = lengths 18 1024; calls = begin (counts 6 6 6 2) ∷ operate Start ∷ operate New ∷ operate Border ∷ operate New ∷ operate New ∷ operate Border ∷ operate Border ∷ operate (Split 3) ∷ operate Border ∷ operate Backward ∷ operate Border ∷ operate Border ∷ finish ∷ []; told = accepted ∷ triangle (tri 0 1 2) ∷ triangle (tri 1 0 3) ∷ no-triangle ∷ triangle (tri 2 1 4) ∷ triangle (tri 2 4 5) ∷ no-triangle ∷ no-triangle ∷ triangle (tri 3 0 5) ∷ no-triangle ∷ triangle (tri 3 5 4) ∷ no-triangle ∷ no-triangle ∷ numbers (totalsOf 12 2 0 (pos 0)) ∷ []; machine = ((6 ∷ 12 ∷ 6 ∷ 2 ∷ 1 ∷ 0 ∷ 2 ∷ 0 ∷ 1 ∷ 2 ∷ 1 ∷ 0 ∷ 3 ∷ 2 ∷ 1 ∷ 4 ∷ 2 ∷ 4 ∷ 5 ∷ 3 ∷ 0 ∷ 5 ∷ 3 ∷ 5 ∷ 4 ∷ [])); borders = ((1 ∷ 4 ∷ 4 ∷ 3 ∷ 0 ∷ 5 ∷ 2 ∷ 0 ∷ 5 ∷ 2 ∷ 3 ∷ 1 ∷ [])) }
     ∷
     -- smallest union found
-    record { rooms = rooms 24 1024; calls = begin (counts 6 8 8 2) ∷ operate Start ∷ operate New ∷ operate New ∷ operate Border ∷ operate New ∷ operate (Split 3) ∷ operate (Union 1 2) ∷ operate Border ∷ operate Border ∷ operate Forward ∷ operate Border ∷ operate Forward ∷ operate Border ∷ operate Border ∷ end ∷ []; told = accepted ∷ triangle (tri 0 1 2) ∷ triangle (tri 1 0 3) ∷ triangle (tri 1 3 4) ∷ no-triangle ∷ triangle (tri 2 1 5) ∷ triangle (tri 2 5 4) ∷ triangle (tri 4 5 0) ∷ no-triangle ∷ no-triangle ∷ triangle (tri 0 5 3) ∷ no-triangle ∷ triangle (tri 4 3 2) ∷ no-triangle ∷ no-triangle ∷ numbers (totalsOf 15 1 1 (negsuc 0)) ∷ []; machine = ((6 ∷ 15 ∷ 8 ∷ 2 ∷ 1 ∷ 1 ∷ 1 ∷ 0 ∷ 1 ∷ 2 ∷ 1 ∷ 0 ∷ 3 ∷ 1 ∷ 3 ∷ 4 ∷ 2 ∷ 1 ∷ 5 ∷ 2 ∷ 5 ∷ 4 ∷ 4 ∷ 5 ∷ 0 ∷ 0 ∷ 5 ∷ 3 ∷ 4 ∷ 3 ∷ 2 ∷ [])); borders = ((2 ∷ 0 ∷ 3 ∷ 2 ∷ 5 ∷ 3 ∷ 1 ∷ 5 ∷ 0 ∷ 4 ∷ 4 ∷ 1 ∷ [])) }
+    record { lengths = lengths 24 1024; calls = begin (counts 6 8 8 2) ∷ operate Start ∷ operate New ∷ operate New ∷ operate Border ∷ operate New ∷ operate (Split 3) ∷ operate (Union 1 2) ∷ operate Border ∷ operate Border ∷ operate Forward ∷ operate Border ∷ operate Forward ∷ operate Border ∷ operate Border ∷ finish ∷ []; told = accepted ∷ triangle (tri 0 1 2) ∷ triangle (tri 1 0 3) ∷ triangle (tri 1 3 4) ∷ no-triangle ∷ triangle (tri 2 1 5) ∷ triangle (tri 2 5 4) ∷ triangle (tri 4 5 0) ∷ no-triangle ∷ no-triangle ∷ triangle (tri 0 5 3) ∷ no-triangle ∷ triangle (tri 4 3 2) ∷ no-triangle ∷ no-triangle ∷ numbers (totalsOf 15 1 1 (negsuc 0)) ∷ []; machine = ((6 ∷ 15 ∷ 8 ∷ 2 ∷ 1 ∷ 1 ∷ 1 ∷ 0 ∷ 1 ∷ 2 ∷ 1 ∷ 0 ∷ 3 ∷ 1 ∷ 3 ∷ 4 ∷ 2 ∷ 1 ∷ 5 ∷ 2 ∷ 5 ∷ 4 ∷ 4 ∷ 5 ∷ 0 ∷ 0 ∷ 5 ∷ 3 ∷ 4 ∷ 3 ∷ 2 ∷ [])); borders = ((2 ∷ 0 ∷ 3 ∷ 2 ∷ 5 ∷ 3 ∷ 1 ∷ 5 ∷ 0 ∷ 4 ∷ 4 ∷ 1 ∷ [])) }
     ∷
     -- union with j = 0, and two pieces more
-    record { rooms = rooms 36 1024; calls = begin (counts 11 12 9 2) ∷ operate Start ∷ operate Border ∷ operate New ∷ operate New ∷ operate New ∷ operate Border ∷ operate New ∷ operate New ∷ operate (Split 3) ∷ operate Border ∷ operate (Union 1 0) ∷ operate Backward ∷ operate Forward ∷ operate Border ∷ operate Border ∷ operate Forward ∷ operate Border ∷ operate Border ∷ operate Start ∷ operate Border ∷ operate Border ∷ operate Border ∷ end ∷ []; told = accepted ∷ triangle (tri 0 1 2) ∷ no-triangle ∷ triangle (tri 2 1 3) ∷ triangle (tri 2 3 4) ∷ triangle (tri 2 4 5) ∷ no-triangle ∷ triangle (tri 0 2 6) ∷ triangle (tri 0 6 7) ∷ triangle (tri 0 7 4) ∷ no-triangle ∷ triangle (tri 3 1 7) ∷ triangle (tri 3 7 6) ∷ triangle (tri 3 6 4) ∷ no-triangle ∷ no-triangle ∷ triangle (tri 4 7 5) ∷ no-triangle ∷ no-triangle ∷ triangle (tri 8 9 10) ∷ no-triangle ∷ no-triangle ∷ no-triangle ∷ numbers (totalsOf 23 2 1 (pos 0)) ∷ []; machine = ((11 ∷ 23 ∷ 9 ∷ 2 ∷ 2 ∷ 1 ∷ 2 ∷ 0 ∷ 1 ∷ 2 ∷ 2 ∷ 1 ∷ 3 ∷ 2 ∷ 3 ∷ 4 ∷ 2 ∷ 4 ∷ 5 ∷ 0 ∷ 2 ∷ 6 ∷ 0 ∷ 6 ∷ 7 ∷ 0 ∷ 7 ∷ 4 ∷ 3 ∷ 1 ∷ 7 ∷ 3 ∷ 7 ∷ 6 ∷ 3 ∷ 6 ∷ 4 ∷ 4 ∷ 7 ∷ 5 ∷ 8 ∷ 9 ∷ 10 ∷ [])); borders = ((10 ∷ 8 ∷ 9 ∷ 10 ∷ 8 ∷ 9 ∷ 2 ∷ 6 ∷ 7 ∷ 5 ∷ 1 ∷ 7 ∷ 6 ∷ 4 ∷ 4 ∷ 0 ∷ 5 ∷ 2 ∷ 0 ∷ 1 ∷ [])) }
+    record { lengths = lengths 36 1024; calls = begin (counts 11 12 9 2) ∷ operate Start ∷ operate Border ∷ operate New ∷ operate New ∷ operate New ∷ operate Border ∷ operate New ∷ operate New ∷ operate (Split 3) ∷ operate Border ∷ operate (Union 1 0) ∷ operate Backward ∷ operate Forward ∷ operate Border ∷ operate Border ∷ operate Forward ∷ operate Border ∷ operate Border ∷ operate Start ∷ operate Border ∷ operate Border ∷ operate Border ∷ finish ∷ []; told = accepted ∷ triangle (tri 0 1 2) ∷ no-triangle ∷ triangle (tri 2 1 3) ∷ triangle (tri 2 3 4) ∷ triangle (tri 2 4 5) ∷ no-triangle ∷ triangle (tri 0 2 6) ∷ triangle (tri 0 6 7) ∷ triangle (tri 0 7 4) ∷ no-triangle ∷ triangle (tri 3 1 7) ∷ triangle (tri 3 7 6) ∷ triangle (tri 3 6 4) ∷ no-triangle ∷ no-triangle ∷ triangle (tri 4 7 5) ∷ no-triangle ∷ no-triangle ∷ triangle (tri 8 9 10) ∷ no-triangle ∷ no-triangle ∷ no-triangle ∷ numbers (totalsOf 23 2 1 (pos 0)) ∷ []; machine = ((11 ∷ 23 ∷ 9 ∷ 2 ∷ 2 ∷ 1 ∷ 2 ∷ 0 ∷ 1 ∷ 2 ∷ 2 ∷ 1 ∷ 3 ∷ 2 ∷ 3 ∷ 4 ∷ 2 ∷ 4 ∷ 5 ∷ 0 ∷ 2 ∷ 6 ∷ 0 ∷ 6 ∷ 7 ∷ 0 ∷ 7 ∷ 4 ∷ 3 ∷ 1 ∷ 7 ∷ 3 ∷ 7 ∷ 6 ∷ 3 ∷ 6 ∷ 4 ∷ 4 ∷ 7 ∷ 5 ∷ 8 ∷ 9 ∷ 10 ∷ [])); borders = ((10 ∷ 8 ∷ 9 ∷ 10 ∷ 8 ∷ 9 ∷ 2 ∷ 6 ∷ 7 ∷ 5 ∷ 1 ∷ 7 ∷ 6 ∷ 4 ∷ 4 ∷ 0 ∷ 5 ∷ 2 ∷ 0 ∷ 1 ∷ [])) }
     ∷
     -- the peak of places is reached by the union alone
-    record { rooms = rooms 33 1024; calls = begin (counts 8 11 9 2) ∷ operate Start ∷ operate New ∷ operate New ∷ operate New ∷ operate New ∷ operate New ∷ operate Forward ∷ operate (Split 3) ∷ operate (Union 1 3) ∷ operate Backward ∷ operate Border ∷ operate Border ∷ operate Border ∷ operate Forward ∷ operate Border ∷ operate Border ∷ operate Border ∷ operate Border ∷ end ∷ []; told = accepted ∷ triangle (tri 0 1 2) ∷ triangle (tri 1 0 3) ∷ triangle (tri 1 3 4) ∷ triangle (tri 1 4 5) ∷ triangle (tri 1 5 6) ∷ triangle (tri 1 6 7) ∷ triangle (tri 1 7 2) ∷ triangle (tri 2 7 4) ∷ triangle (tri 2 4 6) ∷ triangle (tri 2 6 5) ∷ no-triangle ∷ no-triangle ∷ no-triangle ∷ triangle (tri 4 3 6) ∷ no-triangle ∷ no-triangle ∷ no-triangle ∷ no-triangle ∷ numbers (totalsOf 20 1 1 (negsuc 0)) ∷ []; machine = ((8 ∷ 20 ∷ 9 ∷ 2 ∷ 1 ∷ 1 ∷ 1 ∷ 0 ∷ 1 ∷ 2 ∷ 1 ∷ 0 ∷ 3 ∷ 1 ∷ 3 ∷ 4 ∷ 1 ∷ 4 ∷ 5 ∷ 1 ∷ 5 ∷ 6 ∷ 1 ∷ 6 ∷ 7 ∷ 1 ∷ 7 ∷ 2 ∷ 2 ∷ 7 ∷ 4 ∷ 2 ∷ 4 ∷ 6 ∷ 2 ∷ 6 ∷ 5 ∷ 4 ∷ 3 ∷ 6 ∷ [])); borders = ((4 ∷ 5 ∷ 7 ∷ 4 ∷ 6 ∷ 7 ∷ 3 ∷ 6 ∷ 0 ∷ 3 ∷ 2 ∷ 0 ∷ 5 ∷ 2 ∷ [])) }
+    record { lengths = lengths 33 1024; calls = begin (counts 8 11 9 2) ∷ operate Start ∷ operate New ∷ operate New ∷ operate New ∷ operate New ∷ operate New ∷ operate Forward ∷ operate (Split 3) ∷ operate (Union 1 3) ∷ operate Backward ∷ operate Border ∷ operate Border ∷ operate Border ∷ operate Forward ∷ operate Border ∷ operate Border ∷ operate Border ∷ operate Border ∷ finish ∷ []; told = accepted ∷ triangle (tri 0 1 2) ∷ triangle (tri 1 0 3) ∷ triangle (tri 1 3 4) ∷ triangle (tri 1 4 5) ∷ triangle (tri 1 5 6) ∷ triangle (tri 1 6 7) ∷ triangle (tri 1 7 2) ∷ triangle (tri 2 7 4) ∷ triangle (tri 2 4 6) ∷ triangle (tri 2 6 5) ∷ no-triangle ∷ no-triangle ∷ no-triangle ∷ triangle (tri 4 3 6) ∷ no-triangle ∷ no-triangle ∷ no-triangle ∷ no-triangle ∷ numbers (totalsOf 20 1 1 (negsuc 0)) ∷ []; machine = ((8 ∷ 20 ∷ 9 ∷ 2 ∷ 1 ∷ 1 ∷ 1 ∷ 0 ∷ 1 ∷ 2 ∷ 1 ∷ 0 ∷ 3 ∷ 1 ∷ 3 ∷ 4 ∷ 1 ∷ 4 ∷ 5 ∷ 1 ∷ 5 ∷ 6 ∷ 1 ∷ 6 ∷ 7 ∷ 1 ∷ 7 ∷ 2 ∷ 2 ∷ 7 ∷ 4 ∷ 2 ∷ 4 ∷ 6 ∷ 2 ∷ 6 ∷ 5 ∷ 4 ∷ 3 ∷ 6 ∷ [])); borders = ((4 ∷ 5 ∷ 7 ∷ 4 ∷ 6 ∷ 7 ∷ 3 ∷ 6 ∷ 0 ∷ 3 ∷ 2 ∷ 0 ∷ 5 ∷ 2 ∷ [])) }
     ∷
     -- union next to a marked edge
-    record { rooms = rooms 33 1024; calls = begin (counts 8 11 11 2) ∷ operate Start ∷ operate New ∷ operate New ∷ operate New ∷ operate Border ∷ operate New ∷ operate New ∷ operate (Split 3) ∷ operate Border ∷ operate (Union 1 2) ∷ operate (Split 7) ∷ operate Close ∷ operate Forward ∷ operate Border ∷ operate Border ∷ operate Border ∷ operate Border ∷ operate Border ∷ end ∷ []; told = accepted ∷ triangle (tri 0 1 2) ∷ triangle (tri 1 0 3) ∷ triangle (tri 1 3 4) ∷ triangle (tri 1 4 5) ∷ no-triangle ∷ triangle (tri 2 1 6) ∷ triangle (tri 2 6 7) ∷ triangle (tri 2 7 4) ∷ no-triangle ∷ triangle (tri 0 2 5) ∷ triangle (tri 0 5 7) ∷ triangle (tri 7 5 4) ∷ triangle (tri 0 7 3) ∷ no-triangle ∷ no-triangle ∷ no-triangle ∷ no-triangle ∷ no-triangle ∷ numbers (totalsOf 20 1 1 (negsuc 0)) ∷ []; machine = ((8 ∷ 20 ∷ 11 ∷ 2 ∷ 1 ∷ 1 ∷ 1 ∷ 0 ∷ 1 ∷ 2 ∷ 1 ∷ 0 ∷ 3 ∷ 1 ∷ 3 ∷ 4 ∷ 1 ∷ 4 ∷ 5 ∷ 2 ∷ 1 ∷ 6 ∷ 2 ∷ 6 ∷ 7 ∷ 2 ∷ 7 ∷ 4 ∷ 0 ∷ 2 ∷ 5 ∷ 0 ∷ 5 ∷ 7 ∷ 7 ∷ 5 ∷ 4 ∷ 0 ∷ 7 ∷ 3 ∷ [])); borders = ((6 ∷ 7 ∷ 1 ∷ 6 ∷ 2 ∷ 5 ∷ 3 ∷ 4 ∷ 7 ∷ 3 ∷ 4 ∷ 2 ∷ 5 ∷ 1 ∷ [])) }
+    record { lengths = lengths 33 1024; calls = begin (counts 8 11 11 2) ∷ operate Start ∷ operate New ∷ operate New ∷ operate New ∷ operate Border ∷ operate New ∷ operate New ∷ operate (Split 3) ∷ operate Border ∷ operate (Union 1 2) ∷ operate (Split 7) ∷ operate Close ∷ operate Forward ∷ operate Border ∷ operate Border ∷ operate Border ∷ operate Border ∷ operate Border ∷ finish ∷ []; told = accepted ∷ triangle (tri 0 1 2) ∷ triangle (tri 1 0 3) ∷ triangle (tri 1 3 4) ∷ triangle (tri 1 4 5) ∷ no-triangle ∷ triangle (tri 2 1 6) ∷ triangle (tri 2 6 7) ∷ triangle (tri 2 7 4) ∷ no-triangle ∷ triangle (tri 0 2 5) ∷ triangle (tri 0 5 7) ∷ triangle (tri 7 5 4) ∷ triangle (tri 0 7 3) ∷ no-triangle ∷ no-triangle ∷ no-triangle ∷ no-triangle ∷ no-triangle ∷ numbers (totalsOf 20 1 1 (negsuc 0)) ∷ []; machine = ((8 ∷ 20 ∷ 11 ∷ 2 ∷ 1 ∷ 1 ∷ 1 ∷ 0 ∷ 1 ∷ 2 ∷ 1 ∷ 0 ∷ 3 ∷ 1 ∷ 3 ∷ 4 ∷ 1 ∷ 4 ∷ 5 ∷ 2 ∷ 1 ∷ 6 ∷ 2 ∷ 6 ∷ 7 ∷ 2 ∷ 7 ∷ 4 ∷ 0 ∷ 2 ∷ 5 ∷ 0 ∷ 5 ∷ 7 ∷ 7 ∷ 5 ∷ 4 ∷ 0 ∷ 7 ∷ 3 ∷ [])); borders = ((6 ∷ 7 ∷ 1 ∷ 6 ∷ 2 ∷ 5 ∷ 3 ∷ 4 ∷ 7 ∷ 3 ∷ 4 ∷ 2 ∷ 5 ∷ 1 ∷ [])) }
     ∷
     -- union 2 of two waiting loops; 1 counted from the oldest
-    record { rooms = rooms 45 1024; calls = begin (counts 11 15 13 3) ∷ operate Start ∷ operate New ∷ operate New ∷ operate New ∷ operate New ∷ operate New ∷ operate Forward ∷ operate (Split 3) ∷ operate New ∷ operate (Split 2) ∷ operate New ∷ operate (Union 2 3) ∷ operate New ∷ operate Border ∷ operate Border ∷ operate Border ∷ operate Border ∷ operate Border ∷ operate Border ∷ operate Border ∷ operate Border ∷ operate Forward ∷ operate Border ∷ operate Close ∷ end ∷ []; told = accepted ∷ triangle (tri 0 1 2) ∷ triangle (tri 1 0 3) ∷ triangle (tri 1 3 4) ∷ triangle (tri 1 4 5) ∷ triangle (tri 1 5 6) ∷ triangle (tri 1 6 7) ∷ triangle (tri 1 7 2) ∷ triangle (tri 2 7 4) ∷ triangle (tri 2 4 8) ∷ triangle (tri 2 8 3) ∷ triangle (tri 2 3 9) ∷ triangle (tri 2 9 6) ∷ triangle (tri 2 6 10) ∷ no-triangle ∷ no-triangle ∷ no-triangle ∷ no-triangle ∷ no-triangle ∷ no-triangle ∷ no-triangle ∷ no-triangle ∷ triangle (tri 6 5 10) ∷ no-triangle ∷ triangle (tri 3 8 4) ∷ numbers (totalsOf 27 1 1 (negsuc 0)) ∷ []; machine = ((11 ∷ 27 ∷ 13 ∷ 3 ∷ 1 ∷ 1 ∷ 1 ∷ 0 ∷ 1 ∷ 2 ∷ 1 ∷ 0 ∷ 3 ∷ 1 ∷ 3 ∷ 4 ∷ 1 ∷ 4 ∷ 5 ∷ 1 ∷ 5 ∷ 6 ∷ 1 ∷ 6 ∷ 7 ∷ 1 ∷ 7 ∷ 2 ∷ 2 ∷ 7 ∷ 4 ∷ 2 ∷ 4 ∷ 8 ∷ 2 ∷ 8 ∷ 3 ∷ 2 ∷ 3 ∷ 9 ∷ 2 ∷ 9 ∷ 6 ∷ 2 ∷ 6 ∷ 10 ∷ 6 ∷ 5 ∷ 10 ∷ 3 ∷ 8 ∷ 4 ∷ [])); borders = ((5 ∷ 10 ∷ 4 ∷ 5 ∷ 7 ∷ 4 ∷ 6 ∷ 7 ∷ 9 ∷ 6 ∷ 3 ∷ 9 ∷ 0 ∷ 3 ∷ 2 ∷ 0 ∷ 10 ∷ 2 ∷ [])) }
+    record { lengths = lengths 45 1024; calls = begin (counts 11 15 13 3) ∷ operate Start ∷ operate New ∷ operate New ∷ operate New ∷ operate New ∷ operate New ∷ operate Forward ∷ operate (Split 3) ∷ operate New ∷ operate (Split 2) ∷ operate New ∷ operate (Union 2 3) ∷ operate New ∷ operate Border ∷ operate Border ∷ operate Border ∷ operate Border ∷ operate Border ∷ operate Border ∷ operate Border ∷ operate Border ∷ operate Forward ∷ operate Border ∷ operate Close ∷ finish ∷ []; told = accepted ∷ triangle (tri 0 1 2) ∷ triangle (tri 1 0 3) ∷ triangle (tri 1 3 4) ∷ triangle (tri 1 4 5) ∷ triangle (tri 1 5 6) ∷ triangle (tri 1 6 7) ∷ triangle (tri 1 7 2) ∷ triangle (tri 2 7 4) ∷ triangle (tri 2 4 8) ∷ triangle (tri 2 8 3) ∷ triangle (tri 2 3 9) ∷ triangle (tri 2 9 6) ∷ triangle (tri 2 6 10) ∷ no-triangle ∷ no-triangle ∷ no-triangle ∷ no-triangle ∷ no-triangle ∷ no-triangle ∷ no-triangle ∷ no-triangle ∷ triangle (tri 6 5 10) ∷ no-triangle ∷ triangle (tri 3 8 4) ∷ numbers (totalsOf 27 1 1 (negsuc 0)) ∷ []; machine = ((11 ∷ 27 ∷ 13 ∷ 3 ∷ 1 ∷ 1 ∷ 1 ∷ 0 ∷ 1 ∷ 2 ∷ 1 ∷ 0 ∷ 3 ∷ 1 ∷ 3 ∷ 4 ∷ 1 ∷ 4 ∷ 5 ∷ 1 ∷ 5 ∷ 6 ∷ 1 ∷ 6 ∷ 7 ∷ 1 ∷ 7 ∷ 2 ∷ 2 ∷ 7 ∷ 4 ∷ 2 ∷ 4 ∷ 8 ∷ 2 ∷ 8 ∷ 3 ∷ 2 ∷ 3 ∷ 9 ∷ 2 ∷ 9 ∷ 6 ∷ 2 ∷ 6 ∷ 10 ∷ 6 ∷ 5 ∷ 10 ∷ 3 ∷ 8 ∷ 4 ∷ [])); borders = ((5 ∷ 10 ∷ 4 ∷ 5 ∷ 7 ∷ 4 ∷ 6 ∷ 7 ∷ 9 ∷ 6 ∷ 3 ∷ 9 ∷ 0 ∷ 3 ∷ 2 ∷ 0 ∷ 10 ∷ 2 ∷ [])) }
     ∷
     -- split to c that has a place in a waiting loop too
-    record { rooms = rooms 42 1024; calls = begin (counts 10 14 10 3) ∷ operate Start ∷ operate New ∷ operate New ∷ operate New ∷ operate Border ∷ operate Border ∷ operate New ∷ operate New ∷ operate (Split 3) ∷ operate New ∷ operate New ∷ operate Forward ∷ operate (Split 2) ∷ operate Close ∷ operate Close ∷ operate Border ∷ operate Forward ∷ operate Border ∷ end ∷ []; told = accepted ∷ triangle (tri 0 1 2) ∷ triangle (tri 1 0 3) ∷ triangle (tri 1 3 4) ∷ triangle (tri 1 4 5) ∷ no-triangle ∷ no-triangle ∷ triangle (tri 0 2 6) ∷ triangle (tri 0 6 7) ∷ triangle (tri 0 7 5) ∷ triangle (tri 0 5 8) ∷ triangle (tri 0 8 9) ∷ triangle (tri 0 9 3) ∷ triangle (tri 3 9 5) ∷ triangle (tri 3 5 4) ∷ triangle (tri 5 9 8) ∷ no-triangle ∷ triangle (tri 6 2 7) ∷ no-triangle ∷ numbers (totalsOf 23 1 0 (pos 1)) ∷ []; machine = ((10 ∷ 23 ∷ 10 ∷ 3 ∷ 1 ∷ 0 ∷ 1 ∷ 0 ∷ 1 ∷ 2 ∷ 1 ∷ 0 ∷ 3 ∷ 1 ∷ 3 ∷ 4 ∷ 1 ∷ 4 ∷ 5 ∷ 0 ∷ 2 ∷ 6 ∷ 0 ∷ 6 ∷ 7 ∷ 0 ∷ 7 ∷ 5 ∷ 0 ∷ 5 ∷ 8 ∷ 0 ∷ 8 ∷ 9 ∷ 0 ∷ 9 ∷ 3 ∷ 3 ∷ 9 ∷ 5 ∷ 3 ∷ 5 ∷ 4 ∷ 5 ∷ 9 ∷ 8 ∷ 6 ∷ 2 ∷ 7 ∷ [])); borders = ((2 ∷ 7 ∷ 7 ∷ 5 ∷ 1 ∷ 2 ∷ 5 ∷ 1 ∷ [])) }
+    record { lengths = lengths 42 1024; calls = begin (counts 10 14 10 3) ∷ operate Start ∷ operate New ∷ operate New ∷ operate New ∷ operate Border ∷ operate Border ∷ operate New ∷ operate New ∷ operate (Split 3) ∷ operate New ∷ operate New ∷ operate Forward ∷ operate (Split 2) ∷ operate Close ∷ operate Close ∷ operate Border ∷ operate Forward ∷ operate Border ∷ finish ∷ []; told = accepted ∷ triangle (tri 0 1 2) ∷ triangle (tri 1 0 3) ∷ triangle (tri 1 3 4) ∷ triangle (tri 1 4 5) ∷ no-triangle ∷ no-triangle ∷ triangle (tri 0 2 6) ∷ triangle (tri 0 6 7) ∷ triangle (tri 0 7 5) ∷ triangle (tri 0 5 8) ∷ triangle (tri 0 8 9) ∷ triangle (tri 0 9 3) ∷ triangle (tri 3 9 5) ∷ triangle (tri 3 5 4) ∷ triangle (tri 5 9 8) ∷ no-triangle ∷ triangle (tri 6 2 7) ∷ no-triangle ∷ numbers (totalsOf 23 1 0 (pos 1)) ∷ []; machine = ((10 ∷ 23 ∷ 10 ∷ 3 ∷ 1 ∷ 0 ∷ 1 ∷ 0 ∷ 1 ∷ 2 ∷ 1 ∷ 0 ∷ 3 ∷ 1 ∷ 3 ∷ 4 ∷ 1 ∷ 4 ∷ 5 ∷ 0 ∷ 2 ∷ 6 ∷ 0 ∷ 6 ∷ 7 ∷ 0 ∷ 7 ∷ 5 ∷ 0 ∷ 5 ∷ 8 ∷ 0 ∷ 8 ∷ 9 ∷ 0 ∷ 9 ∷ 3 ∷ 3 ∷ 9 ∷ 5 ∷ 3 ∷ 5 ∷ 4 ∷ 5 ∷ 9 ∷ 8 ∷ 6 ∷ 2 ∷ 7 ∷ [])); borders = ((2 ∷ 7 ∷ 7 ∷ 5 ∷ 1 ∷ 2 ∷ 5 ∷ 1 ∷ [])) }
     ∷
     -- union from a loop of two places
-    record { rooms = rooms 39 1024; calls = begin (counts 10 13 8 2) ∷ operate Start ∷ operate Border ∷ operate New ∷ operate New ∷ operate New ∷ operate New ∷ operate Border ∷ operate Border ∷ operate (Split 3) ∷ operate (Union 1 2) ∷ operate New ∷ operate Border ∷ operate Border ∷ operate Border ∷ operate New ∷ operate Forward ∷ operate Border ∷ operate New ∷ operate Forward ∷ operate Backward ∷ operate Border ∷ operate Border ∷ end ∷ []; told = accepted ∷ triangle (tri 0 1 2) ∷ no-triangle ∷ triangle (tri 2 1 3) ∷ triangle (tri 2 3 4) ∷ triangle (tri 2 4 5) ∷ triangle (tri 2 5 6) ∷ no-triangle ∷ no-triangle ∷ triangle (tri 3 1 6) ∷ triangle (tri 6 1 4) ∷ triangle (tri 6 4 7) ∷ no-triangle ∷ no-triangle ∷ no-triangle ∷ triangle (tri 6 5 8) ∷ triangle (tri 6 8 3) ∷ no-triangle ∷ triangle (tri 4 3 9) ∷ triangle (tri 4 9 7) ∷ triangle (tri 7 9 3) ∷ no-triangle ∷ no-triangle ∷ numbers (totalsOf 24 1 1 (negsuc 0)) ∷ []; machine = ((10 ∷ 24 ∷ 8 ∷ 2 ∷ 1 ∷ 1 ∷ 1 ∷ 0 ∷ 1 ∷ 2 ∷ 2 ∷ 1 ∷ 3 ∷ 2 ∷ 3 ∷ 4 ∷ 2 ∷ 4 ∷ 5 ∷ 2 ∷ 5 ∷ 6 ∷ 3 ∷ 1 ∷ 6 ∷ 6 ∷ 1 ∷ 4 ∷ 6 ∷ 4 ∷ 7 ∷ 6 ∷ 5 ∷ 8 ∷ 6 ∷ 8 ∷ 3 ∷ 4 ∷ 3 ∷ 9 ∷ 4 ∷ 9 ∷ 7 ∷ 7 ∷ 9 ∷ 3 ∷ [])); borders = ((5 ∷ 8 ∷ 3 ∷ 7 ∷ 8 ∷ 3 ∷ 4 ∷ 5 ∷ 1 ∷ 4 ∷ 7 ∷ 6 ∷ 2 ∷ 0 ∷ 6 ∷ 2 ∷ 0 ∷ 1 ∷ [])) }
+    record { lengths = lengths 39 1024; calls = begin (counts 10 13 8 2) ∷ operate Start ∷ operate Border ∷ operate New ∷ operate New ∷ operate New ∷ operate New ∷ operate Border ∷ operate Border ∷ operate (Split 3) ∷ operate (Union 1 2) ∷ operate New ∷ operate Border ∷ operate Border ∷ operate Border ∷ operate New ∷ operate Forward ∷ operate Border ∷ operate New ∷ operate Forward ∷ operate Backward ∷ operate Border ∷ operate Border ∷ finish ∷ []; told = accepted ∷ triangle (tri 0 1 2) ∷ no-triangle ∷ triangle (tri 2 1 3) ∷ triangle (tri 2 3 4) ∷ triangle (tri 2 4 5) ∷ triangle (tri 2 5 6) ∷ no-triangle ∷ no-triangle ∷ triangle (tri 3 1 6) ∷ triangle (tri 6 1 4) ∷ triangle (tri 6 4 7) ∷ no-triangle ∷ no-triangle ∷ no-triangle ∷ triangle (tri 6 5 8) ∷ triangle (tri 6 8 3) ∷ no-triangle ∷ triangle (tri 4 3 9) ∷ triangle (tri 4 9 7) ∷ triangle (tri 7 9 3) ∷ no-triangle ∷ no-triangle ∷ numbers (totalsOf 24 1 1 (negsuc 0)) ∷ []; machine = ((10 ∷ 24 ∷ 8 ∷ 2 ∷ 1 ∷ 1 ∷ 1 ∷ 0 ∷ 1 ∷ 2 ∷ 2 ∷ 1 ∷ 3 ∷ 2 ∷ 3 ∷ 4 ∷ 2 ∷ 4 ∷ 5 ∷ 2 ∷ 5 ∷ 6 ∷ 3 ∷ 1 ∷ 6 ∷ 6 ∷ 1 ∷ 4 ∷ 6 ∷ 4 ∷ 7 ∷ 6 ∷ 5 ∷ 8 ∷ 6 ∷ 8 ∷ 3 ∷ 4 ∷ 3 ∷ 9 ∷ 4 ∷ 9 ∷ 7 ∷ 7 ∷ 9 ∷ 3 ∷ [])); borders = ((5 ∷ 8 ∷ 3 ∷ 7 ∷ 8 ∷ 3 ∷ 4 ∷ 5 ∷ 1 ∷ 4 ∷ 7 ∷ 6 ∷ 2 ∷ 0 ∷ 6 ∷ 2 ∷ 0 ∷ 1 ∷ [])) }
     ∷
     -- union from a loop of two places, then a split past links
-    record { rooms = rooms 42 1024; calls = begin (counts 12 14 8 2) ∷ operate Start ∷ operate New ∷ operate New ∷ operate New ∷ operate Forward ∷ operate Border ∷ operate New ∷ operate (Split 3) ∷ operate Border ∷ operate New ∷ operate New ∷ operate Border ∷ operate Border ∷ operate (Union 1 2) ∷ operate (Split 4) ∷ operate Close ∷ operate Backward ∷ operate Border ∷ operate Border ∷ operate Border ∷ operate Start ∷ operate Border ∷ operate Border ∷ operate Border ∷ end ∷ []; told = accepted ∷ triangle (tri 0 1 2) ∷ triangle (tri 1 0 3) ∷ triangle (tri 1 3 4) ∷ triangle (tri 1 4 5) ∷ triangle (tri 1 5 2) ∷ no-triangle ∷ triangle (tri 0 2 6) ∷ triangle (tri 0 6 5) ∷ no-triangle ∷ triangle (tri 6 2 7) ∷ triangle (tri 6 7 8) ∷ no-triangle ∷ no-triangle ∷ triangle (tri 8 7 3) ∷ triangle (tri 8 3 5) ∷ triangle (tri 5 3 0) ∷ triangle (tri 8 5 4) ∷ no-triangle ∷ no-triangle ∷ no-triangle ∷ triangle (tri 9 10 11) ∷ no-triangle ∷ no-triangle ∷ no-triangle ∷ numbers (totalsOf 26 2 1 (pos 0)) ∷ []; machine = ((12 ∷ 26 ∷ 8 ∷ 2 ∷ 2 ∷ 1 ∷ 2 ∷ 0 ∷ 1 ∷ 2 ∷ 1 ∷ 0 ∷ 3 ∷ 1 ∷ 3 ∷ 4 ∷ 1 ∷ 4 ∷ 5 ∷ 1 ∷ 5 ∷ 2 ∷ 0 ∷ 2 ∷ 6 ∷ 0 ∷ 6 ∷ 5 ∷ 6 ∷ 2 ∷ 7 ∷ 6 ∷ 7 ∷ 8 ∷ 8 ∷ 7 ∷ 3 ∷ 8 ∷ 3 ∷ 5 ∷ 5 ∷ 3 ∷ 0 ∷ 8 ∷ 5 ∷ 4 ∷ 9 ∷ 10 ∷ 11 ∷ [])); borders = ((11 ∷ 9 ∷ 10 ∷ 11 ∷ 9 ∷ 10 ∷ 3 ∷ 4 ∷ 7 ∷ 3 ∷ 4 ∷ 8 ∷ 2 ∷ 7 ∷ 8 ∷ 6 ∷ 6 ∷ 5 ∷ 5 ∷ 2 ∷ [])) }
+    record { lengths = lengths 42 1024; calls = begin (counts 12 14 8 2) ∷ operate Start ∷ operate New ∷ operate New ∷ operate New ∷ operate Forward ∷ operate Border ∷ operate New ∷ operate (Split 3) ∷ operate Border ∷ operate New ∷ operate New ∷ operate Border ∷ operate Border ∷ operate (Union 1 2) ∷ operate (Split 4) ∷ operate Close ∷ operate Backward ∷ operate Border ∷ operate Border ∷ operate Border ∷ operate Start ∷ operate Border ∷ operate Border ∷ operate Border ∷ finish ∷ []; told = accepted ∷ triangle (tri 0 1 2) ∷ triangle (tri 1 0 3) ∷ triangle (tri 1 3 4) ∷ triangle (tri 1 4 5) ∷ triangle (tri 1 5 2) ∷ no-triangle ∷ triangle (tri 0 2 6) ∷ triangle (tri 0 6 5) ∷ no-triangle ∷ triangle (tri 6 2 7) ∷ triangle (tri 6 7 8) ∷ no-triangle ∷ no-triangle ∷ triangle (tri 8 7 3) ∷ triangle (tri 8 3 5) ∷ triangle (tri 5 3 0) ∷ triangle (tri 8 5 4) ∷ no-triangle ∷ no-triangle ∷ no-triangle ∷ triangle (tri 9 10 11) ∷ no-triangle ∷ no-triangle ∷ no-triangle ∷ numbers (totalsOf 26 2 1 (pos 0)) ∷ []; machine = ((12 ∷ 26 ∷ 8 ∷ 2 ∷ 2 ∷ 1 ∷ 2 ∷ 0 ∷ 1 ∷ 2 ∷ 1 ∷ 0 ∷ 3 ∷ 1 ∷ 3 ∷ 4 ∷ 1 ∷ 4 ∷ 5 ∷ 1 ∷ 5 ∷ 2 ∷ 0 ∷ 2 ∷ 6 ∷ 0 ∷ 6 ∷ 5 ∷ 6 ∷ 2 ∷ 7 ∷ 6 ∷ 7 ∷ 8 ∷ 8 ∷ 7 ∷ 3 ∷ 8 ∷ 3 ∷ 5 ∷ 5 ∷ 3 ∷ 0 ∷ 8 ∷ 5 ∷ 4 ∷ 9 ∷ 10 ∷ 11 ∷ [])); borders = ((11 ∷ 9 ∷ 10 ∷ 11 ∷ 9 ∷ 10 ∷ 3 ∷ 4 ∷ 7 ∷ 3 ∷ 4 ∷ 8 ∷ 2 ∷ 7 ∷ 8 ∷ 6 ∷ 6 ∷ 5 ∷ 5 ∷ 2 ∷ [])) }
     ∷
     -- union to c that has two places in the waiting loop
-    record { rooms = rooms 66 1024; calls = begin (counts 15 22 13 2) ∷ operate Start ∷ operate New ∷ operate New ∷ operate New ∷ operate New ∷ operate New ∷ operate New ∷ operate Border ∷ operate New ∷ operate New ∷ operate (Split 5) ∷ operate Border ∷ operate Border ∷ operate (Union 1 1) ∷ operate Backward ∷ operate Border ∷ operate Border ∷ operate (Split 5) ∷ operate (Union 1 4) ∷ operate New ∷ operate Border ∷ operate Border ∷ operate Border ∷ operate Forward ∷ operate Border ∷ operate New ∷ operate New ∷ operate Forward ∷ operate Backward ∷ operate New ∷ operate Border ∷ operate Border ∷ operate Forward ∷ operate Border ∷ operate Border ∷ operate Border ∷ end ∷ []; told = accepted ∷ triangle (tri 0 1 2) ∷ triangle (tri 1 0 3) ∷ triangle (tri 1 3 4) ∷ triangle (tri 1 4 5) ∷ triangle (tri 1 5 6) ∷ triangle (tri 1 6 7) ∷ triangle (tri 1 7 8) ∷ no-triangle ∷ triangle (tri 2 1 9) ∷ triangle (tri 2 9 10) ∷ triangle (tri 2 10 6) ∷ no-triangle ∷ no-triangle ∷ triangle (tri 3 0 6) ∷ triangle (tri 3 6 10) ∷ no-triangle ∷ no-triangle ∷ triangle (tri 5 4 8) ∷ triangle (tri 8 4 6) ∷ triangle (tri 8 6 11) ∷ no-triangle ∷ no-triangle ∷ no-triangle ∷ triangle (tri 6 4 7) ∷ no-triangle ∷ triangle (tri 8 7 12) ∷ triangle (tri 8 12 13) ∷ triangle (tri 8 13 5) ∷ triangle (tri 5 13 12) ∷ triangle (tri 5 12 14) ∷ no-triangle ∷ no-triangle ∷ triangle (tri 6 0 11) ∷ no-triangle ∷ no-triangle ∷ no-triangle ∷ numbers (totalsOf 40 1 2 (negsuc 2)) ∷ []; machine = ((15 ∷ 40 ∷ 13 ∷ 2 ∷ 1 ∷ 2 ∷ 1 ∷ 0 ∷ 1 ∷ 2 ∷ 1 ∷ 0 ∷ 3 ∷ 1 ∷ 3 ∷ 4 ∷ 1 ∷ 4 ∷ 5 ∷ 1 ∷ 5 ∷ 6 ∷ 1 ∷ 6 ∷ 7 ∷ 1 ∷ 7 ∷ 8 ∷ 2 ∷ 1 ∷ 9 ∷ 2 ∷ 9 ∷ 10 ∷ 2 ∷ 10 ∷ 6 ∷ 3 ∷ 0 ∷ 6 ∷ 3 ∷ 6 ∷ 10 ∷ 5 ∷ 4 ∷ 8 ∷ 8 ∷ 4 ∷ 6 ∷ 8 ∷ 6 ∷ 11 ∷ 6 ∷ 4 ∷ 7 ∷ 8 ∷ 7 ∷ 12 ∷ 8 ∷ 12 ∷ 13 ∷ 8 ∷ 13 ∷ 5 ∷ 5 ∷ 13 ∷ 12 ∷ 5 ∷ 12 ∷ 14 ∷ 6 ∷ 0 ∷ 11 ∷ [])); borders = ((12 ∷ 14 ∷ 7 ∷ 12 ∷ 0 ∷ 11 ∷ 5 ∷ 6 ∷ 14 ∷ 5 ∷ 4 ∷ 7 ∷ 9 ∷ 10 ∷ 1 ∷ 9 ∷ 11 ∷ 8 ∷ 3 ∷ 4 ∷ 10 ∷ 3 ∷ 2 ∷ 0 ∷ 6 ∷ 2 ∷ 8 ∷ 1 ∷ [])) }
+    record { lengths = lengths 66 1024; calls = begin (counts 15 22 13 2) ∷ operate Start ∷ operate New ∷ operate New ∷ operate New ∷ operate New ∷ operate New ∷ operate New ∷ operate Border ∷ operate New ∷ operate New ∷ operate (Split 5) ∷ operate Border ∷ operate Border ∷ operate (Union 1 1) ∷ operate Backward ∷ operate Border ∷ operate Border ∷ operate (Split 5) ∷ operate (Union 1 4) ∷ operate New ∷ operate Border ∷ operate Border ∷ operate Border ∷ operate Forward ∷ operate Border ∷ operate New ∷ operate New ∷ operate Forward ∷ operate Backward ∷ operate New ∷ operate Border ∷ operate Border ∷ operate Forward ∷ operate Border ∷ operate Border ∷ operate Border ∷ finish ∷ []; told = accepted ∷ triangle (tri 0 1 2) ∷ triangle (tri 1 0 3) ∷ triangle (tri 1 3 4) ∷ triangle (tri 1 4 5) ∷ triangle (tri 1 5 6) ∷ triangle (tri 1 6 7) ∷ triangle (tri 1 7 8) ∷ no-triangle ∷ triangle (tri 2 1 9) ∷ triangle (tri 2 9 10) ∷ triangle (tri 2 10 6) ∷ no-triangle ∷ no-triangle ∷ triangle (tri 3 0 6) ∷ triangle (tri 3 6 10) ∷ no-triangle ∷ no-triangle ∷ triangle (tri 5 4 8) ∷ triangle (tri 8 4 6) ∷ triangle (tri 8 6 11) ∷ no-triangle ∷ no-triangle ∷ no-triangle ∷ triangle (tri 6 4 7) ∷ no-triangle ∷ triangle (tri 8 7 12) ∷ triangle (tri 8 12 13) ∷ triangle (tri 8 13 5) ∷ triangle (tri 5 13 12) ∷ triangle (tri 5 12 14) ∷ no-triangle ∷ no-triangle ∷ triangle (tri 6 0 11) ∷ no-triangle ∷ no-triangle ∷ no-triangle ∷ numbers (totalsOf 40 1 2 (negsuc 2)) ∷ []; machine = ((15 ∷ 40 ∷ 13 ∷ 2 ∷ 1 ∷ 2 ∷ 1 ∷ 0 ∷ 1 ∷ 2 ∷ 1 ∷ 0 ∷ 3 ∷ 1 ∷ 3 ∷ 4 ∷ 1 ∷ 4 ∷ 5 ∷ 1 ∷ 5 ∷ 6 ∷ 1 ∷ 6 ∷ 7 ∷ 1 ∷ 7 ∷ 8 ∷ 2 ∷ 1 ∷ 9 ∷ 2 ∷ 9 ∷ 10 ∷ 2 ∷ 10 ∷ 6 ∷ 3 ∷ 0 ∷ 6 ∷ 3 ∷ 6 ∷ 10 ∷ 5 ∷ 4 ∷ 8 ∷ 8 ∷ 4 ∷ 6 ∷ 8 ∷ 6 ∷ 11 ∷ 6 ∷ 4 ∷ 7 ∷ 8 ∷ 7 ∷ 12 ∷ 8 ∷ 12 ∷ 13 ∷ 8 ∷ 13 ∷ 5 ∷ 5 ∷ 13 ∷ 12 ∷ 5 ∷ 12 ∷ 14 ∷ 6 ∷ 0 ∷ 11 ∷ [])); borders = ((12 ∷ 14 ∷ 7 ∷ 12 ∷ 0 ∷ 11 ∷ 5 ∷ 6 ∷ 14 ∷ 5 ∷ 4 ∷ 7 ∷ 9 ∷ 10 ∷ 1 ∷ 9 ∷ 11 ∷ 8 ∷ 3 ∷ 4 ∷ 10 ∷ 3 ∷ 2 ∷ 0 ∷ 6 ∷ 2 ∷ 8 ∷ 1 ∷ [])) }
     ∷
     -- torus of seven vertices
-    record { rooms = rooms 42 1024; calls = begin (counts 7 14 8 2) ∷ operate Start ∷ operate New ∷ operate New ∷ operate New ∷ operate New ∷ operate Forward ∷ operate (Split 3) ∷ operate (Union 1 2) ∷ operate Forward ∷ operate Backward ∷ operate (Split 3) ∷ operate Close ∷ operate Forward ∷ operate Close ∷ end ∷ []; told = accepted ∷ triangle (tri 0 1 2) ∷ triangle (tri 1 0 3) ∷ triangle (tri 1 3 4) ∷ triangle (tri 1 4 5) ∷ triangle (tri 1 5 6) ∷ triangle (tri 1 6 2) ∷ triangle (tri 2 6 4) ∷ triangle (tri 4 6 0) ∷ triangle (tri 4 0 5) ∷ triangle (tri 5 0 2) ∷ triangle (tri 5 2 3) ∷ triangle (tri 3 2 4) ∷ triangle (tri 5 3 6) ∷ triangle (tri 6 3 0) ∷ numbers (totalsOf 21 0 1 (pos 0)) ∷ []; machine = ((7 ∷ 21 ∷ 8 ∷ 2 ∷ 1 ∷ 1 ∷ 0 ∷ 0 ∷ 1 ∷ 2 ∷ 1 ∷ 0 ∷ 3 ∷ 1 ∷ 3 ∷ 4 ∷ 1 ∷ 4 ∷ 5 ∷ 1 ∷ 5 ∷ 6 ∷ 1 ∷ 6 ∷ 2 ∷ 2 ∷ 6 ∷ 4 ∷ 4 ∷ 6 ∷ 0 ∷ 4 ∷ 0 ∷ 5 ∷ 5 ∷ 0 ∷ 2 ∷ 5 ∷ 2 ∷ 3 ∷ 3 ∷ 2 ∷ 4 ∷ 5 ∷ 3 ∷ 6 ∷ 6 ∷ 3 ∷ 0 ∷ [])); borders = [] }
+    record { lengths = lengths 42 1024; calls = begin (counts 7 14 8 2) ∷ operate Start ∷ operate New ∷ operate New ∷ operate New ∷ operate New ∷ operate Forward ∷ operate (Split 3) ∷ operate (Union 1 2) ∷ operate Forward ∷ operate Backward ∷ operate (Split 3) ∷ operate Close ∷ operate Forward ∷ operate Close ∷ finish ∷ []; told = accepted ∷ triangle (tri 0 1 2) ∷ triangle (tri 1 0 3) ∷ triangle (tri 1 3 4) ∷ triangle (tri 1 4 5) ∷ triangle (tri 1 5 6) ∷ triangle (tri 1 6 2) ∷ triangle (tri 2 6 4) ∷ triangle (tri 4 6 0) ∷ triangle (tri 4 0 5) ∷ triangle (tri 5 0 2) ∷ triangle (tri 5 2 3) ∷ triangle (tri 3 2 4) ∷ triangle (tri 5 3 6) ∷ triangle (tri 6 3 0) ∷ numbers (totalsOf 21 0 1 (pos 0)) ∷ []; machine = ((7 ∷ 21 ∷ 8 ∷ 2 ∷ 1 ∷ 1 ∷ 0 ∷ 0 ∷ 1 ∷ 2 ∷ 1 ∷ 0 ∷ 3 ∷ 1 ∷ 3 ∷ 4 ∷ 1 ∷ 4 ∷ 5 ∷ 1 ∷ 5 ∷ 6 ∷ 1 ∷ 6 ∷ 2 ∷ 2 ∷ 6 ∷ 4 ∷ 4 ∷ 6 ∷ 0 ∷ 4 ∷ 0 ∷ 5 ∷ 5 ∷ 0 ∷ 2 ∷ 5 ∷ 2 ∷ 3 ∷ 3 ∷ 2 ∷ 4 ∷ 5 ∷ 3 ∷ 6 ∷ 6 ∷ 3 ∷ 0 ∷ [])); borders = [] }
     ∷
     -- a loop of two places, which new makes longer; f leaves; three places are the peak, in full loops four
-    record { rooms = rooms 6 1024; calls = begin (counts 4 2 3 1) ∷ operate Start ∷ operate Border ∷ operate Border ∷ operate New ∷ operate Border ∷ operate Border ∷ end ∷ []; told = accepted ∷ triangle (tri 0 1 2) ∷ no-triangle ∷ no-triangle ∷ triangle (tri 0 2 3) ∷ no-triangle ∷ no-triangle ∷ numbers (totalsOf 5 1 0 (pos 1)) ∷ []; machine = ((4 ∷ 5 ∷ 3 ∷ 1 ∷ 1 ∷ 0 ∷ 1 ∷ 0 ∷ 1 ∷ 2 ∷ 0 ∷ 2 ∷ 3 ∷ [])); borders = ((2 ∷ 3 ∷ 3 ∷ 0 ∷ 1 ∷ 2 ∷ 0 ∷ 1 ∷ [])) }
+    record { lengths = lengths 6 1024; calls = begin (counts 4 2 3 1) ∷ operate Start ∷ operate Border ∷ operate Border ∷ operate New ∷ operate Border ∷ operate Border ∷ finish ∷ []; told = accepted ∷ triangle (tri 0 1 2) ∷ no-triangle ∷ no-triangle ∷ triangle (tri 0 2 3) ∷ no-triangle ∷ no-triangle ∷ numbers (totalsOf 5 1 0 (pos 1)) ∷ []; machine = ((4 ∷ 5 ∷ 3 ∷ 1 ∷ 1 ∷ 0 ∷ 1 ∷ 0 ∷ 1 ∷ 2 ∷ 0 ∷ 2 ∷ 3 ∷ [])); borders = ((2 ∷ 3 ∷ 3 ∷ 0 ∷ 1 ∷ 2 ∷ 0 ∷ 1 ∷ [])) }
     ∷
     -- both places of an edge leave
-    record { rooms = rooms 6 1024; calls = begin (counts 4 2 4 1) ∷ operate Start ∷ operate Border ∷ operate New ∷ operate Border ∷ operate Border ∷ operate Border ∷ end ∷ []; told = accepted ∷ triangle (tri 0 1 2) ∷ no-triangle ∷ triangle (tri 2 1 3) ∷ no-triangle ∷ no-triangle ∷ no-triangle ∷ numbers (totalsOf 5 1 0 (pos 1)) ∷ []; machine = ((4 ∷ 5 ∷ 4 ∷ 1 ∷ 1 ∷ 0 ∷ 1 ∷ 0 ∷ 1 ∷ 2 ∷ 2 ∷ 1 ∷ 3 ∷ [])); borders = ((1 ∷ 3 ∷ 2 ∷ 0 ∷ 3 ∷ 2 ∷ 0 ∷ 1 ∷ [])) }
+    record { lengths = lengths 6 1024; calls = begin (counts 4 2 4 1) ∷ operate Start ∷ operate Border ∷ operate New ∷ operate Border ∷ operate Border ∷ operate Border ∷ finish ∷ []; told = accepted ∷ triangle (tri 0 1 2) ∷ no-triangle ∷ triangle (tri 2 1 3) ∷ no-triangle ∷ no-triangle ∷ no-triangle ∷ numbers (totalsOf 5 1 0 (pos 1)) ∷ []; machine = ((4 ∷ 5 ∷ 4 ∷ 1 ∷ 1 ∷ 0 ∷ 1 ∷ 0 ∷ 1 ∷ 2 ∷ 2 ∷ 1 ∷ 3 ∷ [])); borders = ((1 ∷ 3 ∷ 2 ∷ 0 ∷ 3 ∷ 2 ∷ 0 ∷ 1 ∷ [])) }
     ∷
     -- split 1 across a link
-    record { rooms = rooms 18 1024; calls = begin (counts 6 6 6 2) ∷ operate Start ∷ operate New ∷ operate Border ∷ operate Border ∷ operate New ∷ operate Border ∷ operate New ∷ operate (Split 1) ∷ operate Border ∷ operate Forward ∷ operate Border ∷ operate Border ∷ end ∷ []; told = accepted ∷ triangle (tri 0 1 2) ∷ triangle (tri 1 0 3) ∷ no-triangle ∷ no-triangle ∷ triangle (tri 0 2 4) ∷ no-triangle ∷ triangle (tri 3 0 5) ∷ triangle (tri 3 5 2) ∷ no-triangle ∷ triangle (tri 2 5 4) ∷ no-triangle ∷ no-triangle ∷ numbers (totalsOf 12 2 0 (pos 0)) ∷ []; machine = ((6 ∷ 12 ∷ 6 ∷ 2 ∷ 1 ∷ 0 ∷ 2 ∷ 0 ∷ 1 ∷ 2 ∷ 1 ∷ 0 ∷ 3 ∷ 0 ∷ 2 ∷ 4 ∷ 3 ∷ 0 ∷ 5 ∷ 3 ∷ 5 ∷ 2 ∷ 2 ∷ 5 ∷ 4 ∷ [])); borders = ((0 ∷ 5 ∷ 5 ∷ 4 ∷ 2 ∷ 3 ∷ 4 ∷ 0 ∷ 1 ∷ 2 ∷ 3 ∷ 1 ∷ [])) }
+    record { lengths = lengths 18 1024; calls = begin (counts 6 6 6 2) ∷ operate Start ∷ operate New ∷ operate Border ∷ operate Border ∷ operate New ∷ operate Border ∷ operate New ∷ operate (Split 1) ∷ operate Border ∷ operate Forward ∷ operate Border ∷ operate Border ∷ finish ∷ []; told = accepted ∷ triangle (tri 0 1 2) ∷ triangle (tri 1 0 3) ∷ no-triangle ∷ no-triangle ∷ triangle (tri 0 2 4) ∷ no-triangle ∷ triangle (tri 3 0 5) ∷ triangle (tri 3 5 2) ∷ no-triangle ∷ triangle (tri 2 5 4) ∷ no-triangle ∷ no-triangle ∷ numbers (totalsOf 12 2 0 (pos 0)) ∷ []; machine = ((6 ∷ 12 ∷ 6 ∷ 2 ∷ 1 ∷ 0 ∷ 2 ∷ 0 ∷ 1 ∷ 2 ∷ 1 ∷ 0 ∷ 3 ∷ 0 ∷ 2 ∷ 4 ∷ 3 ∷ 0 ∷ 5 ∷ 3 ∷ 5 ∷ 2 ∷ 2 ∷ 5 ∷ 4 ∷ [])); borders = ((0 ∷ 5 ∷ 5 ∷ 4 ∷ 2 ∷ 3 ∷ 4 ∷ 0 ∷ 1 ∷ 2 ∷ 3 ∷ 1 ∷ [])) }
     ∷
     -- split of equal halves, next to a marked edge
-    record { rooms = rooms 15 1024; calls = begin (counts 5 5 6 2) ∷ operate Start ∷ operate New ∷ operate Border ∷ operate New ∷ operate (Split 2) ∷ operate Close ∷ operate Border ∷ operate Border ∷ end ∷ []; told = accepted ∷ triangle (tri 0 1 2) ∷ triangle (tri 1 0 3) ∷ no-triangle ∷ triangle (tri 2 1 4) ∷ triangle (tri 2 4 3) ∷ triangle (tri 2 3 0) ∷ no-triangle ∷ no-triangle ∷ numbers (totalsOf 9 1 0 (pos 1)) ∷ []; machine = ((5 ∷ 9 ∷ 6 ∷ 2 ∷ 1 ∷ 0 ∷ 1 ∷ 0 ∷ 1 ∷ 2 ∷ 1 ∷ 0 ∷ 3 ∷ 2 ∷ 1 ∷ 4 ∷ 2 ∷ 4 ∷ 3 ∷ 2 ∷ 3 ∷ 0 ∷ [])); borders = ((1 ∷ 4 ∷ 4 ∷ 3 ∷ 3 ∷ 1 ∷ [])) }
+    record { lengths = lengths 15 1024; calls = begin (counts 5 5 6 2) ∷ operate Start ∷ operate New ∷ operate Border ∷ operate New ∷ operate (Split 2) ∷ operate Close ∷ operate Border ∷ operate Border ∷ finish ∷ []; told = accepted ∷ triangle (tri 0 1 2) ∷ triangle (tri 1 0 3) ∷ no-triangle ∷ triangle (tri 2 1 4) ∷ triangle (tri 2 4 3) ∷ triangle (tri 2 3 0) ∷ no-triangle ∷ no-triangle ∷ numbers (totalsOf 9 1 0 (pos 1)) ∷ []; machine = ((5 ∷ 9 ∷ 6 ∷ 2 ∷ 1 ∷ 0 ∷ 1 ∷ 0 ∷ 1 ∷ 2 ∷ 1 ∷ 0 ∷ 3 ∷ 2 ∷ 1 ∷ 4 ∷ 2 ∷ 4 ∷ 3 ∷ 2 ∷ 3 ∷ 0 ∷ [])); borders = ((1 ∷ 4 ∷ 4 ∷ 3 ∷ 3 ∷ 1 ∷ [])) }
     ∷
     -- split 2 past a link; of halves equal in places the first goes on, in full loops the second would
-    record { rooms = rooms 18 1024; calls = begin (counts 6 6 6 2) ∷ operate Start ∷ operate New ∷ operate Border ∷ operate Border ∷ operate New ∷ operate Border ∷ operate New ∷ operate (Split 2) ∷ operate Backward ∷ operate Border ∷ operate Border ∷ operate Border ∷ end ∷ []; told = accepted ∷ triangle (tri 0 1 2) ∷ triangle (tri 1 0 3) ∷ no-triangle ∷ no-triangle ∷ triangle (tri 0 2 4) ∷ no-triangle ∷ triangle (tri 3 0 5) ∷ triangle (tri 3 5 4) ∷ triangle (tri 3 4 2) ∷ no-triangle ∷ no-triangle ∷ no-triangle ∷ numbers (totalsOf 12 2 0 (pos 0)) ∷ []; machine = ((6 ∷ 12 ∷ 6 ∷ 2 ∷ 1 ∷ 0 ∷ 2 ∷ 0 ∷ 1 ∷ 2 ∷ 1 ∷ 0 ∷ 3 ∷ 0 ∷ 2 ∷ 4 ∷ 3 ∷ 0 ∷ 5 ∷ 3 ∷ 5 ∷ 4 ∷ 3 ∷ 4 ∷ 2 ∷ [])); borders = ((0 ∷ 5 ∷ 5 ∷ 4 ∷ 2 ∷ 3 ∷ 4 ∷ 0 ∷ 1 ∷ 2 ∷ 3 ∷ 1 ∷ [])) }
+    record { lengths = lengths 18 1024; calls = begin (counts 6 6 6 2) ∷ operate Start ∷ operate New ∷ operate Border ∷ operate Border ∷ operate New ∷ operate Border ∷ operate New ∷ operate (Split 2) ∷ operate Backward ∷ operate Border ∷ operate Border ∷ operate Border ∷ finish ∷ []; told = accepted ∷ triangle (tri 0 1 2) ∷ triangle (tri 1 0 3) ∷ no-triangle ∷ no-triangle ∷ triangle (tri 0 2 4) ∷ no-triangle ∷ triangle (tri 3 0 5) ∷ triangle (tri 3 5 4) ∷ triangle (tri 3 4 2) ∷ no-triangle ∷ no-triangle ∷ no-triangle ∷ numbers (totalsOf 12 2 0 (pos 0)) ∷ []; machine = ((6 ∷ 12 ∷ 6 ∷ 2 ∷ 1 ∷ 0 ∷ 2 ∷ 0 ∷ 1 ∷ 2 ∷ 1 ∷ 0 ∷ 3 ∷ 0 ∷ 2 ∷ 4 ∷ 3 ∷ 0 ∷ 5 ∷ 3 ∷ 5 ∷ 4 ∷ 3 ∷ 4 ∷ 2 ∷ [])); borders = ((0 ∷ 5 ∷ 5 ∷ 4 ∷ 2 ∷ 3 ∷ 4 ∷ 0 ∷ 1 ∷ 2 ∷ 3 ∷ 1 ∷ [])) }
     ∷
     -- split 1; the first part has fewer places, in full loops as many
-    record { rooms = rooms 21 1024; calls = begin (counts 6 7 5 2) ∷ operate Start ∷ operate New ∷ operate Border ∷ operate Border ∷ operate New ∷ operate New ∷ operate Forward ∷ operate (Split 1) ∷ operate Border ∷ operate Close ∷ end ∷ []; told = accepted ∷ triangle (tri 0 1 2) ∷ triangle (tri 1 0 3) ∷ no-triangle ∷ no-triangle ∷ triangle (tri 0 2 4) ∷ triangle (tri 0 4 5) ∷ triangle (tri 0 5 3) ∷ triangle (tri 3 5 2) ∷ no-triangle ∷ triangle (tri 2 5 4) ∷ numbers (totalsOf 12 1 0 (pos 1)) ∷ []; machine = ((6 ∷ 12 ∷ 5 ∷ 2 ∷ 1 ∷ 0 ∷ 1 ∷ 0 ∷ 1 ∷ 2 ∷ 1 ∷ 0 ∷ 3 ∷ 0 ∷ 2 ∷ 4 ∷ 0 ∷ 4 ∷ 5 ∷ 0 ∷ 5 ∷ 3 ∷ 3 ∷ 5 ∷ 2 ∷ 2 ∷ 5 ∷ 4 ∷ [])); borders = ((2 ∷ 3 ∷ 1 ∷ 2 ∷ 3 ∷ 1 ∷ [])) }
+    record { lengths = lengths 21 1024; calls = begin (counts 6 7 5 2) ∷ operate Start ∷ operate New ∷ operate Border ∷ operate Border ∷ operate New ∷ operate New ∷ operate Forward ∷ operate (Split 1) ∷ operate Border ∷ operate Close ∷ finish ∷ []; told = accepted ∷ triangle (tri 0 1 2) ∷ triangle (tri 1 0 3) ∷ no-triangle ∷ no-triangle ∷ triangle (tri 0 2 4) ∷ triangle (tri 0 4 5) ∷ triangle (tri 0 5 3) ∷ triangle (tri 3 5 2) ∷ no-triangle ∷ triangle (tri 2 5 4) ∷ numbers (totalsOf 12 1 0 (pos 1)) ∷ []; machine = ((6 ∷ 12 ∷ 5 ∷ 2 ∷ 1 ∷ 0 ∷ 1 ∷ 0 ∷ 1 ∷ 2 ∷ 1 ∷ 0 ∷ 3 ∷ 0 ∷ 2 ∷ 4 ∷ 0 ∷ 4 ∷ 5 ∷ 0 ∷ 5 ∷ 3 ∷ 3 ∷ 5 ∷ 2 ∷ 2 ∷ 5 ∷ 4 ∷ [])); borders = ((2 ∷ 3 ∷ 1 ∷ 2 ∷ 3 ∷ 1 ∷ [])) }
     ∷
     -- split 1; the first part has fewer places, in full loops more
-    record { rooms = rooms 24 1024; calls = begin (counts 7 8 5 2) ∷ operate Start ∷ operate New ∷ operate New ∷ operate Border ∷ operate Border ∷ operate Border ∷ operate New ∷ operate Forward ∷ operate New ∷ operate (Split 1) ∷ operate Border ∷ operate Close ∷ end ∷ []; told = accepted ∷ triangle (tri 0 1 2) ∷ triangle (tri 1 0 3) ∷ triangle (tri 1 3 4) ∷ no-triangle ∷ no-triangle ∷ no-triangle ∷ triangle (tri 3 0 5) ∷ triangle (tri 3 5 4) ∷ triangle (tri 4 5 6) ∷ triangle (tri 4 6 0) ∷ no-triangle ∷ triangle (tri 0 6 5) ∷ numbers (totalsOf 14 1 0 (pos 1)) ∷ []; machine = ((7 ∷ 14 ∷ 5 ∷ 2 ∷ 1 ∷ 0 ∷ 1 ∷ 0 ∷ 1 ∷ 2 ∷ 1 ∷ 0 ∷ 3 ∷ 1 ∷ 3 ∷ 4 ∷ 3 ∷ 0 ∷ 5 ∷ 3 ∷ 5 ∷ 4 ∷ 4 ∷ 5 ∷ 6 ∷ 4 ∷ 6 ∷ 0 ∷ 0 ∷ 6 ∷ 5 ∷ [])); borders = ((0 ∷ 4 ∷ 2 ∷ 0 ∷ 1 ∷ 2 ∷ 4 ∷ 1 ∷ [])) }
+    record { lengths = lengths 24 1024; calls = begin (counts 7 8 5 2) ∷ operate Start ∷ operate New ∷ operate New ∷ operate Border ∷ operate Border ∷ operate Border ∷ operate New ∷ operate Forward ∷ operate New ∷ operate (Split 1) ∷ operate Border ∷ operate Close ∷ finish ∷ []; told = accepted ∷ triangle (tri 0 1 2) ∷ triangle (tri 1 0 3) ∷ triangle (tri 1 3 4) ∷ no-triangle ∷ no-triangle ∷ no-triangle ∷ triangle (tri 3 0 5) ∷ triangle (tri 3 5 4) ∷ triangle (tri 4 5 6) ∷ triangle (tri 4 6 0) ∷ no-triangle ∷ triangle (tri 0 6 5) ∷ numbers (totalsOf 14 1 0 (pos 1)) ∷ []; machine = ((7 ∷ 14 ∷ 5 ∷ 2 ∷ 1 ∷ 0 ∷ 1 ∷ 0 ∷ 1 ∷ 2 ∷ 1 ∷ 0 ∷ 3 ∷ 1 ∷ 3 ∷ 4 ∷ 3 ∷ 0 ∷ 5 ∷ 3 ∷ 5 ∷ 4 ∷ 4 ∷ 5 ∷ 6 ∷ 4 ∷ 6 ∷ 0 ∷ 0 ∷ 6 ∷ 5 ∷ [])); borders = ((0 ∷ 4 ∷ 2 ∷ 0 ∷ 1 ∷ 2 ∷ 4 ∷ 1 ∷ [])) }
     ∷
     -- split 2 where the edge after f is marked
-    record { rooms = rooms 18 1024; calls = begin (counts 6 6 7 2) ∷ operate Start ∷ operate Border ∷ operate New ∷ operate New ∷ operate Border ∷ operate New ∷ operate (Split 2) ∷ operate Border ∷ operate Border ∷ operate Forward ∷ operate Border ∷ operate Border ∷ end ∷ []; told = accepted ∷ triangle (tri 0 1 2) ∷ no-triangle ∷ triangle (tri 2 1 3) ∷ triangle (tri 2 3 4) ∷ no-triangle ∷ triangle (tri 0 2 5) ∷ triangle (tri 0 5 3) ∷ no-triangle ∷ no-triangle ∷ triangle (tri 3 5 4) ∷ no-triangle ∷ no-triangle ∷ numbers (totalsOf 12 2 0 (pos 0)) ∷ []; machine = ((6 ∷ 12 ∷ 7 ∷ 2 ∷ 1 ∷ 0 ∷ 2 ∷ 0 ∷ 1 ∷ 2 ∷ 2 ∷ 1 ∷ 3 ∷ 2 ∷ 3 ∷ 4 ∷ 0 ∷ 2 ∷ 5 ∷ 0 ∷ 5 ∷ 3 ∷ 3 ∷ 5 ∷ 4 ∷ [])); borders = ((2 ∷ 5 ∷ 5 ∷ 4 ∷ 1 ∷ 3 ∷ 3 ∷ 0 ∷ 4 ∷ 2 ∷ 0 ∷ 1 ∷ [])) }
+    record { lengths = lengths 18 1024; calls = begin (counts 6 6 7 2) ∷ operate Start ∷ operate Border ∷ operate New ∷ operate New ∷ operate Border ∷ operate New ∷ operate (Split 2) ∷ operate Border ∷ operate Border ∷ operate Forward ∷ operate Border ∷ operate Border ∷ finish ∷ []; told = accepted ∷ triangle (tri 0 1 2) ∷ no-triangle ∷ triangle (tri 2 1 3) ∷ triangle (tri 2 3 4) ∷ no-triangle ∷ triangle (tri 0 2 5) ∷ triangle (tri 0 5 3) ∷ no-triangle ∷ no-triangle ∷ triangle (tri 3 5 4) ∷ no-triangle ∷ no-triangle ∷ numbers (totalsOf 12 2 0 (pos 0)) ∷ []; machine = ((6 ∷ 12 ∷ 7 ∷ 2 ∷ 1 ∷ 0 ∷ 2 ∷ 0 ∷ 1 ∷ 2 ∷ 2 ∷ 1 ∷ 3 ∷ 2 ∷ 3 ∷ 4 ∷ 0 ∷ 2 ∷ 5 ∷ 0 ∷ 5 ∷ 3 ∷ 3 ∷ 5 ∷ 4 ∷ [])); borders = ((2 ∷ 5 ∷ 5 ∷ 4 ∷ 1 ∷ 3 ∷ 3 ∷ 0 ∷ 4 ∷ 2 ∷ 0 ∷ 1 ∷ [])) }
     ∷
     -- split k - 3 where the edge into e is marked
-    record { rooms = rooms 18 1024; calls = begin (counts 6 6 6 2) ∷ operate Start ∷ operate New ∷ operate New ∷ operate New ∷ operate Border ∷ operate Border ∷ operate (Split 2) ∷ operate Close ∷ operate Border ∷ operate Border ∷ end ∷ []; told = accepted ∷ triangle (tri 0 1 2) ∷ triangle (tri 1 0 3) ∷ triangle (tri 1 3 4) ∷ triangle (tri 1 4 5) ∷ no-triangle ∷ no-triangle ∷ triangle (tri 0 2 4) ∷ triangle (tri 0 4 3) ∷ no-triangle ∷ no-triangle ∷ numbers (totalsOf 11 1 0 (pos 1)) ∷ []; machine = ((6 ∷ 11 ∷ 6 ∷ 2 ∷ 1 ∷ 0 ∷ 1 ∷ 0 ∷ 1 ∷ 2 ∷ 1 ∷ 0 ∷ 3 ∷ 1 ∷ 3 ∷ 4 ∷ 1 ∷ 4 ∷ 5 ∷ 0 ∷ 2 ∷ 4 ∷ 0 ∷ 4 ∷ 3 ∷ [])); borders = ((4 ∷ 5 ∷ 2 ∷ 4 ∷ 1 ∷ 2 ∷ 5 ∷ 1 ∷ [])) }
+    record { lengths = lengths 18 1024; calls = begin (counts 6 6 6 2) ∷ operate Start ∷ operate New ∷ operate New ∷ operate New ∷ operate Border ∷ operate Border ∷ operate (Split 2) ∷ operate Close ∷ operate Border ∷ operate Border ∷ finish ∷ []; told = accepted ∷ triangle (tri 0 1 2) ∷ triangle (tri 1 0 3) ∷ triangle (tri 1 3 4) ∷ triangle (tri 1 4 5) ∷ no-triangle ∷ no-triangle ∷ triangle (tri 0 2 4) ∷ triangle (tri 0 4 3) ∷ no-triangle ∷ no-triangle ∷ numbers (totalsOf 11 1 0 (pos 1)) ∷ []; machine = ((6 ∷ 11 ∷ 6 ∷ 2 ∷ 1 ∷ 0 ∷ 1 ∷ 0 ∷ 1 ∷ 2 ∷ 1 ∷ 0 ∷ 3 ∷ 1 ∷ 3 ∷ 4 ∷ 1 ∷ 4 ∷ 5 ∷ 0 ∷ 2 ∷ 4 ∷ 0 ∷ 4 ∷ 3 ∷ [])); borders = ((4 ∷ 5 ∷ 2 ∷ 4 ∷ 1 ∷ 2 ∷ 5 ∷ 1 ∷ [])) }
     ∷
     -- seven places, in full loops six: the other half of the split goes on
-    record { rooms = rooms 21 1024; calls = begin (counts 7 7 7 2) ∷ operate Start ∷ operate New ∷ operate New ∷ operate Border ∷ operate Border ∷ operate (Split 2) ∷ operate New ∷ operate New ∷ operate Border ∷ operate Border ∷ operate Border ∷ operate Close ∷ end ∷ []; told = accepted ∷ triangle (tri 0 1 2) ∷ triangle (tri 1 0 3) ∷ triangle (tri 1 3 4) ∷ no-triangle ∷ no-triangle ∷ triangle (tri 0 2 4) ∷ triangle (tri 4 2 5) ∷ triangle (tri 4 5 6) ∷ no-triangle ∷ no-triangle ∷ no-triangle ∷ triangle (tri 0 4 3) ∷ numbers (totalsOf 13 1 0 (pos 1)) ∷ []; machine = ((7 ∷ 13 ∷ 7 ∷ 2 ∷ 1 ∷ 0 ∷ 1 ∷ 0 ∷ 1 ∷ 2 ∷ 1 ∷ 0 ∷ 3 ∷ 1 ∷ 3 ∷ 4 ∷ 0 ∷ 2 ∷ 4 ∷ 4 ∷ 2 ∷ 5 ∷ 4 ∷ 5 ∷ 6 ∷ 0 ∷ 4 ∷ 3 ∷ [])); borders = ((5 ∷ 6 ∷ 2 ∷ 5 ∷ 6 ∷ 4 ∷ 1 ∷ 2 ∷ 4 ∷ 1 ∷ [])) }
+    record { lengths = lengths 21 1024; calls = begin (counts 7 7 7 2) ∷ operate Start ∷ operate New ∷ operate New ∷ operate Border ∷ operate Border ∷ operate (Split 2) ∷ operate New ∷ operate New ∷ operate Border ∷ operate Border ∷ operate Border ∷ operate Close ∷ finish ∷ []; told = accepted ∷ triangle (tri 0 1 2) ∷ triangle (tri 1 0 3) ∷ triangle (tri 1 3 4) ∷ no-triangle ∷ no-triangle ∷ triangle (tri 0 2 4) ∷ triangle (tri 4 2 5) ∷ triangle (tri 4 5 6) ∷ no-triangle ∷ no-triangle ∷ no-triangle ∷ triangle (tri 0 4 3) ∷ numbers (totalsOf 13 1 0 (pos 1)) ∷ []; machine = ((7 ∷ 13 ∷ 7 ∷ 2 ∷ 1 ∷ 0 ∷ 1 ∷ 0 ∷ 1 ∷ 2 ∷ 1 ∷ 0 ∷ 3 ∷ 1 ∷ 3 ∷ 4 ∷ 0 ∷ 2 ∷ 4 ∷ 4 ∷ 2 ∷ 5 ∷ 4 ∷ 5 ∷ 6 ∷ 0 ∷ 4 ∷ 3 ∷ [])); borders = ((5 ∷ 6 ∷ 2 ∷ 5 ∷ 6 ∷ 4 ∷ 1 ∷ 2 ∷ 4 ∷ 1 ∷ [])) }
     ∷
     -- union from a loop of two places, with j = 0
-    record { rooms = rooms 24 1024; calls = begin (counts 6 8 7 2) ∷ operate Start ∷ operate Border ∷ operate New ∷ operate Border ∷ operate New ∷ operate (Split 2) ∷ operate New ∷ operate Border ∷ operate Forward ∷ operate (Union 1 0) ∷ operate Backward ∷ operate Border ∷ operate Border ∷ operate Border ∷ end ∷ []; told = accepted ∷ triangle (tri 0 1 2) ∷ no-triangle ∷ triangle (tri 2 1 3) ∷ no-triangle ∷ triangle (tri 0 2 4) ∷ triangle (tri 0 4 3) ∷ triangle (tri 0 3 5) ∷ no-triangle ∷ triangle (tri 3 1 5) ∷ triangle (tri 5 1 4) ∷ triangle (tri 5 4 2) ∷ no-triangle ∷ no-triangle ∷ no-triangle ∷ numbers (totalsOf 15 1 1 (negsuc 0)) ∷ []; machine = ((6 ∷ 15 ∷ 7 ∷ 2 ∷ 1 ∷ 1 ∷ 1 ∷ 0 ∷ 1 ∷ 2 ∷ 2 ∷ 1 ∷ 3 ∷ 0 ∷ 2 ∷ 4 ∷ 0 ∷ 4 ∷ 3 ∷ 0 ∷ 3 ∷ 5 ∷ 3 ∷ 1 ∷ 5 ∷ 5 ∷ 1 ∷ 4 ∷ 5 ∷ 4 ∷ 2 ∷ [])); borders = ((4 ∷ 3 ∷ 1 ∷ 4 ∷ 2 ∷ 5 ∷ 5 ∷ 0 ∷ 3 ∷ 2 ∷ 0 ∷ 1 ∷ [])) }
+    record { lengths = lengths 24 1024; calls = begin (counts 6 8 7 2) ∷ operate Start ∷ operate Border ∷ operate New ∷ operate Border ∷ operate New ∷ operate (Split 2) ∷ operate New ∷ operate Border ∷ operate Forward ∷ operate (Union 1 0) ∷ operate Backward ∷ operate Border ∷ operate Border ∷ operate Border ∷ finish ∷ []; told = accepted ∷ triangle (tri 0 1 2) ∷ no-triangle ∷ triangle (tri 2 1 3) ∷ no-triangle ∷ triangle (tri 0 2 4) ∷ triangle (tri 0 4 3) ∷ triangle (tri 0 3 5) ∷ no-triangle ∷ triangle (tri 3 1 5) ∷ triangle (tri 5 1 4) ∷ triangle (tri 5 4 2) ∷ no-triangle ∷ no-triangle ∷ no-triangle ∷ numbers (totalsOf 15 1 1 (negsuc 0)) ∷ []; machine = ((6 ∷ 15 ∷ 7 ∷ 2 ∷ 1 ∷ 1 ∷ 1 ∷ 0 ∷ 1 ∷ 2 ∷ 2 ∷ 1 ∷ 3 ∷ 0 ∷ 2 ∷ 4 ∷ 0 ∷ 4 ∷ 3 ∷ 0 ∷ 3 ∷ 5 ∷ 3 ∷ 1 ∷ 5 ∷ 5 ∷ 1 ∷ 4 ∷ 5 ∷ 4 ∷ 2 ∷ [])); borders = ((4 ∷ 3 ∷ 1 ∷ 4 ∷ 2 ∷ 5 ∷ 5 ∷ 0 ∷ 3 ∷ 2 ∷ 0 ∷ 1 ∷ [])) }
     ∷
     -- union and split past a link
-    record { rooms = rooms 27 1024; calls = begin (counts 7 9 7 2) ∷ operate Start ∷ operate New ∷ operate New ∷ operate Border ∷ operate Border ∷ operate New ∷ operate New ∷ operate Border ∷ operate Border ∷ operate (Split 3) ∷ operate (Union 1 2) ∷ operate Border ∷ operate Forward ∷ operate Border ∷ operate Forward ∷ operate Border ∷ end ∷ []; told = accepted ∷ triangle (tri 0 1 2) ∷ triangle (tri 1 0 3) ∷ triangle (tri 1 3 4) ∷ no-triangle ∷ no-triangle ∷ triangle (tri 0 2 5) ∷ triangle (tri 0 5 6) ∷ no-triangle ∷ no-triangle ∷ triangle (tri 4 3 6) ∷ triangle (tri 6 3 2) ∷ no-triangle ∷ triangle (tri 2 3 5) ∷ no-triangle ∷ triangle (tri 6 5 4) ∷ no-triangle ∷ numbers (totalsOf 17 1 1 (negsuc 0)) ∷ []; machine = ((7 ∷ 17 ∷ 7 ∷ 2 ∷ 1 ∷ 1 ∷ 1 ∷ 0 ∷ 1 ∷ 2 ∷ 1 ∷ 0 ∷ 3 ∷ 1 ∷ 3 ∷ 4 ∷ 0 ∷ 2 ∷ 5 ∷ 0 ∷ 5 ∷ 6 ∷ 4 ∷ 3 ∷ 6 ∷ 6 ∷ 3 ∷ 2 ∷ 2 ∷ 3 ∷ 5 ∷ 6 ∷ 5 ∷ 4 ∷ [])); borders = ((5 ∷ 4 ∷ 3 ∷ 5 ∷ 2 ∷ 6 ∷ 0 ∷ 3 ∷ 6 ∷ 0 ∷ 1 ∷ 2 ∷ 4 ∷ 1 ∷ [])) }
+    record { lengths = lengths 27 1024; calls = begin (counts 7 9 7 2) ∷ operate Start ∷ operate New ∷ operate New ∷ operate Border ∷ operate Border ∷ operate New ∷ operate New ∷ operate Border ∷ operate Border ∷ operate (Split 3) ∷ operate (Union 1 2) ∷ operate Border ∷ operate Forward ∷ operate Border ∷ operate Forward ∷ operate Border ∷ finish ∷ []; told = accepted ∷ triangle (tri 0 1 2) ∷ triangle (tri 1 0 3) ∷ triangle (tri 1 3 4) ∷ no-triangle ∷ no-triangle ∷ triangle (tri 0 2 5) ∷ triangle (tri 0 5 6) ∷ no-triangle ∷ no-triangle ∷ triangle (tri 4 3 6) ∷ triangle (tri 6 3 2) ∷ no-triangle ∷ triangle (tri 2 3 5) ∷ no-triangle ∷ triangle (tri 6 5 4) ∷ no-triangle ∷ numbers (totalsOf 17 1 1 (negsuc 0)) ∷ []; machine = ((7 ∷ 17 ∷ 7 ∷ 2 ∷ 1 ∷ 1 ∷ 1 ∷ 0 ∷ 1 ∷ 2 ∷ 1 ∷ 0 ∷ 3 ∷ 1 ∷ 3 ∷ 4 ∷ 0 ∷ 2 ∷ 5 ∷ 0 ∷ 5 ∷ 6 ∷ 4 ∷ 3 ∷ 6 ∷ 6 ∷ 3 ∷ 2 ∷ 2 ∷ 3 ∷ 5 ∷ 6 ∷ 5 ∷ 4 ∷ [])); borders = ((5 ∷ 4 ∷ 3 ∷ 5 ∷ 2 ∷ 6 ∷ 0 ∷ 3 ∷ 6 ∷ 0 ∷ 1 ∷ 2 ∷ 4 ∷ 1 ∷ [])) }
     ∷
     -- union 2 of two waiting loops, in shortened loops
-    record { rooms = rooms 33 1024; calls = begin (counts 8 11 10 3) ∷ operate Start ∷ operate Border ∷ operate New ∷ operate Border ∷ operate New ∷ operate New ∷ operate (Split 2) ∷ operate New ∷ operate New ∷ operate Border ∷ operate (Split 2) ∷ operate (Union 2 3) ∷ operate Backward ∷ operate Border ∷ operate Border ∷ operate Border ∷ operate Border ∷ operate Close ∷ end ∷ []; told = accepted ∷ triangle (tri 0 1 2) ∷ no-triangle ∷ triangle (tri 2 1 3) ∷ no-triangle ∷ triangle (tri 0 2 4) ∷ triangle (tri 0 4 5) ∷ triangle (tri 0 5 3) ∷ triangle (tri 0 3 6) ∷ triangle (tri 0 6 7) ∷ no-triangle ∷ triangle (tri 3 1 7) ∷ triangle (tri 7 1 4) ∷ triangle (tri 7 4 2) ∷ no-triangle ∷ no-triangle ∷ no-triangle ∷ no-triangle ∷ triangle (tri 3 7 6) ∷ numbers (totalsOf 20 1 1 (negsuc 0)) ∷ []; machine = ((8 ∷ 20 ∷ 10 ∷ 3 ∷ 1 ∷ 1 ∷ 1 ∷ 0 ∷ 1 ∷ 2 ∷ 2 ∷ 1 ∷ 3 ∷ 0 ∷ 2 ∷ 4 ∷ 0 ∷ 4 ∷ 5 ∷ 0 ∷ 5 ∷ 3 ∷ 0 ∷ 3 ∷ 6 ∷ 0 ∷ 6 ∷ 7 ∷ 3 ∷ 1 ∷ 7 ∷ 7 ∷ 1 ∷ 4 ∷ 7 ∷ 4 ∷ 2 ∷ 3 ∷ 7 ∷ 6 ∷ [])); borders = ((5 ∷ 3 ∷ 4 ∷ 5 ∷ 1 ∷ 4 ∷ 2 ∷ 7 ∷ 7 ∷ 0 ∷ 3 ∷ 2 ∷ 0 ∷ 1 ∷ [])) }
+    record { lengths = lengths 33 1024; calls = begin (counts 8 11 10 3) ∷ operate Start ∷ operate Border ∷ operate New ∷ operate Border ∷ operate New ∷ operate New ∷ operate (Split 2) ∷ operate New ∷ operate New ∷ operate Border ∷ operate (Split 2) ∷ operate (Union 2 3) ∷ operate Backward ∷ operate Border ∷ operate Border ∷ operate Border ∷ operate Border ∷ operate Close ∷ finish ∷ []; told = accepted ∷ triangle (tri 0 1 2) ∷ no-triangle ∷ triangle (tri 2 1 3) ∷ no-triangle ∷ triangle (tri 0 2 4) ∷ triangle (tri 0 4 5) ∷ triangle (tri 0 5 3) ∷ triangle (tri 0 3 6) ∷ triangle (tri 0 6 7) ∷ no-triangle ∷ triangle (tri 3 1 7) ∷ triangle (tri 7 1 4) ∷ triangle (tri 7 4 2) ∷ no-triangle ∷ no-triangle ∷ no-triangle ∷ no-triangle ∷ triangle (tri 3 7 6) ∷ numbers (totalsOf 20 1 1 (negsuc 0)) ∷ []; machine = ((8 ∷ 20 ∷ 10 ∷ 3 ∷ 1 ∷ 1 ∷ 1 ∷ 0 ∷ 1 ∷ 2 ∷ 2 ∷ 1 ∷ 3 ∷ 0 ∷ 2 ∷ 4 ∷ 0 ∷ 4 ∷ 5 ∷ 0 ∷ 5 ∷ 3 ∷ 0 ∷ 3 ∷ 6 ∷ 0 ∷ 6 ∷ 7 ∷ 3 ∷ 1 ∷ 7 ∷ 7 ∷ 1 ∷ 4 ∷ 7 ∷ 4 ∷ 2 ∷ 3 ∷ 7 ∷ 6 ∷ [])); borders = ((5 ∷ 3 ∷ 4 ∷ 5 ∷ 1 ∷ 4 ∷ 2 ∷ 7 ∷ 7 ∷ 0 ∷ 3 ∷ 2 ∷ 0 ∷ 1 ∷ [])) }
     ∷
     -- union to c that has a place in the current loop too, before it
-    record { rooms = rooms 30 1024; calls = begin (counts 8 10 10 2) ∷ operate Start ∷ operate New ∷ operate New ∷ operate New ∷ operate Border ∷ operate New ∷ operate (Split 3) ∷ operate Border ∷ operate New ∷ operate (Union 1 1) ∷ operate Backward ∷ operate Border ∷ operate Border ∷ operate Border ∷ operate Border ∷ operate Forward ∷ operate Border ∷ operate Border ∷ end ∷ []; told = accepted ∷ triangle (tri 0 1 2) ∷ triangle (tri 1 0 3) ∷ triangle (tri 1 3 4) ∷ triangle (tri 1 4 5) ∷ no-triangle ∷ triangle (tri 2 1 6) ∷ triangle (tri 2 6 4) ∷ no-triangle ∷ triangle (tri 0 2 7) ∷ triangle (tri 0 7 4) ∷ triangle (tri 0 4 6) ∷ no-triangle ∷ no-triangle ∷ no-triangle ∷ no-triangle ∷ triangle (tri 4 7 5) ∷ no-triangle ∷ no-triangle ∷ numbers (totalsOf 19 1 1 (negsuc 0)) ∷ []; machine = ((8 ∷ 19 ∷ 10 ∷ 2 ∷ 1 ∷ 1 ∷ 1 ∷ 0 ∷ 1 ∷ 2 ∷ 1 ∷ 0 ∷ 3 ∷ 1 ∷ 3 ∷ 4 ∷ 1 ∷ 4 ∷ 5 ∷ 2 ∷ 1 ∷ 6 ∷ 2 ∷ 6 ∷ 4 ∷ 0 ∷ 2 ∷ 7 ∷ 0 ∷ 7 ∷ 4 ∷ 0 ∷ 4 ∷ 6 ∷ 4 ∷ 7 ∷ 5 ∷ [])); borders = ((1 ∷ 6 ∷ 7 ∷ 5 ∷ 2 ∷ 7 ∷ 3 ∷ 4 ∷ 0 ∷ 3 ∷ 6 ∷ 0 ∷ 4 ∷ 2 ∷ 5 ∷ 1 ∷ [])) }
+    record { lengths = lengths 30 1024; calls = begin (counts 8 10 10 2) ∷ operate Start ∷ operate New ∷ operate New ∷ operate New ∷ operate Border ∷ operate New ∷ operate (Split 3) ∷ operate Border ∷ operate New ∷ operate (Union 1 1) ∷ operate Backward ∷ operate Border ∷ operate Border ∷ operate Border ∷ operate Border ∷ operate Forward ∷ operate Border ∷ operate Border ∷ finish ∷ []; told = accepted ∷ triangle (tri 0 1 2) ∷ triangle (tri 1 0 3) ∷ triangle (tri 1 3 4) ∷ triangle (tri 1 4 5) ∷ no-triangle ∷ triangle (tri 2 1 6) ∷ triangle (tri 2 6 4) ∷ no-triangle ∷ triangle (tri 0 2 7) ∷ triangle (tri 0 7 4) ∷ triangle (tri 0 4 6) ∷ no-triangle ∷ no-triangle ∷ no-triangle ∷ no-triangle ∷ triangle (tri 4 7 5) ∷ no-triangle ∷ no-triangle ∷ numbers (totalsOf 19 1 1 (negsuc 0)) ∷ []; machine = ((8 ∷ 19 ∷ 10 ∷ 2 ∷ 1 ∷ 1 ∷ 1 ∷ 0 ∷ 1 ∷ 2 ∷ 1 ∷ 0 ∷ 3 ∷ 1 ∷ 3 ∷ 4 ∷ 1 ∷ 4 ∷ 5 ∷ 2 ∷ 1 ∷ 6 ∷ 2 ∷ 6 ∷ 4 ∷ 0 ∷ 2 ∷ 7 ∷ 0 ∷ 7 ∷ 4 ∷ 0 ∷ 4 ∷ 6 ∷ 4 ∷ 7 ∷ 5 ∷ [])); borders = ((1 ∷ 6 ∷ 7 ∷ 5 ∷ 2 ∷ 7 ∷ 3 ∷ 4 ∷ 0 ∷ 3 ∷ 6 ∷ 0 ∷ 4 ∷ 2 ∷ 5 ∷ 1 ∷ [])) }
     ∷
     -- split to c that has an earlier place in the loop: the first place that has c does not do
-    record { rooms = rooms 33 1024; calls = begin (counts 8 11 10 2) ∷ operate Start ∷ operate New ∷ operate New ∷ operate New ∷ operate New ∷ operate New ∷ operate Border ∷ operate Border ∷ operate (Split 3) ∷ operate Border ∷ operate (Union 1 3) ∷ operate (Split 6) ∷ operate Close ∷ operate Backward ∷ operate Border ∷ operate Border ∷ operate Border ∷ operate Border ∷ end ∷ []; told = accepted ∷ triangle (tri 0 1 2) ∷ triangle (tri 1 0 3) ∷ triangle (tri 1 3 4) ∷ triangle (tri 1 4 5) ∷ triangle (tri 1 5 6) ∷ triangle (tri 1 6 7) ∷ no-triangle ∷ no-triangle ∷ triangle (tri 0 2 5) ∷ no-triangle ∷ triangle (tri 3 0 7) ∷ triangle (tri 3 7 5) ∷ triangle (tri 5 7 6) ∷ triangle (tri 3 5 2) ∷ no-triangle ∷ no-triangle ∷ no-triangle ∷ no-triangle ∷ numbers (totalsOf 20 1 1 (negsuc 0)) ∷ []; machine = ((8 ∷ 20 ∷ 10 ∷ 2 ∷ 1 ∷ 1 ∷ 1 ∷ 0 ∷ 1 ∷ 2 ∷ 1 ∷ 0 ∷ 3 ∷ 1 ∷ 3 ∷ 4 ∷ 1 ∷ 4 ∷ 5 ∷ 1 ∷ 5 ∷ 6 ∷ 1 ∷ 6 ∷ 7 ∷ 0 ∷ 2 ∷ 5 ∷ 3 ∷ 0 ∷ 7 ∷ 3 ∷ 7 ∷ 5 ∷ 5 ∷ 7 ∷ 6 ∷ 3 ∷ 5 ∷ 2 ∷ [])); borders = ((0 ∷ 7 ∷ 4 ∷ 5 ∷ 3 ∷ 4 ∷ 2 ∷ 3 ∷ 5 ∷ 0 ∷ 1 ∷ 2 ∷ 7 ∷ 1 ∷ [])) }
+    record { lengths = lengths 33 1024; calls = begin (counts 8 11 10 2) ∷ operate Start ∷ operate New ∷ operate New ∷ operate New ∷ operate New ∷ operate New ∷ operate Border ∷ operate Border ∷ operate (Split 3) ∷ operate Border ∷ operate (Union 1 3) ∷ operate (Split 6) ∷ operate Close ∷ operate Backward ∷ operate Border ∷ operate Border ∷ operate Border ∷ operate Border ∷ finish ∷ []; told = accepted ∷ triangle (tri 0 1 2) ∷ triangle (tri 1 0 3) ∷ triangle (tri 1 3 4) ∷ triangle (tri 1 4 5) ∷ triangle (tri 1 5 6) ∷ triangle (tri 1 6 7) ∷ no-triangle ∷ no-triangle ∷ triangle (tri 0 2 5) ∷ no-triangle ∷ triangle (tri 3 0 7) ∷ triangle (tri 3 7 5) ∷ triangle (tri 5 7 6) ∷ triangle (tri 3 5 2) ∷ no-triangle ∷ no-triangle ∷ no-triangle ∷ no-triangle ∷ numbers (totalsOf 20 1 1 (negsuc 0)) ∷ []; machine = ((8 ∷ 20 ∷ 10 ∷ 2 ∷ 1 ∷ 1 ∷ 1 ∷ 0 ∷ 1 ∷ 2 ∷ 1 ∷ 0 ∷ 3 ∷ 1 ∷ 3 ∷ 4 ∷ 1 ∷ 4 ∷ 5 ∷ 1 ∷ 5 ∷ 6 ∷ 1 ∷ 6 ∷ 7 ∷ 0 ∷ 2 ∷ 5 ∷ 3 ∷ 0 ∷ 7 ∷ 3 ∷ 7 ∷ 5 ∷ 5 ∷ 7 ∷ 6 ∷ 3 ∷ 5 ∷ 2 ∷ [])); borders = ((0 ∷ 7 ∷ 4 ∷ 5 ∷ 3 ∷ 4 ∷ 2 ∷ 3 ∷ 5 ∷ 0 ∷ 1 ∷ 2 ∷ 7 ∷ 1 ∷ [])) }
     ∷
     -- split to c that has a later place in the loop
-    record { rooms = rooms 39 1024; calls = begin (counts 9 13 10 2) ∷ operate Start ∷ operate New ∷ operate New ∷ operate New ∷ operate New ∷ operate Border ∷ operate Border ∷ operate (Split 3) ∷ operate (Union 1 2) ∷ operate New ∷ operate Forward ∷ operate New ∷ operate (Split 2) ∷ operate Backward ∷ operate Border ∷ operate Border ∷ operate Border ∷ operate Border ∷ operate Border ∷ operate Forward ∷ operate Border ∷ operate Border ∷ end ∷ []; told = accepted ∷ triangle (tri 0 1 2) ∷ triangle (tri 1 0 3) ∷ triangle (tri 1 3 4) ∷ triangle (tri 1 4 5) ∷ triangle (tri 1 5 6) ∷ no-triangle ∷ no-triangle ∷ triangle (tri 0 2 5) ∷ triangle (tri 5 2 3) ∷ triangle (tri 5 3 7) ∷ triangle (tri 5 7 6) ∷ triangle (tri 6 7 8) ∷ triangle (tri 6 8 3) ∷ triangle (tri 6 3 2) ∷ no-triangle ∷ no-triangle ∷ no-triangle ∷ no-triangle ∷ no-triangle ∷ triangle (tri 3 0 7) ∷ no-triangle ∷ no-triangle ∷ numbers (totalsOf 24 2 1 (negsuc 1)) ∷ []; machine = ((9 ∷ 24 ∷ 10 ∷ 2 ∷ 1 ∷ 1 ∷ 2 ∷ 0 ∷ 1 ∷ 2 ∷ 1 ∷ 0 ∷ 3 ∷ 1 ∷ 3 ∷ 4 ∷ 1 ∷ 4 ∷ 5 ∷ 1 ∷ 5 ∷ 6 ∷ 0 ∷ 2 ∷ 5 ∷ 5 ∷ 2 ∷ 3 ∷ 5 ∷ 3 ∷ 7 ∷ 5 ∷ 7 ∷ 6 ∷ 6 ∷ 7 ∷ 8 ∷ 6 ∷ 8 ∷ 3 ∷ 6 ∷ 3 ∷ 2 ∷ 3 ∷ 0 ∷ 7 ∷ [])); borders = ((7 ∷ 8 ∷ 0 ∷ 7 ∷ 5 ∷ 0 ∷ 4 ∷ 5 ∷ 3 ∷ 4 ∷ 8 ∷ 3 ∷ 2 ∷ 6 ∷ 1 ∷ 2 ∷ 6 ∷ 1 ∷ [])) }
+    record { lengths = lengths 39 1024; calls = begin (counts 9 13 10 2) ∷ operate Start ∷ operate New ∷ operate New ∷ operate New ∷ operate New ∷ operate Border ∷ operate Border ∷ operate (Split 3) ∷ operate (Union 1 2) ∷ operate New ∷ operate Forward ∷ operate New ∷ operate (Split 2) ∷ operate Backward ∷ operate Border ∷ operate Border ∷ operate Border ∷ operate Border ∷ operate Border ∷ operate Forward ∷ operate Border ∷ operate Border ∷ finish ∷ []; told = accepted ∷ triangle (tri 0 1 2) ∷ triangle (tri 1 0 3) ∷ triangle (tri 1 3 4) ∷ triangle (tri 1 4 5) ∷ triangle (tri 1 5 6) ∷ no-triangle ∷ no-triangle ∷ triangle (tri 0 2 5) ∷ triangle (tri 5 2 3) ∷ triangle (tri 5 3 7) ∷ triangle (tri 5 7 6) ∷ triangle (tri 6 7 8) ∷ triangle (tri 6 8 3) ∷ triangle (tri 6 3 2) ∷ no-triangle ∷ no-triangle ∷ no-triangle ∷ no-triangle ∷ no-triangle ∷ triangle (tri 3 0 7) ∷ no-triangle ∷ no-triangle ∷ numbers (totalsOf 24 2 1 (negsuc 1)) ∷ []; machine = ((9 ∷ 24 ∷ 10 ∷ 2 ∷ 1 ∷ 1 ∷ 2 ∷ 0 ∷ 1 ∷ 2 ∷ 1 ∷ 0 ∷ 3 ∷ 1 ∷ 3 ∷ 4 ∷ 1 ∷ 4 ∷ 5 ∷ 1 ∷ 5 ∷ 6 ∷ 0 ∷ 2 ∷ 5 ∷ 5 ∷ 2 ∷ 3 ∷ 5 ∷ 3 ∷ 7 ∷ 5 ∷ 7 ∷ 6 ∷ 6 ∷ 7 ∷ 8 ∷ 6 ∷ 8 ∷ 3 ∷ 6 ∷ 3 ∷ 2 ∷ 3 ∷ 0 ∷ 7 ∷ [])); borders = ((7 ∷ 8 ∷ 0 ∷ 7 ∷ 5 ∷ 0 ∷ 4 ∷ 5 ∷ 3 ∷ 4 ∷ 8 ∷ 3 ∷ 2 ∷ 6 ∷ 1 ∷ 2 ∷ 6 ∷ 1 ∷ [])) }
     ∷
     -- backward to c that has an earlier place in the loop
-    record { rooms = rooms 30 1024; calls = begin (counts 8 10 9 2) ∷ operate Start ∷ operate New ∷ operate New ∷ operate New ∷ operate Border ∷ operate New ∷ operate (Split 3) ∷ operate Border ∷ operate (Union 1 2) ∷ operate Backward ∷ operate New ∷ operate Border ∷ operate Border ∷ operate Border ∷ operate Border ∷ operate Border ∷ operate Forward ∷ operate Border ∷ end ∷ []; told = accepted ∷ triangle (tri 0 1 2) ∷ triangle (tri 1 0 3) ∷ triangle (tri 1 3 4) ∷ triangle (tri 1 4 5) ∷ no-triangle ∷ triangle (tri 2 1 6) ∷ triangle (tri 2 6 4) ∷ no-triangle ∷ triangle (tri 0 2 5) ∷ triangle (tri 0 5 4) ∷ triangle (tri 0 4 7) ∷ no-triangle ∷ no-triangle ∷ no-triangle ∷ no-triangle ∷ no-triangle ∷ triangle (tri 4 6 7) ∷ no-triangle ∷ numbers (totalsOf 19 1 1 (negsuc 0)) ∷ []; machine = ((8 ∷ 19 ∷ 9 ∷ 2 ∷ 1 ∷ 1 ∷ 1 ∷ 0 ∷ 1 ∷ 2 ∷ 1 ∷ 0 ∷ 3 ∷ 1 ∷ 3 ∷ 4 ∷ 1 ∷ 4 ∷ 5 ∷ 2 ∷ 1 ∷ 6 ∷ 2 ∷ 6 ∷ 4 ∷ 0 ∷ 2 ∷ 5 ∷ 0 ∷ 5 ∷ 4 ∷ 0 ∷ 4 ∷ 7 ∷ 4 ∷ 6 ∷ 7 ∷ [])); borders = ((6 ∷ 7 ∷ 1 ∷ 6 ∷ 2 ∷ 5 ∷ 3 ∷ 4 ∷ 0 ∷ 3 ∷ 7 ∷ 0 ∷ 4 ∷ 2 ∷ 5 ∷ 1 ∷ [])) }
+    record { lengths = lengths 30 1024; calls = begin (counts 8 10 9 2) ∷ operate Start ∷ operate New ∷ operate New ∷ operate New ∷ operate Border ∷ operate New ∷ operate (Split 3) ∷ operate Border ∷ operate (Union 1 2) ∷ operate Backward ∷ operate New ∷ operate Border ∷ operate Border ∷ operate Border ∷ operate Border ∷ operate Border ∷ operate Forward ∷ operate Border ∷ finish ∷ []; told = accepted ∷ triangle (tri 0 1 2) ∷ triangle (tri 1 0 3) ∷ triangle (tri 1 3 4) ∷ triangle (tri 1 4 5) ∷ no-triangle ∷ triangle (tri 2 1 6) ∷ triangle (tri 2 6 4) ∷ no-triangle ∷ triangle (tri 0 2 5) ∷ triangle (tri 0 5 4) ∷ triangle (tri 0 4 7) ∷ no-triangle ∷ no-triangle ∷ no-triangle ∷ no-triangle ∷ no-triangle ∷ triangle (tri 4 6 7) ∷ no-triangle ∷ numbers (totalsOf 19 1 1 (negsuc 0)) ∷ []; machine = ((8 ∷ 19 ∷ 9 ∷ 2 ∷ 1 ∷ 1 ∷ 1 ∷ 0 ∷ 1 ∷ 2 ∷ 1 ∷ 0 ∷ 3 ∷ 1 ∷ 3 ∷ 4 ∷ 1 ∷ 4 ∷ 5 ∷ 2 ∷ 1 ∷ 6 ∷ 2 ∷ 6 ∷ 4 ∷ 0 ∷ 2 ∷ 5 ∷ 0 ∷ 5 ∷ 4 ∷ 0 ∷ 4 ∷ 7 ∷ 4 ∷ 6 ∷ 7 ∷ [])); borders = ((6 ∷ 7 ∷ 1 ∷ 6 ∷ 2 ∷ 5 ∷ 3 ∷ 4 ∷ 0 ∷ 3 ∷ 7 ∷ 0 ∷ 4 ∷ 2 ∷ 5 ∷ 1 ∷ [])) }
     ∷
     -- forward to c that has a later place in the loop
-    record { rooms = rooms 27 1024; calls = begin (counts 7 9 9 2) ∷ operate Start ∷ operate New ∷ operate New ∷ operate Border ∷ operate New ∷ operate Border ∷ operate (Split 2) ∷ operate (Union 1 3) ∷ operate New ∷ operate Border ∷ operate Border ∷ operate Forward ∷ operate Border ∷ operate Border ∷ operate Forward ∷ operate Border ∷ end ∷ []; told = accepted ∷ triangle (tri 0 1 2) ∷ triangle (tri 1 0 3) ∷ triangle (tri 1 3 4) ∷ no-triangle ∷ triangle (tri 2 1 5) ∷ no-triangle ∷ triangle (tri 0 2 4) ∷ triangle (tri 0 4 5) ∷ triangle (tri 0 5 6) ∷ no-triangle ∷ no-triangle ∷ triangle (tri 4 3 5) ∷ no-triangle ∷ no-triangle ∷ triangle (tri 5 1 6) ∷ no-triangle ∷ numbers (totalsOf 17 1 1 (negsuc 0)) ∷ []; machine = ((7 ∷ 17 ∷ 9 ∷ 2 ∷ 1 ∷ 1 ∷ 1 ∷ 0 ∷ 1 ∷ 2 ∷ 1 ∷ 0 ∷ 3 ∷ 1 ∷ 3 ∷ 4 ∷ 2 ∷ 1 ∷ 5 ∷ 0 ∷ 2 ∷ 4 ∷ 0 ∷ 4 ∷ 5 ∷ 0 ∷ 5 ∷ 6 ∷ 4 ∷ 3 ∷ 5 ∷ 5 ∷ 1 ∷ 6 ∷ [])); borders = ((1 ∷ 6 ∷ 2 ∷ 4 ∷ 3 ∷ 5 ∷ 0 ∷ 3 ∷ 6 ∷ 0 ∷ 5 ∷ 2 ∷ 4 ∷ 1 ∷ [])) }
+    record { lengths = lengths 27 1024; calls = begin (counts 7 9 9 2) ∷ operate Start ∷ operate New ∷ operate New ∷ operate Border ∷ operate New ∷ operate Border ∷ operate (Split 2) ∷ operate (Union 1 3) ∷ operate New ∷ operate Border ∷ operate Border ∷ operate Forward ∷ operate Border ∷ operate Border ∷ operate Forward ∷ operate Border ∷ finish ∷ []; told = accepted ∷ triangle (tri 0 1 2) ∷ triangle (tri 1 0 3) ∷ triangle (tri 1 3 4) ∷ no-triangle ∷ triangle (tri 2 1 5) ∷ no-triangle ∷ triangle (tri 0 2 4) ∷ triangle (tri 0 4 5) ∷ triangle (tri 0 5 6) ∷ no-triangle ∷ no-triangle ∷ triangle (tri 4 3 5) ∷ no-triangle ∷ no-triangle ∷ triangle (tri 5 1 6) ∷ no-triangle ∷ numbers (totalsOf 17 1 1 (negsuc 0)) ∷ []; machine = ((7 ∷ 17 ∷ 9 ∷ 2 ∷ 1 ∷ 1 ∷ 1 ∷ 0 ∷ 1 ∷ 2 ∷ 1 ∷ 0 ∷ 3 ∷ 1 ∷ 3 ∷ 4 ∷ 2 ∷ 1 ∷ 5 ∷ 0 ∷ 2 ∷ 4 ∷ 0 ∷ 4 ∷ 5 ∷ 0 ∷ 5 ∷ 6 ∷ 4 ∷ 3 ∷ 5 ∷ 5 ∷ 1 ∷ 6 ∷ [])); borders = ((1 ∷ 6 ∷ 2 ∷ 4 ∷ 3 ∷ 5 ∷ 0 ∷ 3 ∷ 6 ∷ 0 ∷ 5 ∷ 2 ∷ 4 ∷ 1 ∷ [])) }
     ∷
     -- M10
-    record { rooms = rooms 24576 1024; calls = begin (counts 4096 8192 1024 100) ∷ operate Start ∷ operate New ∷ operate New ∷ operate (Split 2) ∷ []; told = accepted ∷ triangle (tri 0 1 2) ∷ triangle (tri 1 0 3) ∷ triangle (tri 1 3 4) ∷ refusal 18 ∷ []; machine = ((5 ∷ 7 ∷ 5 ∷ 1 ∷ 1 ∷ 0 ∷ 0 ∷ 0 ∷ 1 ∷ 2 ∷ 1 ∷ 0 ∷ 3 ∷ 1 ∷ 3 ∷ 4 ∷ 5 ∷ 4 ∷ 1 ∷ 1 ∷ 1 ∷ 2 ∷ 1 ∷ 0 ∷ 1 ∷ 3 ∷ 1 ∷ [])); borders = [] }
+    record { lengths = lengths 24576 1024; calls = begin (counts 4096 8192 1024 100) ∷ operate Start ∷ operate New ∷ operate New ∷ operate (Split 2) ∷ []; told = accepted ∷ triangle (tri 0 1 2) ∷ triangle (tri 1 0 3) ∷ triangle (tri 1 3 4) ∷ refusal 18 ∷ []; machine = ((5 ∷ 7 ∷ 5 ∷ 1 ∷ 1 ∷ 0 ∷ 0 ∷ 0 ∷ 1 ∷ 2 ∷ 1 ∷ 0 ∷ 3 ∷ 1 ∷ 3 ∷ 4 ∷ 5 ∷ 4 ∷ 1 ∷ 1 ∷ 1 ∷ 2 ∷ 1 ∷ 0 ∷ 1 ∷ 3 ∷ 1 ∷ [])); borders = [] }
     ∷
     -- refused by opposites only: neither a>c nor c>b is used, c>a and b>c are
-    record { rooms = rooms 24576 1024; calls = begin (counts 4096 8192 1024 100) ∷ operate Start ∷ operate New ∷ operate Border ∷ operate New ∷ operate (Split 2) ∷ operate Border ∷ operate (Union 1 1) ∷ []; told = accepted ∷ triangle (tri 0 1 2) ∷ triangle (tri 1 0 3) ∷ no-triangle ∷ triangle (tri 2 1 4) ∷ triangle (tri 2 4 3) ∷ no-triangle ∷ refusal 18 ∷ []; machine = ((5 ∷ 9 ∷ 6 ∷ 2 ∷ 1 ∷ 0 ∷ 0 ∷ 0 ∷ 1 ∷ 2 ∷ 1 ∷ 0 ∷ 3 ∷ 2 ∷ 1 ∷ 4 ∷ 2 ∷ 4 ∷ 3 ∷ 3 ∷ 2 ∷ 1 ∷ 0 ∷ 1 ∷ 3 ∷ 0 ∷ 3 ∷ 4 ∷ 1 ∷ 3 ∷ 0 ∷ 1 ∷ 1 ∷ [])); borders = ((3 ∷ 2 ∷ 3 ∷ 1 ∷ [])) }
+    record { lengths = lengths 24576 1024; calls = begin (counts 4096 8192 1024 100) ∷ operate Start ∷ operate New ∷ operate Border ∷ operate New ∷ operate (Split 2) ∷ operate Border ∷ operate (Union 1 1) ∷ []; told = accepted ∷ triangle (tri 0 1 2) ∷ triangle (tri 1 0 3) ∷ no-triangle ∷ triangle (tri 2 1 4) ∷ triangle (tri 2 4 3) ∷ no-triangle ∷ refusal 18 ∷ []; machine = ((5 ∷ 9 ∷ 6 ∷ 2 ∷ 1 ∷ 0 ∷ 0 ∷ 0 ∷ 1 ∷ 2 ∷ 1 ∷ 0 ∷ 3 ∷ 2 ∷ 1 ∷ 4 ∷ 2 ∷ 4 ∷ 3 ∷ 3 ∷ 2 ∷ 1 ∷ 0 ∷ 1 ∷ 3 ∷ 0 ∷ 3 ∷ 4 ∷ 1 ∷ 3 ∷ 0 ∷ 1 ∷ 1 ∷ [])); borders = ((3 ∷ 2 ∷ 3 ∷ 1 ∷ [])) }
     ∷
     -- c is a; c is b
-    record { rooms = rooms 24576 1024; calls = begin (counts 4096 8192 1024 100) ∷ operate Start ∷ operate New ∷ operate Border ∷ operate New ∷ operate (Split 2) ∷ operate (Union 1 1) ∷ []; told = accepted ∷ triangle (tri 0 1 2) ∷ triangle (tri 1 0 3) ∷ no-triangle ∷ triangle (tri 2 1 4) ∷ triangle (tri 2 4 3) ∷ refusal 18 ∷ []; machine = ((5 ∷ 9 ∷ 6 ∷ 2 ∷ 1 ∷ 0 ∷ 0 ∷ 0 ∷ 1 ∷ 2 ∷ 1 ∷ 0 ∷ 3 ∷ 2 ∷ 1 ∷ 4 ∷ 2 ∷ 4 ∷ 3 ∷ 3 ∷ 3 ∷ 1 ∷ 2 ∷ 1 ∷ 0 ∷ 1 ∷ 3 ∷ 4 ∷ 1 ∷ 3 ∷ 0 ∷ 1 ∷ 1 ∷ [])); borders = ((3 ∷ 1 ∷ [])) }
+    record { lengths = lengths 24576 1024; calls = begin (counts 4096 8192 1024 100) ∷ operate Start ∷ operate New ∷ operate Border ∷ operate New ∷ operate (Split 2) ∷ operate (Union 1 1) ∷ []; told = accepted ∷ triangle (tri 0 1 2) ∷ triangle (tri 1 0 3) ∷ no-triangle ∷ triangle (tri 2 1 4) ∷ triangle (tri 2 4 3) ∷ refusal 18 ∷ []; machine = ((5 ∷ 9 ∷ 6 ∷ 2 ∷ 1 ∷ 0 ∷ 0 ∷ 0 ∷ 1 ∷ 2 ∷ 1 ∷ 0 ∷ 3 ∷ 2 ∷ 1 ∷ 4 ∷ 2 ∷ 4 ∷ 3 ∷ 3 ∷ 3 ∷ 1 ∷ 2 ∷ 1 ∷ 0 ∷ 1 ∷ 3 ∷ 4 ∷ 1 ∷ 3 ∷ 0 ∷ 1 ∷ 1 ∷ [])); borders = ((3 ∷ 1 ∷ [])) }
     ∷
     -- c is a; c is b
-    record { rooms = rooms 24576 1024; calls = begin (counts 4096 8192 1024 100) ∷ operate Start ∷ operate New ∷ operate New ∷ operate Border ∷ operate New ∷ operate (Split 3) ∷ operate (Union 1 0) ∷ []; told = accepted ∷ triangle (tri 0 1 2) ∷ triangle (tri 1 0 3) ∷ triangle (tri 1 3 4) ∷ no-triangle ∷ triangle (tri 2 1 5) ∷ triangle (tri 2 5 4) ∷ refusal 18 ∷ []; machine = ((6 ∷ 11 ∷ 7 ∷ 2 ∷ 1 ∷ 0 ∷ 0 ∷ 0 ∷ 1 ∷ 2 ∷ 1 ∷ 0 ∷ 3 ∷ 1 ∷ 3 ∷ 4 ∷ 2 ∷ 1 ∷ 5 ∷ 2 ∷ 5 ∷ 4 ∷ 3 ∷ 5 ∷ 1 ∷ 4 ∷ 0 ∷ 1 ∷ 1 ∷ 4 ∷ 4 ∷ 1 ∷ 2 ∷ 1 ∷ 0 ∷ 1 ∷ 3 ∷ 1 ∷ [])); borders = ((4 ∷ 1 ∷ [])) }
+    record { lengths = lengths 24576 1024; calls = begin (counts 4096 8192 1024 100) ∷ operate Start ∷ operate New ∷ operate New ∷ operate Border ∷ operate New ∷ operate (Split 3) ∷ operate (Union 1 0) ∷ []; told = accepted ∷ triangle (tri 0 1 2) ∷ triangle (tri 1 0 3) ∷ triangle (tri 1 3 4) ∷ no-triangle ∷ triangle (tri 2 1 5) ∷ triangle (tri 2 5 4) ∷ refusal 18 ∷ []; machine = ((6 ∷ 11 ∷ 7 ∷ 2 ∷ 1 ∷ 0 ∷ 0 ∷ 0 ∷ 1 ∷ 2 ∷ 1 ∷ 0 ∷ 3 ∷ 1 ∷ 3 ∷ 4 ∷ 2 ∷ 1 ∷ 5 ∷ 2 ∷ 5 ∷ 4 ∷ 3 ∷ 5 ∷ 1 ∷ 4 ∷ 0 ∷ 1 ∷ 1 ∷ 4 ∷ 4 ∷ 1 ∷ 2 ∷ 1 ∷ 0 ∷ 1 ∷ 3 ∷ 1 ∷ [])); borders = ((4 ∷ 1 ∷ [])) }
     ∷
     -- a loop of two places takes neither forward, backward nor close
-    record { rooms = rooms 24576 1024; calls = begin (counts 4096 8192 1024 100) ∷ operate Start ∷ operate New ∷ operate Border ∷ operate Border ∷ operate Border ∷ operate Forward ∷ operate Backward ∷ operate Close ∷ operate Border ∷ operate Border ∷ operate Start ∷ end ∷ []; told = accepted ∷ triangle (tri 0 1 2) ∷ triangle (tri 1 0 3) ∷ no-triangle ∷ no-triangle ∷ no-triangle ∷ refusal 16 ∷ refusal 16 ∷ refusal 16 ∷ no-triangle ∷ refusal 16 ∷ triangle (tri 4 5 6) ∷ refusal 15 ∷ []; machine = ((7 ∷ 8 ∷ 4 ∷ 1 ∷ 2 ∷ 0 ∷ 1 ∷ 0 ∷ 1 ∷ 2 ∷ 1 ∷ 0 ∷ 3 ∷ 4 ∷ 5 ∷ 6 ∷ 3 ∷ 4 ∷ 1 ∷ 5 ∷ 1 ∷ 6 ∷ 1 ∷ [])); borders = ((0 ∷ 3 ∷ 2 ∷ 0 ∷ 1 ∷ 2 ∷ 3 ∷ 1 ∷ [])) }
+    record { lengths = lengths 24576 1024; calls = begin (counts 4096 8192 1024 100) ∷ operate Start ∷ operate New ∷ operate Border ∷ operate Border ∷ operate Border ∷ operate Forward ∷ operate Backward ∷ operate Close ∷ operate Border ∷ operate Border ∷ operate Start ∷ finish ∷ []; told = accepted ∷ triangle (tri 0 1 2) ∷ triangle (tri 1 0 3) ∷ no-triangle ∷ no-triangle ∷ no-triangle ∷ refusal 16 ∷ refusal 16 ∷ refusal 16 ∷ no-triangle ∷ refusal 16 ∷ triangle (tri 4 5 6) ∷ refusal 15 ∷ []; machine = ((7 ∷ 8 ∷ 4 ∷ 1 ∷ 2 ∷ 0 ∷ 1 ∷ 0 ∷ 1 ∷ 2 ∷ 1 ∷ 0 ∷ 3 ∷ 4 ∷ 5 ∷ 6 ∷ 3 ∷ 4 ∷ 1 ∷ 5 ∷ 1 ∷ 6 ∷ 1 ∷ [])); borders = ((0 ∷ 3 ∷ 2 ∷ 0 ∷ 1 ∷ 2 ∷ 3 ∷ 1 ∷ [])) }
     ∷
     -- a loop of three with a marked edge does not close
-    record { rooms = rooms 6 1024; calls = begin (counts 3 2 3 1) ∷ operate Start ∷ operate Border ∷ operate Close ∷ operate Forward ∷ operate Backward ∷ operate Border ∷ operate Border ∷ end ∷ []; told = accepted ∷ triangle (tri 0 1 2) ∷ no-triangle ∷ refusal 16 ∷ refusal 18 ∷ refusal 16 ∷ no-triangle ∷ no-triangle ∷ refusal 15 ∷ []; machine = ((3 ∷ 3 ∷ 3 ∷ 1 ∷ 1 ∷ 0 ∷ 1 ∷ 0 ∷ 1 ∷ 2 ∷ [])); borders = ((2 ∷ 0 ∷ 1 ∷ 2 ∷ 0 ∷ 1 ∷ [])) }
+    record { lengths = lengths 6 1024; calls = begin (counts 3 2 3 1) ∷ operate Start ∷ operate Border ∷ operate Close ∷ operate Forward ∷ operate Backward ∷ operate Border ∷ operate Border ∷ finish ∷ []; told = accepted ∷ triangle (tri 0 1 2) ∷ no-triangle ∷ refusal 16 ∷ refusal 18 ∷ refusal 16 ∷ no-triangle ∷ no-triangle ∷ refusal 15 ∷ []; machine = ((3 ∷ 3 ∷ 3 ∷ 1 ∷ 1 ∷ 0 ∷ 1 ∷ 0 ∷ 1 ∷ 2 ∷ [])); borders = ((2 ∷ 0 ∷ 1 ∷ 2 ∷ 0 ∷ 1 ∷ [])) }
     ∷
     -- waiting loops and union numbers out of range
-    record { rooms = rooms 24576 1024; calls = begin (counts 4096 8192 1024 100) ∷ operate Start ∷ operate (Union 0 0) ∷ operate (Union 1 0) ∷ operate New ∷ operate Border ∷ operate New ∷ operate (Split 1) ∷ operate (Split 3) ∷ operate (Split 2) ∷ operate (Union 0 0) ∷ operate (Union 2 0) ∷ operate (Union 1 3) ∷ operate (Union 1 2) ∷ []; told = accepted ∷ triangle (tri 0 1 2) ∷ refusal 16 ∷ refusal 16 ∷ triangle (tri 1 0 3) ∷ no-triangle ∷ triangle (tri 2 1 4) ∷ refusal 16 ∷ refusal 16 ∷ triangle (tri 2 4 3) ∷ refusal 16 ∷ refusal 16 ∷ refusal 16 ∷ refusal 18 ∷ []; machine = ((5 ∷ 9 ∷ 6 ∷ 2 ∷ 1 ∷ 0 ∷ 0 ∷ 0 ∷ 1 ∷ 2 ∷ 1 ∷ 0 ∷ 3 ∷ 2 ∷ 1 ∷ 4 ∷ 2 ∷ 4 ∷ 3 ∷ 3 ∷ 3 ∷ 1 ∷ 2 ∷ 1 ∷ 0 ∷ 1 ∷ 3 ∷ 4 ∷ 1 ∷ 3 ∷ 0 ∷ 1 ∷ 1 ∷ [])); borders = ((3 ∷ 1 ∷ [])) }
+    record { lengths = lengths 24576 1024; calls = begin (counts 4096 8192 1024 100) ∷ operate Start ∷ operate (Union 0 0) ∷ operate (Union 1 0) ∷ operate New ∷ operate Border ∷ operate New ∷ operate (Split 1) ∷ operate (Split 3) ∷ operate (Split 2) ∷ operate (Union 0 0) ∷ operate (Union 2 0) ∷ operate (Union 1 3) ∷ operate (Union 1 2) ∷ []; told = accepted ∷ triangle (tri 0 1 2) ∷ refusal 16 ∷ refusal 16 ∷ triangle (tri 1 0 3) ∷ no-triangle ∷ triangle (tri 2 1 4) ∷ refusal 16 ∷ refusal 16 ∷ triangle (tri 2 4 3) ∷ refusal 16 ∷ refusal 16 ∷ refusal 16 ∷ refusal 18 ∷ []; machine = ((5 ∷ 9 ∷ 6 ∷ 2 ∷ 1 ∷ 0 ∷ 0 ∷ 0 ∷ 1 ∷ 2 ∷ 1 ∷ 0 ∷ 3 ∷ 2 ∷ 1 ∷ 4 ∷ 2 ∷ 4 ∷ 3 ∷ 3 ∷ 3 ∷ 1 ∷ 2 ∷ 1 ∷ 0 ∷ 1 ∷ 3 ∷ 4 ∷ 1 ∷ 3 ∷ 0 ∷ 1 ∷ 1 ∷ [])); borders = ((3 ∷ 1 ∷ [])) }
     ∷
     -- limits stated: V, T, places, loops
-    record { rooms = rooms 12 1024; calls = begin (counts 5 4 6 1) ∷ operate Start ∷ operate New ∷ operate Border ∷ operate New ∷ operate (Split 2) ∷ operate Border ∷ operate Border ∷ operate Border ∷ operate Border ∷ end ∷ []; told = accepted ∷ triangle (tri 0 1 2) ∷ triangle (tri 1 0 3) ∷ no-triangle ∷ triangle (tri 2 1 4) ∷ refusal 17 ∷ no-triangle ∷ no-triangle ∷ no-triangle ∷ no-triangle ∷ refusal 15 ∷ []; machine = ((5 ∷ 7 ∷ 5 ∷ 1 ∷ 1 ∷ 0 ∷ 1 ∷ 0 ∷ 1 ∷ 2 ∷ 1 ∷ 0 ∷ 3 ∷ 2 ∷ 1 ∷ 4 ∷ [])); borders = ((1 ∷ 4 ∷ 0 ∷ 3 ∷ 2 ∷ 0 ∷ 4 ∷ 2 ∷ 3 ∷ 1 ∷ [])) }
+    record { lengths = lengths 12 1024; calls = begin (counts 5 4 6 1) ∷ operate Start ∷ operate New ∷ operate Border ∷ operate New ∷ operate (Split 2) ∷ operate Border ∷ operate Border ∷ operate Border ∷ operate Border ∷ finish ∷ []; told = accepted ∷ triangle (tri 0 1 2) ∷ triangle (tri 1 0 3) ∷ no-triangle ∷ triangle (tri 2 1 4) ∷ refusal 17 ∷ no-triangle ∷ no-triangle ∷ no-triangle ∷ no-triangle ∷ refusal 15 ∷ []; machine = ((5 ∷ 7 ∷ 5 ∷ 1 ∷ 1 ∷ 0 ∷ 1 ∷ 0 ∷ 1 ∷ 2 ∷ 1 ∷ 0 ∷ 3 ∷ 2 ∷ 1 ∷ 4 ∷ [])); borders = ((1 ∷ 4 ∷ 0 ∷ 3 ∷ 2 ∷ 0 ∷ 4 ∷ 2 ∷ 3 ∷ 1 ∷ [])) }
     ∷
     -- limits stated: V, T, places, loops
-    record { rooms = rooms 9 1024; calls = begin (counts 5 3 5 1) ∷ operate Start ∷ operate New ∷ operate New ∷ operate Border ∷ operate New ∷ end ∷ []; told = accepted ∷ triangle (tri 0 1 2) ∷ triangle (tri 1 0 3) ∷ triangle (tri 1 3 4) ∷ no-triangle ∷ refusal 17 ∷ refusal 15 ∷ []; machine = ((5 ∷ 7 ∷ 5 ∷ 1 ∷ 1 ∷ 0 ∷ 0 ∷ 0 ∷ 1 ∷ 2 ∷ 1 ∷ 0 ∷ 3 ∷ 1 ∷ 3 ∷ 4 ∷ 5 ∷ 1 ∷ 1 ∷ 2 ∷ 1 ∷ 0 ∷ 1 ∷ 3 ∷ 1 ∷ 4 ∷ 0 ∷ [])); borders = ((4 ∷ 1 ∷ [])) }
+    record { lengths = lengths 9 1024; calls = begin (counts 5 3 5 1) ∷ operate Start ∷ operate New ∷ operate New ∷ operate Border ∷ operate New ∷ finish ∷ []; told = accepted ∷ triangle (tri 0 1 2) ∷ triangle (tri 1 0 3) ∷ triangle (tri 1 3 4) ∷ no-triangle ∷ refusal 17 ∷ refusal 15 ∷ []; machine = ((5 ∷ 7 ∷ 5 ∷ 1 ∷ 1 ∷ 0 ∷ 0 ∷ 0 ∷ 1 ∷ 2 ∷ 1 ∷ 0 ∷ 3 ∷ 1 ∷ 3 ∷ 4 ∷ 5 ∷ 1 ∷ 1 ∷ 2 ∷ 1 ∷ 0 ∷ 1 ∷ 3 ∷ 1 ∷ 4 ∷ 0 ∷ [])); borders = ((4 ∷ 1 ∷ [])) }
     ∷
     -- 13 before 14 at a beginning; one refused leaves the model as it was
-    record { rooms = rooms 6 1024; calls = begin (counts 3 1 3 1) ∷ operate Start ∷ begin (counts 2 3 3 1) ∷ begin (counts 2 1 3 1) ∷ begin (counts 3 3 3 1) ∷ operate Border ∷ begin (counts 3 1 3 1) ∷ operate New ∷ operate Start ∷ operate Border ∷ operate Border ∷ operate Border ∷ end ∷ []; told = accepted ∷ triangle (tri 0 1 2) ∷ refusal 13 ∷ refusal 13 ∷ refusal 14 ∷ no-triangle ∷ accepted ∷ refusal 16 ∷ triangle (tri 0 1 2) ∷ no-triangle ∷ no-triangle ∷ no-triangle ∷ numbers (totalsOf 3 1 0 (pos 1)) ∷ []; machine = ((3 ∷ 3 ∷ 3 ∷ 1 ∷ 1 ∷ 0 ∷ 1 ∷ 0 ∷ 1 ∷ 2 ∷ [])); borders = ((2 ∷ 0 ∷ 1 ∷ 2 ∷ 0 ∷ 1 ∷ [])) }
+    record { lengths = lengths 6 1024; calls = begin (counts 3 1 3 1) ∷ operate Start ∷ begin (counts 2 3 3 1) ∷ begin (counts 2 1 3 1) ∷ begin (counts 3 3 3 1) ∷ operate Border ∷ begin (counts 3 1 3 1) ∷ operate New ∷ operate Start ∷ operate Border ∷ operate Border ∷ operate Border ∷ finish ∷ []; told = accepted ∷ triangle (tri 0 1 2) ∷ refusal 13 ∷ refusal 13 ∷ refusal 14 ∷ no-triangle ∷ accepted ∷ refusal 16 ∷ triangle (tri 0 1 2) ∷ no-triangle ∷ no-triangle ∷ no-triangle ∷ numbers (totalsOf 3 1 0 (pos 1)) ∷ []; machine = ((3 ∷ 3 ∷ 3 ∷ 1 ∷ 1 ∷ 0 ∷ 1 ∷ 0 ∷ 1 ∷ 2 ∷ [])); borders = ((2 ∷ 0 ∷ 1 ∷ 2 ∷ 0 ∷ 1 ∷ [])) }
     ∷
     -- 14: the place list
-    record { rooms = rooms 6 1023; calls = begin (counts 3 1 3 1) ∷ []; told = refusal 14 ∷ []; machine = ((0 ∷ 0 ∷ 0 ∷ 0 ∷ 0 ∷ 0 ∷ 0 ∷ [])); borders = [] }
+    record { lengths = lengths 6 1023; calls = begin (counts 3 1 3 1) ∷ []; told = refusal 14 ∷ []; machine = ((0 ∷ 0 ∷ 0 ∷ 0 ∷ 0 ∷ 0 ∷ 0 ∷ [])); borders = [] }
     ∷
     -- refused by 20
-    record { rooms = rooms 12 1024; calls = begin (counts 5 4 5 2) ∷ operate Start ∷ operate New ∷ operate New ∷ operate Border ∷ operate Border ∷ operate (Split 2) ∷ operate Border ∷ operate Border ∷ operate Border ∷ operate Border ∷ end ∷ []; told = accepted ∷ triangle (tri 0 1 2) ∷ triangle (tri 1 0 3) ∷ triangle (tri 1 3 4) ∷ no-triangle ∷ no-triangle ∷ triangle (tri 0 2 4) ∷ no-triangle ∷ no-triangle ∷ no-triangle ∷ no-triangle ∷ refusal 20 ∷ []; machine = ((5 ∷ 9 ∷ 5 ∷ 2 ∷ 1 ∷ 0 ∷ 2 ∷ 0 ∷ 1 ∷ 2 ∷ 1 ∷ 0 ∷ 3 ∷ 1 ∷ 3 ∷ 4 ∷ 0 ∷ 2 ∷ 4 ∷ [])); borders = ((3 ∷ 4 ∷ 0 ∷ 3 ∷ 4 ∷ 0 ∷ 2 ∷ 4 ∷ 1 ∷ 2 ∷ 4 ∷ 1 ∷ [])) }
+    record { lengths = lengths 12 1024; calls = begin (counts 5 4 5 2) ∷ operate Start ∷ operate New ∷ operate New ∷ operate Border ∷ operate Border ∷ operate (Split 2) ∷ operate Border ∷ operate Border ∷ operate Border ∷ operate Border ∷ finish ∷ []; told = accepted ∷ triangle (tri 0 1 2) ∷ triangle (tri 1 0 3) ∷ triangle (tri 1 3 4) ∷ no-triangle ∷ no-triangle ∷ triangle (tri 0 2 4) ∷ no-triangle ∷ no-triangle ∷ no-triangle ∷ no-triangle ∷ refusal 20 ∷ []; machine = ((5 ∷ 9 ∷ 5 ∷ 2 ∷ 1 ∷ 0 ∷ 2 ∷ 0 ∷ 1 ∷ 2 ∷ 1 ∷ 0 ∷ 3 ∷ 1 ∷ 3 ∷ 4 ∷ 0 ∷ 2 ∷ 4 ∷ [])); borders = ((3 ∷ 4 ∷ 0 ∷ 3 ∷ 4 ∷ 0 ∷ 2 ∷ 4 ∷ 1 ∷ 2 ∷ 4 ∷ 1 ∷ [])) }
     ∷
     -- 19 before 20: a vertex too many
-    record { rooms = rooms 12 1024; calls = begin (counts 6 4 5 2) ∷ operate Start ∷ operate New ∷ operate New ∷ operate Border ∷ operate Border ∷ operate (Split 2) ∷ operate Border ∷ operate Border ∷ operate Border ∷ operate Border ∷ end ∷ []; told = accepted ∷ triangle (tri 0 1 2) ∷ triangle (tri 1 0 3) ∷ triangle (tri 1 3 4) ∷ no-triangle ∷ no-triangle ∷ triangle (tri 0 2 4) ∷ no-triangle ∷ no-triangle ∷ no-triangle ∷ no-triangle ∷ refusal 19 ∷ []; machine = ((5 ∷ 9 ∷ 5 ∷ 2 ∷ 1 ∷ 0 ∷ 2 ∷ 0 ∷ 1 ∷ 2 ∷ 1 ∷ 0 ∷ 3 ∷ 1 ∷ 3 ∷ 4 ∷ 0 ∷ 2 ∷ 4 ∷ [])); borders = ((3 ∷ 4 ∷ 0 ∷ 3 ∷ 4 ∷ 0 ∷ 2 ∷ 4 ∷ 1 ∷ 2 ∷ 4 ∷ 1 ∷ [])) }
+    record { lengths = lengths 12 1024; calls = begin (counts 6 4 5 2) ∷ operate Start ∷ operate New ∷ operate New ∷ operate Border ∷ operate Border ∷ operate (Split 2) ∷ operate Border ∷ operate Border ∷ operate Border ∷ operate Border ∷ finish ∷ []; told = accepted ∷ triangle (tri 0 1 2) ∷ triangle (tri 1 0 3) ∷ triangle (tri 1 3 4) ∷ no-triangle ∷ no-triangle ∷ triangle (tri 0 2 4) ∷ no-triangle ∷ no-triangle ∷ no-triangle ∷ no-triangle ∷ refusal 19 ∷ []; machine = ((5 ∷ 9 ∷ 5 ∷ 2 ∷ 1 ∷ 0 ∷ 2 ∷ 0 ∷ 1 ∷ 2 ∷ 1 ∷ 0 ∷ 3 ∷ 1 ∷ 3 ∷ 4 ∷ 0 ∷ 2 ∷ 4 ∷ [])); borders = ((3 ∷ 4 ∷ 0 ∷ 3 ∷ 4 ∷ 0 ∷ 2 ∷ 4 ∷ 1 ∷ 2 ∷ 4 ∷ 1 ∷ [])) }
     ∷
     -- 19: the peak of places
-    record { rooms = rooms 6 1024; calls = begin (counts 3 1 4 1) ∷ operate Start ∷ operate Border ∷ operate Border ∷ operate Border ∷ operate Start ∷ operate New ∷ end ∷ []; told = accepted ∷ triangle (tri 0 1 2) ∷ no-triangle ∷ no-triangle ∷ no-triangle ∷ refusal 17 ∷ refusal 16 ∷ refusal 19 ∷ []; machine = ((3 ∷ 3 ∷ 3 ∷ 1 ∷ 1 ∷ 0 ∷ 1 ∷ 0 ∷ 1 ∷ 2 ∷ [])); borders = ((2 ∷ 0 ∷ 1 ∷ 2 ∷ 0 ∷ 1 ∷ [])) }
+    record { lengths = lengths 6 1024; calls = begin (counts 3 1 4 1) ∷ operate Start ∷ operate Border ∷ operate Border ∷ operate Border ∷ operate Start ∷ operate New ∷ finish ∷ []; told = accepted ∷ triangle (tri 0 1 2) ∷ no-triangle ∷ no-triangle ∷ no-triangle ∷ refusal 17 ∷ refusal 16 ∷ refusal 19 ∷ []; machine = ((3 ∷ 3 ∷ 3 ∷ 1 ∷ 1 ∷ 0 ∷ 1 ∷ 0 ∷ 1 ∷ 2 ∷ [])); borders = ((2 ∷ 0 ∷ 1 ∷ 2 ∷ 0 ∷ 1 ∷ [])) }
     ∷
     -- 19: the peak of loops
-    record { rooms = rooms 6 1024; calls = begin (counts 3 1 3 2) ∷ operate Start ∷ operate Border ∷ operate Border ∷ operate Border ∷ end ∷ []; told = accepted ∷ triangle (tri 0 1 2) ∷ no-triangle ∷ no-triangle ∷ no-triangle ∷ refusal 19 ∷ []; machine = ((3 ∷ 3 ∷ 3 ∷ 1 ∷ 1 ∷ 0 ∷ 1 ∷ 0 ∷ 1 ∷ 2 ∷ [])); borders = ((2 ∷ 0 ∷ 1 ∷ 2 ∷ 0 ∷ 1 ∷ [])) }
+    record { lengths = lengths 6 1024; calls = begin (counts 3 1 3 2) ∷ operate Start ∷ operate Border ∷ operate Border ∷ operate Border ∷ finish ∷ []; told = accepted ∷ triangle (tri 0 1 2) ∷ no-triangle ∷ no-triangle ∷ no-triangle ∷ refusal 19 ∷ []; machine = ((3 ∷ 3 ∷ 3 ∷ 1 ∷ 1 ∷ 0 ∷ 1 ∷ 0 ∷ 1 ∷ 2 ∷ [])); borders = ((2 ∷ 0 ∷ 1 ∷ 2 ∷ 0 ∷ 1 ∷ [])) }
     ∷
     -- 15 before 19
-    record { rooms = rooms 6 1024; calls = begin (counts 4 2 4 1) ∷ operate Start ∷ end ∷ operate Border ∷ operate Border ∷ operate Border ∷ end ∷ []; told = accepted ∷ triangle (tri 0 1 2) ∷ refusal 15 ∷ no-triangle ∷ no-triangle ∷ no-triangle ∷ refusal 15 ∷ []; machine = ((3 ∷ 3 ∷ 3 ∷ 1 ∷ 1 ∷ 0 ∷ 1 ∷ 0 ∷ 1 ∷ 2 ∷ [])); borders = ((2 ∷ 0 ∷ 1 ∷ 2 ∷ 0 ∷ 1 ∷ [])) }
+    record { lengths = lengths 6 1024; calls = begin (counts 4 2 4 1) ∷ operate Start ∷ finish ∷ operate Border ∷ operate Border ∷ operate Border ∷ finish ∷ []; told = accepted ∷ triangle (tri 0 1 2) ∷ refusal 15 ∷ no-triangle ∷ no-triangle ∷ no-triangle ∷ refusal 15 ∷ []; machine = ((3 ∷ 3 ∷ 3 ∷ 1 ∷ 1 ∷ 0 ∷ 1 ∷ 0 ∷ 1 ∷ 2 ∷ [])); borders = ((2 ∷ 0 ∷ 1 ∷ 2 ∷ 0 ∷ 1 ∷ [])) }
     ∷
     -- T triangles are built and a loop is live: not complete
-    record { rooms = rooms 3 1024; calls = begin (counts 3 1 3 1) ∷ operate Start ∷ end ∷ operate Border ∷ operate New ∷ operate Border ∷ operate Border ∷ end ∷ operate Start ∷ operate New ∷ operate Forward ∷ operate Backward ∷ operate Border ∷ operate Close ∷ operate (Split 2) ∷ operate (Union 1 0) ∷ []; told = accepted ∷ triangle (tri 0 1 2) ∷ refusal 15 ∷ no-triangle ∷ refusal 17 ∷ no-triangle ∷ no-triangle ∷ numbers (totalsOf 3 1 0 (pos 1)) ∷ refusal 17 ∷ refusal 16 ∷ refusal 16 ∷ refusal 16 ∷ refusal 16 ∷ refusal 16 ∷ refusal 16 ∷ refusal 16 ∷ []; machine = ((3 ∷ 3 ∷ 3 ∷ 1 ∷ 1 ∷ 0 ∷ 1 ∷ 0 ∷ 1 ∷ 2 ∷ [])); borders = ((2 ∷ 0 ∷ 1 ∷ 2 ∷ 0 ∷ 1 ∷ [])) }
+    record { lengths = lengths 3 1024; calls = begin (counts 3 1 3 1) ∷ operate Start ∷ finish ∷ operate Border ∷ operate New ∷ operate Border ∷ operate Border ∷ finish ∷ operate Start ∷ operate New ∷ operate Forward ∷ operate Backward ∷ operate Border ∷ operate Close ∷ operate (Split 2) ∷ operate (Union 1 0) ∷ []; told = accepted ∷ triangle (tri 0 1 2) ∷ refusal 15 ∷ no-triangle ∷ refusal 17 ∷ no-triangle ∷ no-triangle ∷ numbers (totalsOf 3 1 0 (pos 1)) ∷ refusal 17 ∷ refusal 16 ∷ refusal 16 ∷ refusal 16 ∷ refusal 16 ∷ refusal 16 ∷ refusal 16 ∷ refusal 16 ∷ []; machine = ((3 ∷ 3 ∷ 3 ∷ 1 ∷ 1 ∷ 0 ∷ 1 ∷ 0 ∷ 1 ∷ 2 ∷ [])); borders = ((2 ∷ 0 ∷ 1 ∷ 2 ∷ 0 ∷ 1 ∷ [])) }
     ∷
     -- a loop of three open edges takes neither forward, backward nor split; one of four does not close
-    record { rooms = rooms 27 1024; calls = begin (counts 9 9 9 9) ∷ operate Start ∷ operate Forward ∷ operate Backward ∷ operate (Split 0) ∷ operate (Split 1) ∷ operate (Split 2) ∷ operate New ∷ operate Close ∷ operate (Split 1) ∷ operate (Split 2) ∷ operate Backward ∷ operate Backward ∷ end ∷ []; told = accepted ∷ triangle (tri 0 1 2) ∷ refusal 16 ∷ refusal 16 ∷ refusal 16 ∷ refusal 16 ∷ refusal 16 ∷ triangle (tri 1 0 3) ∷ refusal 16 ∷ refusal 16 ∷ refusal 16 ∷ refusal 18 ∷ refusal 18 ∷ refusal 15 ∷ []; machine = ((4 ∷ 5 ∷ 4 ∷ 1 ∷ 1 ∷ 0 ∷ 0 ∷ 0 ∷ 1 ∷ 2 ∷ 1 ∷ 0 ∷ 3 ∷ 4 ∷ 3 ∷ 1 ∷ 1 ∷ 1 ∷ 2 ∷ 1 ∷ 0 ∷ 1 ∷ [])); borders = [] }
+    record { lengths = lengths 27 1024; calls = begin (counts 9 9 9 9) ∷ operate Start ∷ operate Forward ∷ operate Backward ∷ operate (Split 0) ∷ operate (Split 1) ∷ operate (Split 2) ∷ operate New ∷ operate Close ∷ operate (Split 1) ∷ operate (Split 2) ∷ operate Backward ∷ operate Backward ∷ finish ∷ []; told = accepted ∷ triangle (tri 0 1 2) ∷ refusal 16 ∷ refusal 16 ∷ refusal 16 ∷ refusal 16 ∷ refusal 16 ∷ triangle (tri 1 0 3) ∷ refusal 16 ∷ refusal 16 ∷ refusal 16 ∷ refusal 18 ∷ refusal 18 ∷ refusal 15 ∷ []; machine = ((4 ∷ 5 ∷ 4 ∷ 1 ∷ 1 ∷ 0 ∷ 0 ∷ 0 ∷ 1 ∷ 2 ∷ 1 ∷ 0 ∷ 3 ∷ 4 ∷ 3 ∷ 1 ∷ 1 ∷ 1 ∷ 2 ∷ 1 ∷ 0 ∷ 1 ∷ [])); borders = [] }
     ∷
     -- 18: a→c is used, its opposite is not
-    record { rooms = rooms 180 1024; calls = begin (counts 60 60 60 9) ∷ operate Start ∷ operate New ∷ operate New ∷ operate Border ∷ operate New ∷ operate (Split 3) ∷ operate (Union 1 3) ∷ []; told = accepted ∷ triangle (tri 0 1 2) ∷ triangle (tri 1 0 3) ∷ triangle (tri 1 3 4) ∷ no-triangle ∷ triangle (tri 2 1 5) ∷ triangle (tri 2 5 4) ∷ refusal 18 ∷ []; machine = ((6 ∷ 11 ∷ 7 ∷ 2 ∷ 1 ∷ 0 ∷ 0 ∷ 0 ∷ 1 ∷ 2 ∷ 1 ∷ 0 ∷ 3 ∷ 1 ∷ 3 ∷ 4 ∷ 2 ∷ 1 ∷ 5 ∷ 2 ∷ 5 ∷ 4 ∷ 3 ∷ 5 ∷ 1 ∷ 4 ∷ 0 ∷ 1 ∷ 1 ∷ 4 ∷ 4 ∷ 1 ∷ 2 ∷ 1 ∷ 0 ∷ 1 ∷ 3 ∷ 1 ∷ [])); borders = ((4 ∷ 1 ∷ [])) }
+    record { lengths = lengths 180 1024; calls = begin (counts 60 60 60 9) ∷ operate Start ∷ operate New ∷ operate New ∷ operate Border ∷ operate New ∷ operate (Split 3) ∷ operate (Union 1 3) ∷ []; told = accepted ∷ triangle (tri 0 1 2) ∷ triangle (tri 1 0 3) ∷ triangle (tri 1 3 4) ∷ no-triangle ∷ triangle (tri 2 1 5) ∷ triangle (tri 2 5 4) ∷ refusal 18 ∷ []; machine = ((6 ∷ 11 ∷ 7 ∷ 2 ∷ 1 ∷ 0 ∷ 0 ∷ 0 ∷ 1 ∷ 2 ∷ 1 ∷ 0 ∷ 3 ∷ 1 ∷ 3 ∷ 4 ∷ 2 ∷ 1 ∷ 5 ∷ 2 ∷ 5 ∷ 4 ∷ 3 ∷ 5 ∷ 1 ∷ 4 ∷ 0 ∷ 1 ∷ 1 ∷ 4 ∷ 4 ∷ 1 ∷ 2 ∷ 1 ∷ 0 ∷ 1 ∷ 3 ∷ 1 ∷ [])); borders = ((4 ∷ 1 ∷ [])) }
     ∷
     -- 18: a→c alone, at a forward
-    record { rooms = rooms 180 1024; calls = begin (counts 60 60 60 9) ∷ operate Start ∷ operate New ∷ operate Border ∷ operate Forward ∷ []; told = accepted ∷ triangle (tri 0 1 2) ∷ triangle (tri 1 0 3) ∷ no-triangle ∷ refusal 18 ∷ []; machine = ((4 ∷ 5 ∷ 4 ∷ 1 ∷ 1 ∷ 0 ∷ 0 ∷ 0 ∷ 1 ∷ 2 ∷ 1 ∷ 0 ∷ 3 ∷ 4 ∷ 1 ∷ 1 ∷ 2 ∷ 1 ∷ 0 ∷ 1 ∷ 3 ∷ 0 ∷ [])); borders = ((3 ∷ 1 ∷ [])) }
+    record { lengths = lengths 180 1024; calls = begin (counts 60 60 60 9) ∷ operate Start ∷ operate New ∷ operate Border ∷ operate Forward ∷ []; told = accepted ∷ triangle (tri 0 1 2) ∷ triangle (tri 1 0 3) ∷ no-triangle ∷ refusal 18 ∷ []; machine = ((4 ∷ 5 ∷ 4 ∷ 1 ∷ 1 ∷ 0 ∷ 0 ∷ 0 ∷ 1 ∷ 2 ∷ 1 ∷ 0 ∷ 3 ∷ 4 ∷ 1 ∷ 1 ∷ 2 ∷ 1 ∷ 0 ∷ 1 ∷ 3 ∷ 0 ∷ [])); borders = ((3 ∷ 1 ∷ [])) }
     ∷
     -- 18: c→b alone, at a backward
-    record { rooms = rooms 180 1024; calls = begin (counts 60 60 60 9) ∷ operate Start ∷ operate New ∷ operate Backward ∷ []; told = accepted ∷ triangle (tri 0 1 2) ∷ triangle (tri 1 0 3) ∷ refusal 18 ∷ []; machine = ((4 ∷ 5 ∷ 4 ∷ 1 ∷ 1 ∷ 0 ∷ 0 ∷ 0 ∷ 1 ∷ 2 ∷ 1 ∷ 0 ∷ 3 ∷ 4 ∷ 3 ∷ 1 ∷ 1 ∷ 1 ∷ 2 ∷ 1 ∷ 0 ∷ 1 ∷ [])); borders = [] }
+    record { lengths = lengths 180 1024; calls = begin (counts 60 60 60 9) ∷ operate Start ∷ operate New ∷ operate Backward ∷ []; told = accepted ∷ triangle (tri 0 1 2) ∷ triangle (tri 1 0 3) ∷ refusal 18 ∷ []; machine = ((4 ∷ 5 ∷ 4 ∷ 1 ∷ 1 ∷ 0 ∷ 0 ∷ 0 ∷ 1 ∷ 2 ∷ 1 ∷ 0 ∷ 3 ∷ 4 ∷ 3 ∷ 1 ∷ 1 ∷ 1 ∷ 2 ∷ 1 ∷ 0 ∷ 1 ∷ [])); borders = [] }
     ∷
     -- f leaves: the next open edge is beyond a link
-    record { rooms = rooms 180 1024; calls = begin (counts 60 60 60 9) ∷ operate Start ∷ operate Border ∷ operate Border ∷ operate New ∷ operate Border ∷ []; told = accepted ∷ triangle (tri 0 1 2) ∷ no-triangle ∷ no-triangle ∷ triangle (tri 0 2 3) ∷ no-triangle ∷ []; machine = ((4 ∷ 5 ∷ 3 ∷ 1 ∷ 1 ∷ 0 ∷ 0 ∷ 0 ∷ 1 ∷ 2 ∷ 0 ∷ 2 ∷ 3 ∷ 2 ∷ 2 ∷ 1 ∷ 3 ∷ 0 ∷ [])); borders = ((3 ∷ 0 ∷ 1 ∷ 2 ∷ 0 ∷ 1 ∷ [])) }
+    record { lengths = lengths 180 1024; calls = begin (counts 60 60 60 9) ∷ operate Start ∷ operate Border ∷ operate Border ∷ operate New ∷ operate Border ∷ []; told = accepted ∷ triangle (tri 0 1 2) ∷ no-triangle ∷ no-triangle ∷ triangle (tri 0 2 3) ∷ no-triangle ∷ []; machine = ((4 ∷ 5 ∷ 3 ∷ 1 ∷ 1 ∷ 0 ∷ 0 ∷ 0 ∷ 1 ∷ 2 ∷ 0 ∷ 2 ∷ 3 ∷ 2 ∷ 2 ∷ 1 ∷ 3 ∷ 0 ∷ [])); borders = ((3 ∷ 0 ∷ 1 ∷ 2 ∷ 0 ∷ 1 ∷ [])) }
     ∷
     -- neither place leaves
-    record { rooms = rooms 180 1024; calls = begin (counts 60 60 60 9) ∷ operate Start ∷ operate Border ∷ operate New ∷ operate New ∷ operate Border ∷ []; told = accepted ∷ triangle (tri 0 1 2) ∷ no-triangle ∷ triangle (tri 2 1 3) ∷ triangle (tri 2 3 4) ∷ no-triangle ∷ []; machine = ((5 ∷ 7 ∷ 5 ∷ 1 ∷ 1 ∷ 0 ∷ 0 ∷ 0 ∷ 1 ∷ 2 ∷ 2 ∷ 1 ∷ 3 ∷ 2 ∷ 3 ∷ 4 ∷ 5 ∷ 2 ∷ 1 ∷ 0 ∷ 0 ∷ 1 ∷ 1 ∷ 3 ∷ 1 ∷ 4 ∷ 0 ∷ [])); borders = ((4 ∷ 2 ∷ 0 ∷ 1 ∷ [])) }
+    record { lengths = lengths 180 1024; calls = begin (counts 60 60 60 9) ∷ operate Start ∷ operate Border ∷ operate New ∷ operate New ∷ operate Border ∷ []; told = accepted ∷ triangle (tri 0 1 2) ∷ no-triangle ∷ triangle (tri 2 1 3) ∷ triangle (tri 2 3 4) ∷ no-triangle ∷ []; machine = ((5 ∷ 7 ∷ 5 ∷ 1 ∷ 1 ∷ 0 ∷ 0 ∷ 0 ∷ 1 ∷ 2 ∷ 2 ∷ 1 ∷ 3 ∷ 2 ∷ 3 ∷ 4 ∷ 5 ∷ 2 ∷ 1 ∷ 0 ∷ 0 ∷ 1 ∷ 1 ∷ 3 ∷ 1 ∷ 4 ∷ 0 ∷ [])); borders = ((4 ∷ 2 ∷ 0 ∷ 1 ∷ [])) }
     ∷
     -- both places leave: a link joins the places beside them
-    record { rooms = rooms 180 1024; calls = begin (counts 60 60 60 9) ∷ operate Start ∷ operate Border ∷ operate New ∷ operate New ∷ operate Border ∷ operate Border ∷ []; told = accepted ∷ triangle (tri 0 1 2) ∷ no-triangle ∷ triangle (tri 2 1 3) ∷ triangle (tri 2 3 4) ∷ no-triangle ∷ no-triangle ∷ []; machine = ((5 ∷ 7 ∷ 5 ∷ 1 ∷ 1 ∷ 0 ∷ 0 ∷ 0 ∷ 1 ∷ 2 ∷ 2 ∷ 1 ∷ 3 ∷ 2 ∷ 3 ∷ 4 ∷ 3 ∷ 1 ∷ 1 ∷ 3 ∷ 1 ∷ 4 ∷ 0 ∷ [])); borders = ((2 ∷ 0 ∷ 4 ∷ 2 ∷ 0 ∷ 1 ∷ [])) }
+    record { lengths = lengths 180 1024; calls = begin (counts 60 60 60 9) ∷ operate Start ∷ operate Border ∷ operate New ∷ operate New ∷ operate Border ∷ operate Border ∷ []; told = accepted ∷ triangle (tri 0 1 2) ∷ no-triangle ∷ triangle (tri 2 1 3) ∷ triangle (tri 2 3 4) ∷ no-triangle ∷ no-triangle ∷ []; machine = ((5 ∷ 7 ∷ 5 ∷ 1 ∷ 1 ∷ 0 ∷ 0 ∷ 0 ∷ 1 ∷ 2 ∷ 2 ∷ 1 ∷ 3 ∷ 2 ∷ 3 ∷ 4 ∷ 3 ∷ 1 ∷ 1 ∷ 3 ∷ 1 ∷ 4 ∷ 0 ∷ [])); borders = ((2 ∷ 0 ∷ 4 ∷ 2 ∷ 0 ∷ 1 ∷ [])) }
     ∷
     -- e leaves
-    record { rooms = rooms 180 1024; calls = begin (counts 60 60 60 9) ∷ operate Start ∷ operate New ∷ operate Border ∷ operate Border ∷ []; told = accepted ∷ triangle (tri 0 1 2) ∷ triangle (tri 1 0 3) ∷ no-triangle ∷ no-triangle ∷ []; machine = ((4 ∷ 5 ∷ 4 ∷ 1 ∷ 1 ∷ 0 ∷ 0 ∷ 0 ∷ 1 ∷ 2 ∷ 1 ∷ 0 ∷ 3 ∷ 3 ∷ 2 ∷ 1 ∷ 0 ∷ 1 ∷ 3 ∷ 0 ∷ [])); borders = ((1 ∷ 2 ∷ 3 ∷ 1 ∷ [])) }
+    record { lengths = lengths 180 1024; calls = begin (counts 60 60 60 9) ∷ operate Start ∷ operate New ∷ operate Border ∷ operate Border ∷ []; told = accepted ∷ triangle (tri 0 1 2) ∷ triangle (tri 1 0 3) ∷ no-triangle ∷ no-triangle ∷ []; machine = ((4 ∷ 5 ∷ 4 ∷ 1 ∷ 1 ∷ 0 ∷ 0 ∷ 0 ∷ 1 ∷ 2 ∷ 1 ∷ 0 ∷ 3 ∷ 3 ∷ 2 ∷ 1 ∷ 0 ∷ 1 ∷ 3 ∷ 0 ∷ [])); borders = ((1 ∷ 2 ∷ 3 ∷ 1 ∷ [])) }
     ∷
     -- a rim ends with two places
-    record { rooms = rooms 9 1024; calls = begin (counts 5 3 5 1) ∷ operate Start ∷ operate Border ∷ operate New ∷ operate New ∷ operate Border ∷ operate Border ∷ operate Border ∷ operate Border ∷ end ∷ []; told = accepted ∷ triangle (tri 0 1 2) ∷ no-triangle ∷ triangle (tri 2 1 3) ∷ triangle (tri 2 3 4) ∷ no-triangle ∷ no-triangle ∷ no-triangle ∷ no-triangle ∷ numbers (totalsOf 7 1 0 (pos 1)) ∷ []; machine = ((5 ∷ 7 ∷ 5 ∷ 1 ∷ 1 ∷ 0 ∷ 1 ∷ 0 ∷ 1 ∷ 2 ∷ 2 ∷ 1 ∷ 3 ∷ 2 ∷ 3 ∷ 4 ∷ [])); borders = ((3 ∷ 4 ∷ 1 ∷ 3 ∷ 2 ∷ 0 ∷ 4 ∷ 2 ∷ 0 ∷ 1 ∷ [])) }
+    record { lengths = lengths 9 1024; calls = begin (counts 5 3 5 1) ∷ operate Start ∷ operate Border ∷ operate New ∷ operate New ∷ operate Border ∷ operate Border ∷ operate Border ∷ operate Border ∷ finish ∷ []; told = accepted ∷ triangle (tri 0 1 2) ∷ no-triangle ∷ triangle (tri 2 1 3) ∷ triangle (tri 2 3 4) ∷ no-triangle ∷ no-triangle ∷ no-triangle ∷ no-triangle ∷ numbers (totalsOf 7 1 0 (pos 1)) ∷ []; machine = ((5 ∷ 7 ∷ 5 ∷ 1 ∷ 1 ∷ 0 ∷ 1 ∷ 0 ∷ 1 ∷ 2 ∷ 2 ∷ 1 ∷ 3 ∷ 2 ∷ 3 ∷ 4 ∷ [])); borders = ((3 ∷ 4 ∷ 1 ∷ 3 ∷ 2 ∷ 0 ∷ 4 ∷ 2 ∷ 0 ∷ 1 ∷ [])) }
     ∷
     -- the second loop of a split goes on, the first waits as the latest of two
-    record { rooms = rooms 180 1024; calls = begin (counts 60 60 60 9) ∷ operate Start ∷ operate New ∷ operate Border ∷ operate New ∷ operate (Split 2) ∷ operate New ∷ operate New ∷ operate Border ∷ operate New ∷ operate (Split 3) ∷ []; told = accepted ∷ triangle (tri 0 1 2) ∷ triangle (tri 1 0 3) ∷ no-triangle ∷ triangle (tri 2 1 4) ∷ triangle (tri 2 4 3) ∷ triangle (tri 2 3 5) ∷ triangle (tri 2 5 6) ∷ no-triangle ∷ triangle (tri 0 2 7) ∷ triangle (tri 0 7 6) ∷ []; machine = ((8 ∷ 17 ∷ 10 ∷ 3 ∷ 1 ∷ 0 ∷ 0 ∷ 0 ∷ 1 ∷ 2 ∷ 1 ∷ 0 ∷ 3 ∷ 2 ∷ 1 ∷ 4 ∷ 2 ∷ 4 ∷ 3 ∷ 2 ∷ 3 ∷ 5 ∷ 2 ∷ 5 ∷ 6 ∷ 0 ∷ 2 ∷ 7 ∷ 0 ∷ 7 ∷ 6 ∷ 3 ∷ 7 ∷ 1 ∷ 6 ∷ 0 ∷ 2 ∷ 1 ∷ 4 ∷ 6 ∷ 1 ∷ 0 ∷ 1 ∷ 3 ∷ 1 ∷ 5 ∷ 1 ∷ 3 ∷ 4 ∷ 1 ∷ 3 ∷ 0 ∷ 1 ∷ 1 ∷ [])); borders = ((6 ∷ 2 ∷ 3 ∷ 1 ∷ [])) }
+    record { lengths = lengths 180 1024; calls = begin (counts 60 60 60 9) ∷ operate Start ∷ operate New ∷ operate Border ∷ operate New ∷ operate (Split 2) ∷ operate New ∷ operate New ∷ operate Border ∷ operate New ∷ operate (Split 3) ∷ []; told = accepted ∷ triangle (tri 0 1 2) ∷ triangle (tri 1 0 3) ∷ no-triangle ∷ triangle (tri 2 1 4) ∷ triangle (tri 2 4 3) ∷ triangle (tri 2 3 5) ∷ triangle (tri 2 5 6) ∷ no-triangle ∷ triangle (tri 0 2 7) ∷ triangle (tri 0 7 6) ∷ []; machine = ((8 ∷ 17 ∷ 10 ∷ 3 ∷ 1 ∷ 0 ∷ 0 ∷ 0 ∷ 1 ∷ 2 ∷ 1 ∷ 0 ∷ 3 ∷ 2 ∷ 1 ∷ 4 ∷ 2 ∷ 4 ∷ 3 ∷ 2 ∷ 3 ∷ 5 ∷ 2 ∷ 5 ∷ 6 ∷ 0 ∷ 2 ∷ 7 ∷ 0 ∷ 7 ∷ 6 ∷ 3 ∷ 7 ∷ 1 ∷ 6 ∷ 0 ∷ 2 ∷ 1 ∷ 4 ∷ 6 ∷ 1 ∷ 0 ∷ 1 ∷ 3 ∷ 1 ∷ 5 ∷ 1 ∷ 3 ∷ 4 ∷ 1 ∷ 3 ∷ 0 ∷ 1 ∷ 1 ∷ [])); borders = ((6 ∷ 2 ∷ 3 ∷ 1 ∷ [])) }
     ∷
     -- 17: a vertex too many
-    record { rooms = rooms 27 1024; calls = begin (counts 3 9 9 9) ∷ operate Start ∷ operate New ∷ []; told = accepted ∷ triangle (tri 0 1 2) ∷ refusal 17 ∷ []; machine = ((3 ∷ 3 ∷ 3 ∷ 1 ∷ 1 ∷ 0 ∷ 0 ∷ 0 ∷ 1 ∷ 2 ∷ 3 ∷ 0 ∷ 1 ∷ 1 ∷ 1 ∷ 2 ∷ 1 ∷ [])); borders = [] }
+    record { lengths = lengths 27 1024; calls = begin (counts 3 9 9 9) ∷ operate Start ∷ operate New ∷ []; told = accepted ∷ triangle (tri 0 1 2) ∷ refusal 17 ∷ []; machine = ((3 ∷ 3 ∷ 3 ∷ 1 ∷ 1 ∷ 0 ∷ 0 ∷ 0 ∷ 1 ∷ 2 ∷ 3 ∷ 0 ∷ 1 ∷ 1 ∷ 1 ∷ 2 ∷ 1 ∷ [])); borders = [] }
     ∷
     -- 17: a triangle too many
-    record { rooms = rooms 27 1024; calls = begin (counts 9 1 9 9) ∷ operate Start ∷ operate New ∷ []; told = accepted ∷ triangle (tri 0 1 2) ∷ refusal 17 ∷ []; machine = ((3 ∷ 3 ∷ 3 ∷ 1 ∷ 1 ∷ 0 ∷ 0 ∷ 0 ∷ 1 ∷ 2 ∷ 3 ∷ 0 ∷ 1 ∷ 1 ∷ 1 ∷ 2 ∷ 1 ∷ [])); borders = [] }
+    record { lengths = lengths 27 1024; calls = begin (counts 9 1 9 9) ∷ operate Start ∷ operate New ∷ []; told = accepted ∷ triangle (tri 0 1 2) ∷ refusal 17 ∷ []; machine = ((3 ∷ 3 ∷ 3 ∷ 1 ∷ 1 ∷ 0 ∷ 0 ∷ 0 ∷ 1 ∷ 2 ∷ 3 ∷ 0 ∷ 1 ∷ 1 ∷ 1 ∷ 2 ∷ 1 ∷ [])); borders = [] }
     ∷
     -- 17: a place too many
-    record { rooms = rooms 27 1024; calls = begin (counts 9 9 3 9) ∷ operate Start ∷ operate New ∷ []; told = accepted ∷ triangle (tri 0 1 2) ∷ refusal 17 ∷ []; machine = ((3 ∷ 3 ∷ 3 ∷ 1 ∷ 1 ∷ 0 ∷ 0 ∷ 0 ∷ 1 ∷ 2 ∷ 3 ∷ 0 ∷ 1 ∷ 1 ∷ 1 ∷ 2 ∷ 1 ∷ [])); borders = [] }
+    record { lengths = lengths 27 1024; calls = begin (counts 9 9 3 9) ∷ operate Start ∷ operate New ∷ []; told = accepted ∷ triangle (tri 0 1 2) ∷ refusal 17 ∷ []; machine = ((3 ∷ 3 ∷ 3 ∷ 1 ∷ 1 ∷ 0 ∷ 0 ∷ 0 ∷ 1 ∷ 2 ∷ 3 ∷ 0 ∷ 1 ∷ 1 ∷ 1 ∷ 2 ∷ 1 ∷ [])); borders = [] }
     ∷
     -- 17: places are counted in shortened loops
-    record { rooms = rooms 27 1024; calls = begin (counts 9 9 3 9) ∷ operate Start ∷ operate Border ∷ operate Border ∷ operate New ∷ operate New ∷ operate Border ∷ operate New ∷ []; told = accepted ∷ triangle (tri 0 1 2) ∷ no-triangle ∷ no-triangle ∷ triangle (tri 0 2 3) ∷ refusal 17 ∷ no-triangle ∷ triangle (tri 3 2 4) ∷ []; machine = ((5 ∷ 7 ∷ 3 ∷ 1 ∷ 1 ∷ 0 ∷ 0 ∷ 0 ∷ 1 ∷ 2 ∷ 0 ∷ 2 ∷ 3 ∷ 3 ∷ 2 ∷ 4 ∷ 3 ∷ 4 ∷ 1 ∷ 3 ∷ 0 ∷ 2 ∷ 1 ∷ [])); borders = ((3 ∷ 0 ∷ 1 ∷ 2 ∷ 0 ∷ 1 ∷ [])) }
+    record { lengths = lengths 27 1024; calls = begin (counts 9 9 3 9) ∷ operate Start ∷ operate Border ∷ operate Border ∷ operate New ∷ operate New ∷ operate Border ∷ operate New ∷ []; told = accepted ∷ triangle (tri 0 1 2) ∷ no-triangle ∷ no-triangle ∷ triangle (tri 0 2 3) ∷ refusal 17 ∷ no-triangle ∷ triangle (tri 3 2 4) ∷ []; machine = ((5 ∷ 7 ∷ 3 ∷ 1 ∷ 1 ∷ 0 ∷ 0 ∷ 0 ∷ 1 ∷ 2 ∷ 0 ∷ 2 ∷ 3 ∷ 3 ∷ 2 ∷ 4 ∷ 3 ∷ 4 ∷ 1 ∷ 3 ∷ 0 ∷ 2 ∷ 1 ∷ [])); borders = ((3 ∷ 0 ∷ 1 ∷ 2 ∷ 0 ∷ 1 ∷ [])) }
     ∷
     -- 19: the peak in full loops is stated
-    record { rooms = rooms 6 1024; calls = begin (counts 4 2 4 1) ∷ operate Start ∷ operate Border ∷ operate Border ∷ operate New ∷ operate Border ∷ operate Border ∷ end ∷ []; told = accepted ∷ triangle (tri 0 1 2) ∷ no-triangle ∷ no-triangle ∷ triangle (tri 0 2 3) ∷ no-triangle ∷ no-triangle ∷ refusal 19 ∷ []; machine = ((4 ∷ 5 ∷ 3 ∷ 1 ∷ 1 ∷ 0 ∷ 1 ∷ 0 ∷ 1 ∷ 2 ∷ 0 ∷ 2 ∷ 3 ∷ [])); borders = ((2 ∷ 3 ∷ 3 ∷ 0 ∷ 1 ∷ 2 ∷ 0 ∷ 1 ∷ [])) }
+    record { lengths = lengths 6 1024; calls = begin (counts 4 2 4 1) ∷ operate Start ∷ operate Border ∷ operate Border ∷ operate New ∷ operate Border ∷ operate Border ∷ finish ∷ []; told = accepted ∷ triangle (tri 0 1 2) ∷ no-triangle ∷ no-triangle ∷ triangle (tri 0 2 3) ∷ no-triangle ∷ no-triangle ∷ refusal 19 ∷ []; machine = ((4 ∷ 5 ∷ 3 ∷ 1 ∷ 1 ∷ 0 ∷ 1 ∷ 0 ∷ 1 ∷ 2 ∷ 0 ∷ 2 ∷ 3 ∷ [])); borders = ((2 ∷ 3 ∷ 3 ∷ 0 ∷ 1 ∷ 2 ∷ 0 ∷ 1 ∷ [])) }
     ∷
     -- forward and backward across a marked edge; splits along a marked edge of the model
-    record { rooms = rooms 180 1024; calls = begin (counts 60 60 60 9) ∷ operate Start ∷ operate Border ∷ operate New ∷ operate Border ∷ operate Forward ∷ operate Backward ∷ operate (Split 0) ∷ operate (Split 1) ∷ operate (Split 2) ∷ operate (Split 3) ∷ operate Close ∷ []; told = accepted ∷ triangle (tri 0 1 2) ∷ no-triangle ∷ triangle (tri 2 1 3) ∷ no-triangle ∷ refusal 16 ∷ refusal 16 ∷ refusal 16 ∷ refusal 18 ∷ refusal 18 ∷ refusal 16 ∷ refusal 16 ∷ []; machine = ((4 ∷ 5 ∷ 4 ∷ 1 ∷ 1 ∷ 0 ∷ 0 ∷ 0 ∷ 1 ∷ 2 ∷ 2 ∷ 1 ∷ 3 ∷ 4 ∷ 2 ∷ 1 ∷ 0 ∷ 0 ∷ 1 ∷ 1 ∷ 3 ∷ 0 ∷ [])); borders = ((3 ∷ 2 ∷ 0 ∷ 1 ∷ [])) }
+    record { lengths = lengths 180 1024; calls = begin (counts 60 60 60 9) ∷ operate Start ∷ operate Border ∷ operate New ∷ operate Border ∷ operate Forward ∷ operate Backward ∷ operate (Split 0) ∷ operate (Split 1) ∷ operate (Split 2) ∷ operate (Split 3) ∷ operate Close ∷ []; told = accepted ∷ triangle (tri 0 1 2) ∷ no-triangle ∷ triangle (tri 2 1 3) ∷ no-triangle ∷ refusal 16 ∷ refusal 16 ∷ refusal 16 ∷ refusal 18 ∷ refusal 18 ∷ refusal 16 ∷ refusal 16 ∷ []; machine = ((4 ∷ 5 ∷ 4 ∷ 1 ∷ 1 ∷ 0 ∷ 0 ∷ 0 ∷ 1 ∷ 2 ∷ 2 ∷ 1 ∷ 3 ∷ 4 ∷ 2 ∷ 1 ∷ 0 ∷ 0 ∷ 1 ∷ 1 ∷ 3 ∷ 0 ∷ [])); borders = ((3 ∷ 2 ∷ 0 ∷ 1 ∷ [])) }
     ∷
     -- splits beyond an open edge, and as far as k - 2
-    record { rooms = rooms 180 1024; calls = begin (counts 60 60 60 9) ∷ operate Start ∷ operate New ∷ operate New ∷ operate (Split 0) ∷ operate (Split 1) ∷ operate (Split 2) ∷ operate (Split 3) ∷ operate (Split 4) ∷ operate New ∷ operate (Split 1) ∷ operate (Split 2) ∷ operate (Split 3) ∷ operate (Split 4) ∷ operate (Split 5) ∷ []; told = accepted ∷ triangle (tri 0 1 2) ∷ triangle (tri 1 0 3) ∷ triangle (tri 1 3 4) ∷ refusal 16 ∷ refusal 16 ∷ refusal 18 ∷ refusal 16 ∷ refusal 16 ∷ triangle (tri 1 4 5) ∷ refusal 16 ∷ refusal 18 ∷ refusal 18 ∷ refusal 16 ∷ refusal 16 ∷ []; machine = ((6 ∷ 9 ∷ 6 ∷ 1 ∷ 1 ∷ 0 ∷ 0 ∷ 0 ∷ 1 ∷ 2 ∷ 1 ∷ 0 ∷ 3 ∷ 1 ∷ 3 ∷ 4 ∷ 1 ∷ 4 ∷ 5 ∷ 6 ∷ 5 ∷ 1 ∷ 1 ∷ 1 ∷ 2 ∷ 1 ∷ 0 ∷ 1 ∷ 3 ∷ 1 ∷ 4 ∷ 1 ∷ [])); borders = [] }
+    record { lengths = lengths 180 1024; calls = begin (counts 60 60 60 9) ∷ operate Start ∷ operate New ∷ operate New ∷ operate (Split 0) ∷ operate (Split 1) ∷ operate (Split 2) ∷ operate (Split 3) ∷ operate (Split 4) ∷ operate New ∷ operate (Split 1) ∷ operate (Split 2) ∷ operate (Split 3) ∷ operate (Split 4) ∷ operate (Split 5) ∷ []; told = accepted ∷ triangle (tri 0 1 2) ∷ triangle (tri 1 0 3) ∷ triangle (tri 1 3 4) ∷ refusal 16 ∷ refusal 16 ∷ refusal 18 ∷ refusal 16 ∷ refusal 16 ∷ triangle (tri 1 4 5) ∷ refusal 16 ∷ refusal 18 ∷ refusal 18 ∷ refusal 16 ∷ refusal 16 ∷ []; machine = ((6 ∷ 9 ∷ 6 ∷ 1 ∷ 1 ∷ 0 ∷ 0 ∷ 0 ∷ 1 ∷ 2 ∷ 1 ∷ 0 ∷ 3 ∷ 1 ∷ 3 ∷ 4 ∷ 1 ∷ 4 ∷ 5 ∷ 6 ∷ 5 ∷ 1 ∷ 1 ∷ 1 ∷ 2 ∷ 1 ∷ 0 ∷ 1 ∷ 3 ∷ 1 ∷ 4 ∷ 1 ∷ [])); borders = [] }
     ∷
     -- a loop of three with a marked edge, before e and after f
-    record { rooms = rooms 180 1024; calls = begin (counts 60 60 60 9) ∷ operate Start ∷ operate Border ∷ operate Forward ∷ operate Backward ∷ operate (Split 1) ∷ operate Close ∷ operate Border ∷ operate New ∷ operate Forward ∷ operate Backward ∷ operate (Split 1) ∷ operate Close ∷ []; told = accepted ∷ triangle (tri 0 1 2) ∷ no-triangle ∷ refusal 18 ∷ refusal 16 ∷ refusal 16 ∷ refusal 16 ∷ no-triangle ∷ triangle (tri 0 2 3) ∷ refusal 16 ∷ refusal 18 ∷ refusal 16 ∷ refusal 16 ∷ []; machine = ((4 ∷ 5 ∷ 3 ∷ 1 ∷ 1 ∷ 0 ∷ 0 ∷ 0 ∷ 1 ∷ 2 ∷ 0 ∷ 2 ∷ 3 ∷ 3 ∷ 3 ∷ 1 ∷ 0 ∷ 0 ∷ 2 ∷ 1 ∷ [])); borders = ((1 ∷ 2 ∷ 0 ∷ 1 ∷ [])) }
+    record { lengths = lengths 180 1024; calls = begin (counts 60 60 60 9) ∷ operate Start ∷ operate Border ∷ operate Forward ∷ operate Backward ∷ operate (Split 1) ∷ operate Close ∷ operate Border ∷ operate New ∷ operate Forward ∷ operate Backward ∷ operate (Split 1) ∷ operate Close ∷ []; told = accepted ∷ triangle (tri 0 1 2) ∷ no-triangle ∷ refusal 18 ∷ refusal 16 ∷ refusal 16 ∷ refusal 16 ∷ no-triangle ∷ triangle (tri 0 2 3) ∷ refusal 16 ∷ refusal 18 ∷ refusal 16 ∷ refusal 16 ∷ []; machine = ((4 ∷ 5 ∷ 3 ∷ 1 ∷ 1 ∷ 0 ∷ 0 ∷ 0 ∷ 1 ∷ 2 ∷ 0 ∷ 2 ∷ 3 ∷ 3 ∷ 3 ∷ 1 ∷ 0 ∷ 0 ∷ 2 ∷ 1 ∷ [])); borders = ((1 ∷ 2 ∷ 0 ∷ 1 ∷ [])) }
     ∷
     -- a loop of two places takes new and border only
-    record { rooms = rooms 180 1024; calls = begin (counts 60 60 60 9) ∷ operate Start ∷ operate Border ∷ operate Border ∷ operate Forward ∷ operate Backward ∷ operate (Split 0) ∷ operate (Split 1) ∷ operate Close ∷ operate (Union 1 0) ∷ operate Start ∷ end ∷ operate Border ∷ []; told = accepted ∷ triangle (tri 0 1 2) ∷ no-triangle ∷ no-triangle ∷ refusal 16 ∷ refusal 16 ∷ refusal 16 ∷ refusal 16 ∷ refusal 16 ∷ refusal 16 ∷ refusal 16 ∷ refusal 15 ∷ no-triangle ∷ []; machine = ((3 ∷ 3 ∷ 3 ∷ 1 ∷ 1 ∷ 0 ∷ 1 ∷ 0 ∷ 1 ∷ 2 ∷ [])); borders = ((2 ∷ 0 ∷ 1 ∷ 2 ∷ 0 ∷ 1 ∷ [])) }
+    record { lengths = lengths 180 1024; calls = begin (counts 60 60 60 9) ∷ operate Start ∷ operate Border ∷ operate Border ∷ operate Forward ∷ operate Backward ∷ operate (Split 0) ∷ operate (Split 1) ∷ operate Close ∷ operate (Union 1 0) ∷ operate Start ∷ finish ∷ operate Border ∷ []; told = accepted ∷ triangle (tri 0 1 2) ∷ no-triangle ∷ no-triangle ∷ refusal 16 ∷ refusal 16 ∷ refusal 16 ∷ refusal 16 ∷ refusal 16 ∷ refusal 16 ∷ refusal 16 ∷ refusal 15 ∷ no-triangle ∷ []; machine = ((3 ∷ 3 ∷ 3 ∷ 1 ∷ 1 ∷ 0 ∷ 1 ∷ 0 ∷ 1 ∷ 2 ∷ [])); borders = ((2 ∷ 0 ∷ 1 ∷ 2 ∷ 0 ∷ 1 ∷ [])) }
     ∷
     -- after a forward a→c is current
-    record { rooms = rooms 180 1024; calls = begin (counts 60 60 60 9) ∷ operate Start ∷ operate New ∷ operate Forward ∷ []; told = accepted ∷ triangle (tri 0 1 2) ∷ triangle (tri 1 0 3) ∷ triangle (tri 1 3 2) ∷ []; machine = ((4 ∷ 6 ∷ 4 ∷ 1 ∷ 1 ∷ 0 ∷ 0 ∷ 0 ∷ 1 ∷ 2 ∷ 1 ∷ 0 ∷ 3 ∷ 1 ∷ 3 ∷ 2 ∷ 3 ∷ 3 ∷ 1 ∷ 2 ∷ 1 ∷ 0 ∷ 1 ∷ [])); borders = [] }
+    record { lengths = lengths 180 1024; calls = begin (counts 60 60 60 9) ∷ operate Start ∷ operate New ∷ operate Forward ∷ []; told = accepted ∷ triangle (tri 0 1 2) ∷ triangle (tri 1 0 3) ∷ triangle (tri 1 3 2) ∷ []; machine = ((4 ∷ 6 ∷ 4 ∷ 1 ∷ 1 ∷ 0 ∷ 0 ∷ 0 ∷ 1 ∷ 2 ∷ 1 ∷ 0 ∷ 3 ∷ 1 ∷ 3 ∷ 2 ∷ 3 ∷ 3 ∷ 1 ∷ 2 ∷ 1 ∷ 0 ∷ 1 ∷ [])); borders = [] }
     ∷
     -- after a backward c→b is current
-    record { rooms = rooms 180 1024; calls = begin (counts 60 60 60 9) ∷ operate Start ∷ operate New ∷ operate New ∷ operate Forward ∷ operate Backward ∷ []; told = accepted ∷ triangle (tri 0 1 2) ∷ triangle (tri 1 0 3) ∷ triangle (tri 1 3 4) ∷ triangle (tri 1 4 2) ∷ triangle (tri 2 4 3) ∷ []; machine = ((5 ∷ 9 ∷ 5 ∷ 1 ∷ 1 ∷ 0 ∷ 0 ∷ 0 ∷ 1 ∷ 2 ∷ 1 ∷ 0 ∷ 3 ∷ 1 ∷ 3 ∷ 4 ∷ 1 ∷ 4 ∷ 2 ∷ 2 ∷ 4 ∷ 3 ∷ 3 ∷ 3 ∷ 1 ∷ 2 ∷ 1 ∷ 0 ∷ 1 ∷ [])); borders = [] }
+    record { lengths = lengths 180 1024; calls = begin (counts 60 60 60 9) ∷ operate Start ∷ operate New ∷ operate New ∷ operate Forward ∷ operate Backward ∷ []; told = accepted ∷ triangle (tri 0 1 2) ∷ triangle (tri 1 0 3) ∷ triangle (tri 1 3 4) ∷ triangle (tri 1 4 2) ∷ triangle (tri 2 4 3) ∷ []; machine = ((5 ∷ 9 ∷ 5 ∷ 1 ∷ 1 ∷ 0 ∷ 0 ∷ 0 ∷ 1 ∷ 2 ∷ 1 ∷ 0 ∷ 3 ∷ 1 ∷ 3 ∷ 4 ∷ 1 ∷ 4 ∷ 2 ∷ 2 ∷ 4 ∷ 3 ∷ 3 ∷ 3 ∷ 1 ∷ 2 ∷ 1 ∷ 0 ∷ 1 ∷ [])); borders = [] }
     ∷
     -- a forward at three places leaves two
-    record { rooms = rooms 180 1024; calls = begin (counts 60 60 60 9) ∷ operate Start ∷ operate New ∷ operate Border ∷ operate Border ∷ operate Forward ∷ []; told = accepted ∷ triangle (tri 0 1 2) ∷ triangle (tri 1 0 3) ∷ no-triangle ∷ no-triangle ∷ triangle (tri 0 2 3) ∷ []; machine = ((4 ∷ 6 ∷ 4 ∷ 1 ∷ 1 ∷ 0 ∷ 0 ∷ 0 ∷ 1 ∷ 2 ∷ 1 ∷ 0 ∷ 3 ∷ 0 ∷ 2 ∷ 3 ∷ 2 ∷ 2 ∷ 1 ∷ 3 ∷ 0 ∷ [])); borders = ((1 ∷ 2 ∷ 3 ∷ 1 ∷ [])) }
+    record { lengths = lengths 180 1024; calls = begin (counts 60 60 60 9) ∷ operate Start ∷ operate New ∷ operate Border ∷ operate Border ∷ operate Forward ∷ []; told = accepted ∷ triangle (tri 0 1 2) ∷ triangle (tri 1 0 3) ∷ no-triangle ∷ no-triangle ∷ triangle (tri 0 2 3) ∷ []; machine = ((4 ∷ 6 ∷ 4 ∷ 1 ∷ 1 ∷ 0 ∷ 0 ∷ 0 ∷ 1 ∷ 2 ∷ 1 ∷ 0 ∷ 3 ∷ 0 ∷ 2 ∷ 3 ∷ 2 ∷ 2 ∷ 1 ∷ 3 ∷ 0 ∷ [])); borders = ((1 ∷ 2 ∷ 3 ∷ 1 ∷ [])) }
     ∷
     -- a backward at three places leaves two
-    record { rooms = rooms 180 1024; calls = begin (counts 60 60 60 9) ∷ operate Start ∷ operate New ∷ operate Border ∷ operate Border ∷ operate New ∷ operate Forward ∷ operate Backward ∷ []; told = accepted ∷ triangle (tri 0 1 2) ∷ triangle (tri 1 0 3) ∷ no-triangle ∷ no-triangle ∷ triangle (tri 0 2 4) ∷ triangle (tri 0 4 3) ∷ triangle (tri 3 4 2) ∷ []; machine = ((5 ∷ 9 ∷ 4 ∷ 1 ∷ 1 ∷ 0 ∷ 0 ∷ 0 ∷ 1 ∷ 2 ∷ 1 ∷ 0 ∷ 3 ∷ 0 ∷ 2 ∷ 4 ∷ 0 ∷ 4 ∷ 3 ∷ 3 ∷ 4 ∷ 2 ∷ 2 ∷ 2 ∷ 1 ∷ 3 ∷ 0 ∷ [])); borders = ((1 ∷ 2 ∷ 3 ∷ 1 ∷ [])) }
+    record { lengths = lengths 180 1024; calls = begin (counts 60 60 60 9) ∷ operate Start ∷ operate New ∷ operate Border ∷ operate Border ∷ operate New ∷ operate Forward ∷ operate Backward ∷ []; told = accepted ∷ triangle (tri 0 1 2) ∷ triangle (tri 1 0 3) ∷ no-triangle ∷ no-triangle ∷ triangle (tri 0 2 4) ∷ triangle (tri 0 4 3) ∷ triangle (tri 3 4 2) ∷ []; machine = ((5 ∷ 9 ∷ 4 ∷ 1 ∷ 1 ∷ 0 ∷ 0 ∷ 0 ∷ 1 ∷ 2 ∷ 1 ∷ 0 ∷ 3 ∷ 0 ∷ 2 ∷ 4 ∷ 0 ∷ 4 ∷ 3 ∷ 3 ∷ 4 ∷ 2 ∷ 2 ∷ 2 ∷ 1 ∷ 3 ∷ 0 ∷ [])); borders = ((1 ∷ 2 ∷ 3 ∷ 1 ∷ [])) }
     ∷
     -- after a union c→b is current
-    record { rooms = rooms 180 1024; calls = begin (counts 60 60 60 9) ∷ operate Start ∷ operate New ∷ operate New ∷ operate Border ∷ operate New ∷ operate (Split 3) ∷ operate (Union 1 2) ∷ []; told = accepted ∷ triangle (tri 0 1 2) ∷ triangle (tri 1 0 3) ∷ triangle (tri 1 3 4) ∷ no-triangle ∷ triangle (tri 2 1 5) ∷ triangle (tri 2 5 4) ∷ triangle (tri 4 5 0) ∷ []; machine = ((6 ∷ 13 ∷ 8 ∷ 2 ∷ 1 ∷ 1 ∷ 0 ∷ 0 ∷ 1 ∷ 2 ∷ 1 ∷ 0 ∷ 3 ∷ 1 ∷ 3 ∷ 4 ∷ 2 ∷ 1 ∷ 5 ∷ 2 ∷ 5 ∷ 4 ∷ 4 ∷ 5 ∷ 0 ∷ 8 ∷ 0 ∷ 1 ∷ 4 ∷ 0 ∷ 1 ∷ 1 ∷ 5 ∷ 1 ∷ 0 ∷ 1 ∷ 3 ∷ 1 ∷ 4 ∷ 1 ∷ 2 ∷ 1 ∷ [])); borders = ((4 ∷ 1 ∷ [])) }
+    record { lengths = lengths 180 1024; calls = begin (counts 60 60 60 9) ∷ operate Start ∷ operate New ∷ operate New ∷ operate Border ∷ operate New ∷ operate (Split 3) ∷ operate (Union 1 2) ∷ []; told = accepted ∷ triangle (tri 0 1 2) ∷ triangle (tri 1 0 3) ∷ triangle (tri 1 3 4) ∷ no-triangle ∷ triangle (tri 2 1 5) ∷ triangle (tri 2 5 4) ∷ triangle (tri 4 5 0) ∷ []; machine = ((6 ∷ 13 ∷ 8 ∷ 2 ∷ 1 ∷ 1 ∷ 0 ∷ 0 ∷ 1 ∷ 2 ∷ 1 ∷ 0 ∷ 3 ∷ 1 ∷ 3 ∷ 4 ∷ 2 ∷ 1 ∷ 5 ∷ 2 ∷ 5 ∷ 4 ∷ 4 ∷ 5 ∷ 0 ∷ 8 ∷ 0 ∷ 1 ∷ 4 ∷ 0 ∷ 1 ∷ 1 ∷ 5 ∷ 1 ∷ 0 ∷ 1 ∷ 3 ∷ 1 ∷ 4 ∷ 1 ∷ 2 ∷ 1 ∷ [])); borders = ((4 ∷ 1 ∷ [])) }
     ∷
     []
 
 pub table : T (allRight packRight packRows && allRight unpackRight unpackRows && allRight callsRight callRows)
-unfolding equal equalPlaces equalAnswers packRight unpackRight writtenRing writtenRings writtenEdges callsRight allRight trianglesOf corners edgesOf same hit occurs count different pairs about leaving entering turnOn turnBack oneRun oneFanEach inTriangle across allBelow allDistinct noneTwice allUsed passes checkTriangles check allOpen vertexAt lastOpen lastVertex front onward reached places loopAt without allowed inOrder atEdge atRest effect test done beginning finish answers afterAll logAll bits valueOf bitsOfBytes bytesWithin readNumber allZero operationBits operationsBits kindIn readOperation packBytes takeField fieldsOf has dropTriangle turnIn turnOut edgeIn spotOf choosePlace limited taking chooseAt chooseIn cleared chooseAll indexOf newNumbers packChosen packChecked runAll numbersOf unpackRun unpackFields follow followed nodes placesOf openAmong loopsOf trianglesBuilt view sizesOf apart placesFit loopsFit linksFit sound packRows unpackRows callRows
+unfolding equal equalPlaces equalAnswers packRight unpackRight writtenRing writtenRings writtenEdges callsRight allRight trianglesOf corners edgesOf same hit occurs count different pairs about leaving entering turnOn turnBack oneRun oneFanEach inTriangle across allBelow allDistinct noneTwice allUsed passes checkTriangles check allOpen vertexAt lastOpen lastVertex front onward reached places loopAt without allowed inOrder atEdge atRest effect cleared test done beginning finishing answers afterAll logAll bits valueOf bitsOfBytes bytesWithin readNumber allZero operationBits operationsBits kindIn readOperation packBytes takeField fieldsOf has dropTriangle turnIn turnOut edgeIn spotOf choosePlace limited taking chooseAt chooseIn chooseAll indexOf newNumbers packChosen packChecked runAll numbersOf unpackRun unpackFields follow followed nodes placesOf openAmong loopsOf trianglesBuilt view sizesOf apart placesFit loopsFit linksFit sound packRows unpackRows callRows
 table = tt

@@ -13,11 +13,11 @@ use Rattle.rules.specs.declared.Totals.{Totals}
 use Rattle.rules.specs.Triangle.{Edge}
 use Rattle.rules.specs.Count.{num}
 use Rattle.rules.specs.Ring.{Ring, vertex, isOpen}
-use Rattle.rules.specs.Machine.{Rooms, Machine}
+use Rattle.rules.specs.Machine.{Machine}
 use Rattle.rules.specs.Answer.{Answer, refusal, accepted, triangle, no-triangle, numbers, packed, unpacked}
 use Rattle.rules.specs.Book.{Book, Call, emptyBook, answers, afterAll}
 use Rattle.rules.specs.Pack.{Most, PackBuffers, PackResult, packWithin}
-use Rattle.rules.specs.Buffer.{Buffers}
+use Rattle.rules.specs.Buffer.{Buffers, Lengths}
 use Rattle.rules.specs.Unpack.{UnpackResult, numbersOf, unpack}
 
 unfoldable pub equal : List ℕ → List ℕ → Bool
@@ -116,7 +116,7 @@ writtenMachine m =
 
 -- a list of calls; the first of them begins; what they answer, and what the book then holds
 pub record CallRow : Type 0 where
-  pub rooms : Rooms
+  pub lengths : Lengths
   pub calls : List Call
   pub told : List Answer
   pub machine : List ℕ
@@ -133,7 +133,7 @@ noBook = emptyBook (counts 0 0 0 0)
 
 unfoldable pub callsRight : CallRow → Bool
 callsRight x =
-    equalAnswers (answers (x .rooms) noBook (x .calls)) (x .told) && sameBook (afterAll (x .rooms) noBook (x .calls)) x
+    equalAnswers (answers (x .lengths) noBook (x .calls)) (x .told) && sameBook (afterAll (x .lengths) noBook (x .calls)) x
 
 -- short forms for rows
 abbrev pub totalsOf : ℕ → ℕ → ℕ → ℤ → Totals
@@ -148,8 +148,8 @@ packLent ns ps bs = record { numbering = ns; places = ps; pack = bs }
 abbrev pub unpackLent : List ℕ → List Place → Buffers
 unpackLent ts ps = record { triangles = ts; places = ps }
 
-abbrev pub rooms : ℕ → ℕ → Rooms
-rooms t p = record { triangles = t; places = p }
+abbrev pub lengths : ℕ → ℕ → Lengths
+lengths t p = record { triangles = t; places = p }
 
 -- all rows are right
 unfoldable pub allRight : {A : Type 0} → (A → Bool) → List A → Bool

@@ -15,14 +15,14 @@ use Rattle.rules.specs.Count.{same, hit, occurs, count}
 use Rattle.rules.specs.Check.{allBelow}
 use Rattle.rules.specs.Ring.{allOpen, vertexAt, lastOpen, lastVertex, front, onward, reached, places, loopAt, without}
 use Rattle.rules.specs.Table.{allowed, inOrder, atEdge, atRest, effect}
-use Rattle.rules.specs.Machine.{Step, refused, begun, built, declared, finished, test, done, beginning, finish}
+use Rattle.rules.specs.Machine.{Step, refused, begun, built, declared, finished, test, done, beginning, finishing}
 use Rattle.rules.specs.Unpack.{numbersOf}
 use Rattle.rules.specs.Book.{begin, operate, emptyBook, afterAll}
 use Rattle.rules.specs.Buffer.{freePlace, cleared, Buffers}
 use Rattle.rules.specs.Build.{operates, finishes, begunBuffers, withTriangle}
 use Rattle.rules.specs.View.{follow, followed, placesOf, nodes, loopsOf, trianglesBuilt, view}
 use Rattle.rules.specs.Test21.{sizesOf, apart, placesFit, loopsFit, linksFit, sound}
-use Rattle.rules.proofs.Rows.{equal, equalPlaces, place, counts, rooms, allRight, writtenRing, writtenRings, writtenMachine}
+use Rattle.rules.proofs.Rows.{equal, equalPlaces, place, counts, lengths, allRight, writtenRing, writtenRings, writtenMachine}
 
 -- a state and its buffers, and whether 21 lets it pass
 pub record StateRow : Type 0 where
@@ -189,7 +189,7 @@ unfoldable pub viewRight : Bool
 viewRight =
     equal (writtenMachine (view good numbers memory))
     (writtenMachine
-    (afterAll (rooms 12 1024) (emptyBook stated)
+    (afterAll (lengths 12 1024) (emptyBook stated)
     (begin stated ∷ operate Start ∷ operate New ∷ operate Border ∷ operate New ∷ operate (Split 2) ∷ [])
     .machine))
 
@@ -228,5 +228,5 @@ callsRight =
     && equal (begunBuffers whole .triangles) numbers && equalPlaces (begunBuffers whole .places) (replicate 1024 freePlace)
 
 pub calls : T callsRight
-unfolding same hit corners edgesOf numbersOf occurs count allBelow allOpen vertexAt lastOpen lastVertex front onward reached places loopAt without allowed inOrder atEdge atRest effect test done finish follow followed placesOf nodes loopsOf trianglesBuilt view sizesOf apart placesFit loopsFit linksFit sound equal equalPlaces cleared callsRight
+unfolding same hit corners edgesOf numbersOf occurs count allBelow allOpen vertexAt lastOpen lastVertex front onward reached places loopAt without allowed inOrder atEdge atRest effect test done finishing follow followed placesOf nodes loopsOf trianglesBuilt view sizesOf apart placesFit loopsFit linksFit sound equal equalPlaces cleared callsRight
 calls = tt

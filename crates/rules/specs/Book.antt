@@ -6,14 +6,15 @@ use Rattle.rules.specs.declared.Counts.{Counts}
 use Rattle.rules.specs.declared.Operation.{Operation}
 use Rattle.rules.specs.Triangle.{Edge, corners, edgesOf}
 use Rattle.rules.specs.Count.{different, pairs}
-use Rattle.rules.specs.Machine.{Machine, empty, Step, refused, begun, built, declared, finished, Rooms, beginning, operation, finish}
+use Rattle.rules.specs.Machine.{Machine, empty, Step, refused, begun, built, declared, finished, beginning, operation, finishing}
+use Rattle.rules.specs.Buffer.{Lengths}
 use Rattle.rules.specs.Answer.{Answer, refusal, accepted, triangle, no-triangle, numbers}
 
 -- the three kinds of call
 pub data Call : Type 0 where
   begin : Counts → Call
   operate : Operation → Call
-  end : Call
+  finish : Call
 
 pub record Book : Type 0 where
   pub machine : Machine
@@ -35,10 +36,10 @@ recounted m = record {
   rims = m .rims;
 }
 
-abbrev pub call : Rooms → Machine → Call → Step
+abbrev pub call : Lengths → Machine → Call → Step
 call r m (begin s) = beginning r s
 call r m (operate o) = operation m o
-call r m end = finish (recounted m)
+call r m finish = finishing (recounted m)
 
 abbrev pub emptyBook : Counts → Book
 emptyBook s = record { machine = empty s; borders = [] }
@@ -58,18 +59,18 @@ answerOf (built t m) = triangle t
 answerOf (declared d m) = no-triangle
 answerOf (finished x) = numbers x
 
-abbrev pub answer : Rooms → Book → Call → Answer
+abbrev pub answer : Lengths → Book → Call → Answer
 answer r b c = answerOf (call r (b .machine) c)
 
-abbrev pub after : Rooms → Book → Call → Book
+abbrev pub after : Lengths → Book → Call → Book
 after r b c = entered b (call r (b .machine) c)
 
 -- a list of calls
-unfoldable pub answers : Rooms → Book → List Call → List Answer
+unfoldable pub answers : Lengths → Book → List Call → List Answer
 answers r b [] = []
 answers r b (c ∷ cs) = answer r b c ∷ answers r (after r b c) cs
 
-unfoldable pub afterAll : Rooms → Book → List Call → Book
+unfoldable pub afterAll : Lengths → Book → List Call → Book
 afterAll r b [] = b
 afterAll r b (c ∷ cs) = afterAll r (after r b c) cs
 
@@ -85,8 +86,8 @@ abbrev pub logged : List Call → Call → Bool → List Call
 logged l c false = l
 logged l (begin s) true = begin s ∷ []
 logged l (operate o) true = operate o ∷ l
-logged l end true = l
+logged l finish true = l
 
-unfoldable pub logAll : Rooms → Book → List Call → List Call → List Call
+unfoldable pub logAll : Lengths → Book → List Call → List Call → List Call
 logAll r b l [] = l
 logAll r b l (c ∷ cs) = logAll r (after r b c) (logged l c (isAccepted (call r (b .machine) c))) cs

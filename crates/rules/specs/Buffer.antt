@@ -6,15 +6,14 @@ use mathlib.Core.List.{List, _++_}
 use lib.ListN.{length, drop, replicate}
 use Rattle.rules.specs.declared.Place.{Place}
 use Rattle.rules.specs.Limits.{maxPlaces}
-use Rattle.rules.specs.Machine.{Rooms}
 
 -- results at the front, and nothing beyond them
 abbrev pub over : List ℕ → List ℕ → List ℕ
-over xs room = xs ++ drop (length xs) room
+over xs buffer = xs ++ drop (length xs) buffer
 
 -- the first n entries zero
 abbrev pub zeroed : ℕ → List ℕ → List ℕ
-zeroed n room = replicate n 0 ++ drop n room
+zeroed n buffer = replicate n 0 ++ drop n buffer
 
 -- a record that is zero, its edge not open
 abbrev pub freePlace : Place
@@ -29,5 +28,9 @@ pub record Buffers : Type 0 where
   pub triangles : List ℕ
   pub places : List Place
 
-abbrev pub lengths : Buffers → Rooms
+pub record Lengths : Type 0 where
+  pub triangles : ℕ
+  pub places : ℕ
+
+abbrev pub lengths : Buffers → Lengths
 lengths r = record { triangles = length (r .triangles); places = length {A = Place} (r .places) }

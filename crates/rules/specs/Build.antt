@@ -14,7 +14,7 @@ use Rattle.rules.specs.declared.Begun.{Begun}
 use Rattle.rules.specs.declared.Checked.{Checked}
 use Rattle.rules.specs.declared.Checked.the-variants.{Accepted, Refused}
 use Rattle.rules.specs.Limits.{maxPlaces, maxLoops}
-use Rattle.rules.specs.Machine.{Machine, Step, refused, begun, built, declared, finished, beginning, operation, finish}
+use Rattle.rules.specs.Machine.{Machine, Step, refused, begun, built, declared, finished, beginning, operation, finishing}
 use Rattle.rules.specs.Buffer.{cleared, Buffers, lengths}
 use Rattle.rules.specs.View.{view}
 use Rattle.rules.specs.Test21.{sumsFit, sound}
@@ -31,7 +31,7 @@ abbrev pub operates : Builder → Buffers → Operation → Step
 operates b r o = elim (sound b r) [ true ↦ operation (viewed b r) o | false ↦ refused 21 ]
 
 abbrev pub finishes : Builder → Buffers → Step
-finishes b r = elim (sound b r) [ true ↦ finish (viewed b r) | false ↦ refused 21 ]
+finishes b r = elim (sound b r) [ true ↦ finishing (viewed b r) | false ↦ refused 21 ]
 
 -- the builder after an accepted beginning
 abbrev pub begunBuilder : Counts → Builder

@@ -133,8 +133,8 @@ limited o s =
 -- the table allows every operation that is chosen, so that the first line is never met (`one-place-is-right`, crate roundtrip)
 unfoldable pub taking : Operation → Packing → List Triangle → List ℕ → Effect → Next
 taking o s ts vs not-allowed = ended
-taking o s ts vs (builds ls t pq qr rp n k u) = limited o (packingAfter s ts vs ls)
-taking o s ts vs (marks ls d rim) = limited o (packingAfter s ts vs ls)
+taking o s ts vs (builds x) = limited o (packingAfter s ts vs (x .loops))
+taking o s ts vs (marks y) = limited o (packingAfter s ts vs (y .loops))
 
 -- at the current edge from a to b, with the places ps after its own
 unfoldable pub chooseAt : Packing → ℕ → ℕ → List Node → List Ring → Next

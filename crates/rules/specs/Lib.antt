@@ -7,6 +7,7 @@ pub mod Check
 pub mod Ring
 pub mod Table
 pub mod Places
+pub mod Buffer
 pub mod Machine
 pub mod Answer
 pub mod Book
@@ -14,7 +15,6 @@ pub mod Bits
 pub mod Code
 pub mod Fields
 pub mod Choice
-pub mod Buffer
 pub mod Pack
 pub mod Unpack
 pub mod View

@@ -15,7 +15,8 @@ use Rattle.rules.specs.Limits.{maxPlaces, inRange}
 use Rattle.rules.specs.Triangle.{Edge}
 use Rattle.rules.specs.Fan.{oneFanEach}
 use Rattle.rules.specs.Ring.{Ring, places}
-use Rattle.rules.specs.Table.{Side, glued, fresh, Effect, not-allowed, builds, marks, effect, edgeRule}
+use Rattle.rules.specs.Buffer.{Lengths}
+use Rattle.rules.specs.Table.{Side, glued, fresh, Building, Marking, Effect, not-allowed, builds, marks, effect, edgeRule}
 
 pub record Machine : Type 0 where
   pub stated : Counts
@@ -50,28 +51,34 @@ abbrev pub freshSides : Side → ℕ
 freshSides glued = 0
 freshSides fresh = 1
 
--- the machine with these loops and counts; both peaks are taken after the operation
-abbrev pub machineAfter : Machine → List Ring → List Triangle → ℕ → ℕ → ℕ → ℕ → ℕ → Machine
-machineAfter m ls ts v e s k r = record {
+-- the machine after a triangle is built, and after an edge is marked; both peaks are taken after the operation
+abbrev pub afterBuild : Machine → Building → Machine
+afterBuild m x = record {
   stated = m .stated;
-  triangles = ts;
-  loops = ls;
-  used = v;
-  mostPlaces = max (m .mostPlaces) (places ls);
-  mostLoops = max (m .mostLoops) (length ls);
-  edges = e;
-  starts = s;
-  unions = k;
-  rims = r;
+  triangles = x .triangle ∷ m .triangles;
+  loops = x .loops;
+  used = m .used + x .added .vertices;
+  mostPlaces = max (m .mostPlaces) (places (x .loops));
+  mostLoops = max (m .mostLoops) (length (x .loops));
+  edges = m .edges + (freshSides (x .sides .pq) + freshSides (x .sides .qr) + freshSides (x .sides .rp));
+  starts = m .starts + x .added .starts;
+  unions = m .unions + x .added .unions;
+  rims = m .rims;
 }
 
-abbrev pub afterBuild : Machine → List Ring → Triangle → Side → Side → Side → ℕ → ℕ → ℕ → Machine
-afterBuild m ls t pq qr rp n s k =
-    machineAfter m ls (t ∷ m .triangles) (m .used + n) (m .edges + (freshSides pq + freshSides qr + freshSides rp)) (m .starts + s)
-    (m .unions + k) (m .rims)
-
-abbrev pub afterMark : Machine → List Ring → ℕ → Machine
-afterMark m ls rim = machineAfter m ls (m .triangles) (m .used) (m .edges) (m .starts) (m .unions) (m .rims + rim)
+abbrev pub afterMark : Machine → Marking → Machine
+afterMark m y = record {
+  stated = m .stated;
+  triangles = m .triangles;
+  loops = y .loops;
+  used = m .used;
+  mostPlaces = max (m .mostPlaces) (places (y .loops));
+  mostLoops = max (m .mostLoops) (length (y .loops));
+  edges = m .edges;
+  starts = m .starts;
+  unions = m .unions;
+  rims = m .rims + y .rims;
+}
 
 -- what a call comes to: a refusal; a beginning; an operation's triangle, or the edge that it declares border; a finish's numbers
 pub data Step : Type 0 where
@@ -94,27 +101,22 @@ within m =
 
 unfoldable pub done : Machine → Effect → Step
 done m not-allowed = refused 16
-done m (builds ls t pq qr rp n s k) =
-    let m′ = afterBuild m ls t pq qr rp n s k in
-    test (within m′) 17 (test (edgeRule t pq qr rp (m .triangles)) 18 (built t m′))
-done m (marks ls d rim) = let m′ = afterMark m ls rim in test (within m′) 17 (declared d m′)
+done m (builds x) =
+    let m′ = afterBuild m x in
+    test (within m′) 17 (test (edgeRule (x .triangle) (x .sides .pq) (x .sides .qr) (x .sides .rp) (m .triangles)) 18 (built (x .triangle) m′))
+done m (marks y) = let m′ = afterMark m y in test (within m′) 17 (declared (y .edge) m′)
 
 -- an operation: 16, 17, 18
 abbrev pub operation : Machine → Operation → Step
 operation m o = done m (effect o (m .used) (m .loops))
 
--- the lengths of the buffers that are lent
-pub record Rooms : Type 0 where
-  pub triangles : ℕ
-  pub places : ℕ
-
--- 14
-abbrev pub roomy : Rooms → Counts → Bool
-roomy r s = leb (3 * s .triangles) (r .triangles) && leb maxPlaces (r .places)
+-- 14: the buffers are long enough
+abbrev pub longEnough : Lengths → Counts → Bool
+longEnough r s = leb (3 * s .triangles) (r .triangles) && leb maxPlaces (r .places)
 
 -- a beginning: 13, 14
-unfoldable pub beginning : Rooms → Counts → Step
-beginning r s = test (inRange s) 13 (test (roomy r s) 14 (begun (empty s)))
+unfoldable pub beginning : Lengths → Counts → Step
+beginning r s = test (inRange s) 13 (test (longEnough r s) 14 (begun (empty s)))
 
 abbrev pub complete : Machine → Bool
 complete m = eqb (length (m .triangles)) (m .stated .triangles) && eqb (length (m .loops)) 0
@@ -133,5 +135,5 @@ totals m = record {
 }
 
 -- a finish: 15, 19, 20
-unfoldable pub finish : Machine → Step
-finish m = test (complete m) 15 (test (asStated m) 19 (test (oneFanEach (m .used) (m .triangles)) 20 (finished (totals m))))
+unfoldable pub finishing : Machine → Step
+finishing m = test (complete m) 15 (test (asStated m) 19 (test (oneFanEach (m .used) (m .triangles)) 20 (finished (totals m))))

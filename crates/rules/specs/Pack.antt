@@ -109,12 +109,12 @@ packChosen v ts r (stopped n) = packRefused n v r
 packChosen v ts r (chosen os s) = packStored v (newNumbers v (s .numbered)) (packOf v ts os s) r
 
 -- 8
-abbrev pub packRooms : ℕ → PackBuffers → Bool
-packRooms v r = leb v (length (r .numbering)) && leb maxPlaces (length (r .places))
+abbrev pub packLongEnough : ℕ → PackBuffers → Bool
+packLongEnough v r = leb v (length (r .numbering)) && leb maxPlaces (length (r .places))
 
 unfoldable pub packChecked : Most → ℕ → List Triangle → PackBuffers → Checked → PackResult
 packChecked h v ts r (Refused n) = turnedDown n r
-packChecked h v ts r Accepted = elim (packRooms v r) [ true ↦ packChosen v ts r (chosenFor h ts) | false ↦ turnedDown 8 r ]
+packChecked h v ts r Accepted = elim (packLongEnough v r) [ true ↦ packChosen v ts r (chosenFor h ts) | false ↦ turnedDown 8 r ]
 
 -- packing a list of numbers for a model of v vertices, with some limits and with those of the rules
 abbrev pub packWithin : Most → ℕ → List ℕ → PackBuffers → PackResult

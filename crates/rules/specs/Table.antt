@@ -16,13 +16,36 @@ use Rattle.rules.specs.Ring.{Node, opened, marked, Ring, vertex, firstOp
 pub data Side : Type 0 where
   glued fresh : Side
 
+-- the edges p→q, q→r and r→p of a triangle p q r
+pub record Sides : Type 0 where
+  pub pq : Side
+  pub qr : Side
+  pub rp : Side
+
+-- how many vertex numbers are new, and what is counted as a start or a union
+pub record Added : Type 0 where
+  pub vertices : ℕ
+  pub starts : ℕ
+  pub unions : ℕ
+
+-- an operation that builds a triangle: the loops after it, the triangle
+pub record Building : Type 0 where
+  pub loops : List Ring
+  pub triangle : Triangle
+  pub sides : Sides
+  pub added : Added
+
+-- an operation that marks an edge as border: the loops after it, the edge, and 1 if the loop ends as a rim
+pub record Marking : Type 0 where
+  pub loops : List Ring
+  pub edge : Edge
+  pub rims : ℕ
+
 -- what an operation would do
 pub data Effect : Type 0 where
   not-allowed : Effect
-  -- the loops after it, the triangle p q r, its sides p→q, q→r and r→p, how many numbers are new, starts, unions
-  builds : List Ring → Triangle → Side → Side → Side → ℕ → ℕ → ℕ → Effect
-  -- the loops after it, the edge, rims
-  marks : List Ring → Edge → ℕ → Effect
+  builds : Building → Effect
+  marks : Marking → Effect
 
 unfoldable pub allowed : Bool → Effect → Effect
 allowed true c = c
@@ -38,8 +61,8 @@ shorterFirst l m ws = inOrder (leb (length l) (length m)) l m ws
 
 -- a loop whose last open edge is marked ends as a rim, and the latest waiting loop goes on
 abbrev pub marking : Ring → List Ring → Edge → Effect
-marking [] ws d = marks ws d 1
-marking (p ∷ ps) ws d = marks ((p ∷ ps) ∷ ws) d 0
+marking [] ws d = marks (record { loops = ws; edge = d; rims = 1 })
+marking (p ∷ ps) ws d = marks (record { loops = (p ∷ ps) ∷ ws; edge = d; rims = 0 })
 
 -- Of the current loop, ps are the places after e, f first. Three places, all edges open: close builds then, and neither forward nor
 -- backward.
@@ -53,33 +76,83 @@ besideNext ps i = eqb i 1 && firstOpen ps
 abbrev pub besideLast : List Node → ℕ → Bool
 besideLast ps i = eqb (i + 2) (suc (length ps)) && lastOpen ps
 
--- The current edge goes from a to b; ps are the places after its own, f first, round to it; ws wait; u is the next unused
--- number. The current edge itself is open: 21 refuses a state in which it is not.
+-- The current edge goes from a (place e) to b (place f); ps are the places after e, f first, round to it; ws wait; u is the next unused
+-- number. Every operation but border and start builds the triangle b a c, whose first side glues the current edge. That edge itself is
+-- open: 21 refuses a state in which it is not.
 unfoldable pub atEdge : Operation → ℕ → ℕ → List Node → List Ring → Effect
-atEdge New u a ps ws = builds ((opened u ∷ (ps ++ (opened a ∷ []))) ∷ ws) (tri (startOr a ps) a u) glued fresh fresh 1 0 0
+-- c is the next unused number, placed between e and f; c→b is current
+atEdge New u a ps ws =
+    let b = startOr a ps in
+    builds (record {
+      loops = (opened u ∷ (ps ++ (opened a ∷ []))) ∷ ws;
+      triangle = tri b a u;
+      sides = record { pq = glued; qr = fresh; rp = fresh };
+      added = record { vertices = 1; starts = 0; unions = 0 };
+    })
+-- c is after f; f leaves; a→c is current
 atEdge Forward u a ps ws =
     let k = suc (length ps) in
+    let b = startOr a ps in
+    let c = vertexAt ps 1 in
     allowed (leb 3 k && firstOpen ps && not (closes ps))
-    (builds ((opened a ∷ drop 1 ps) ∷ ws) (tri (startOr a ps) a (vertexAt ps 1)) glued fresh glued 0 0 0)
+    (builds (record {
+      loops = (opened a ∷ drop 1 ps) ∷ ws;
+      triangle = tri b a c;
+      sides = record { pq = glued; qr = fresh; rp = glued };
+      added = record { vertices = 0; starts = 0; unions = 0 };
+    }))
+-- c is before e; e leaves; c→b is current
 atEdge Backward u a ps ws =
     let k = suc (length ps) in
+    let b = startOr a ps in
     let c = lastVertex ps in
-    allowed (leb 3 k && lastOpen ps && not (closes ps)) (builds ((opened c ∷ front ps) ∷ ws) (tri (startOr a ps) a c) glued glued fresh 0 0 0)
+    allowed (leb 3 k && lastOpen ps && not (closes ps))
+    (builds (record {
+      loops = (opened c ∷ front ps) ∷ ws;
+      triangle = tri b a c;
+      sides = record { pq = glued; qr = glued; rp = fresh };
+      added = record { vertices = 0; starts = 0; unions = 0 };
+    }))
+-- no triangle; the edge is marked; the next open edge along the loop is current
 atEdge Border u a ps ws = marking (shown (onward [] (ps ++ (marked a ∷ [])))) ws (edge a (startOr a ps))
+-- c is i places after f; one loop from f to c, closed by c→b, one from c to e, closed by a→c; each has its closing edge as current
 atEdge (Split i) u a ps ws =
     let k = suc (length ps) in
+    let b = startOr a ps in
     let c = vertexAt ps i in
     allowed (leb 1 i && leb (i + 2) k && not (besideNext ps i) && not (besideLast ps i))
-    (builds (shorterFirst (opened c ∷ take i ps) (opened a ∷ drop i ps) ws) (tri (startOr a ps) a c) glued fresh fresh 0 0 0)
-atEdge Close u a ps ws = allowed (closes ps) (builds ws (tri (startOr a ps) a (vertexAt ps 1)) glued glued glued 0 0 0)
+    (builds (record {
+      loops = shorterFirst (opened c ∷ take i ps) (opened a ∷ drop i ps) ws;
+      triangle = tri b a c;
+      sides = record { pq = glued; qr = fresh; rp = fresh };
+      added = record { vertices = 0; starts = 0; unions = 0 };
+    }))
+-- c is the third place; the loop ends
+atEdge Close u a ps ws =
+    let b = startOr a ps in
+    let c = vertexAt ps 1 in
+    allowed (closes ps)
+    (builds (record {
+      loops = ws;
+      triangle = tri b a c;
+      sides = record { pq = glued; qr = glued; rp = glued };
+      added = record { vertices = 0; starts = 0; unions = 0 };
+    }))
+-- c is j places after the start of loop n's current edge; a→c, round that loop back to a second place of c, then c→b, which is current
 atEdge (Union n j) u a ps ws =
     let w = loopAt ws (n - 1) in
+    let b = startOr a ps in
     let c = vertexAt w j in
     allowed (leb 1 n && leb n (length ws) && ltb j (length w))
-    (builds ((opened c ∷ (ps ++ (opened a ∷ (drop j w ++ take j w)))) ∷ without ws (n - 1)) (tri (startOr a ps) a c) glued fresh fresh 0 0 1)
+    (builds (record {
+      loops = (opened c ∷ (ps ++ (opened a ∷ (drop j w ++ take j w)))) ∷ without ws (n - 1);
+      triangle = tri b a c;
+      sides = record { pq = glued; qr = fresh; rp = fresh };
+      added = record { vertices = 0; starts = 0; unions = 1 };
+    }))
 atEdge Start u a ps ws = not-allowed
 
--- no loop is live
+-- no loop is live: a start builds the triangle of the next three unused numbers, and its first edge is current
 unfoldable pub atRest : Operation → ℕ → Effect
 atRest New u = not-allowed
 atRest Forward u = not-allowed
@@ -89,7 +162,12 @@ atRest (Split i) u = not-allowed
 atRest Close u = not-allowed
 atRest (Union n j) u = not-allowed
 atRest Start u =
-    builds ((opened u ∷ (opened (suc u) ∷ (opened (suc (suc u)) ∷ []))) ∷ []) (tri u (suc u) (suc (suc u))) fresh fresh fresh 3 1 0
+    builds (record {
+      loops = (opened u ∷ (opened (suc u) ∷ (opened (suc (suc u)) ∷ []))) ∷ [];
+      triangle = tri u (suc u) (suc (suc u));
+      sides = record { pq = fresh; qr = fresh; rp = fresh };
+      added = record { vertices = 3; starts = 1; unions = 0 };
+    })
 
 unfoldable pub effect : Operation → ℕ → List Ring → Effect
 effect o u [] = atRest o u

@@ -10,7 +10,7 @@ use Rattle.rules.specs.declared.Builder.{Builder}
 use Rattle.rules.specs.Limits.{maxPlaces, inRange}
 use Rattle.rules.specs.Count.{occurs}
 use Rattle.rules.specs.Check.{allBelow}
-use Rattle.rules.specs.Machine.{roomy}
+use Rattle.rules.specs.Machine.{longEnough}
 use Rattle.rules.specs.Buffer.{Buffers, lengths}
 use Rattle.rules.specs.View.{placeAt, followed, placesOf}
 
@@ -71,4 +71,4 @@ trianglesFit b xs = allBelow (b .used) (take (3 * b .built) xs)
 
 -- a state that passes
 unfoldable pub sound : Builder → Buffers → Bool
-sound b r = roomy (lengths r) (b .stated) && countsFit b && sumsFit b && linksFit b (r .places) && trianglesFit b (r .triangles)
+sound b r = longEnough (lengths r) (b .stated) && countsFit b && sumsFit b && linksFit b (r .places) && trianglesFit b (r .triangles)

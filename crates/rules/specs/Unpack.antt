@@ -11,7 +11,7 @@ use Rattle.rules.specs.declared.Place.{Place}
 use Rattle.rules.specs.declared.Totals.{Totals}
 use Rattle.rules.specs.Limits.{inRange}
 use Rattle.rules.specs.Fan.{oneFanEach}
-use Rattle.rules.specs.Machine.{Machine, empty, refused, begun, built, declared, finished, operation, complete, roomy, asStated, totals}
+use Rattle.rules.specs.Machine.{Machine, empty, refused, begun, built, declared, finished, operation, complete, longEnough, asStated, totals}
 use Rattle.rules.specs.Answer.{Answer, refusal, unpacked}
 use Rattle.rules.specs.Bits.{bitsOfBytes, allZero}
 use Rattle.rules.specs.Code.{breaks-off, read, readOperation}
@@ -96,7 +96,7 @@ unfoldable pub unpackFields : Buffers → Fields → UnpackResult
 unpackFields r no-pack = turnedDown 12 r
 unpackFields r (fields s ops) =
     elim (inRange s) [
-      | true ↦ elim (roomy (lengths r) s) [ true ↦ unpackRun s r (runOf s ops) | false ↦ turnedDown 14 r ]
+      | true ↦ elim (longEnough (lengths r) s) [ true ↦ unpackRun s r (runOf s ops) | false ↦ turnedDown 14 r ]
       | false ↦ turnedDown 13 r
     ]
 

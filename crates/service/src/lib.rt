@@ -37,15 +37,15 @@ pub fn pack(
     v: usize,
     list: &[u16],
     numbering: &mut [u16],
-    room: &mut [u8],
+    buffer: &mut [u8],
     places: &mut [Place],
 ) -> Packed
-    ensures { λ r. ⌜ Packs v (now (list .entry)) (now (numbering .entry)) (now (room .entry)) (now (places .entry)) r (now (numbering .exit)) (now (room .exit)) (now (places .exit)) ⌝ }
+    ensures { λ r. ⌜ Packs v (now (list .entry)) (now (numbering .entry)) (now (buffer .entry)) (now (places .entry)) r (now (numbering .exit)) (now (buffer .exit)) (now (places .exit)) ⌝ }
 {
     let n = count(places.len());
     let mut m = empty();
     load(places, &mut m, n);
-    let r = packer::pack_on(v, list, numbering, room, &mut m, n);
+    let r = packer::pack_on(v, list, numbering, buffer, &mut m, n);
     save(&m, places, n);
     r
 }

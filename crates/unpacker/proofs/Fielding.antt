@@ -12,7 +12,7 @@ use Rattle.rules.specs.declared.Unpacked.{Unpacked}
 use Rattle.rules.specs.declared.Unpacked.the-variants as U
 use Rattle.rules.specs.Limits.{inRange}
 use Rattle.rules.specs.Fields.{Fields, no-pack, fields, fieldsOf}
-use Rattle.rules.specs.Machine.{roomy}
+use Rattle.rules.specs.Machine.{longEnough}
 use Rattle.rules.specs.Buffer.{lengths}
 use Rattle.rules.specs.Unpack.{turnedDown, unpackFields}
 use Rattle.wire.specs.declared.fields.PackFields.{PackFields}

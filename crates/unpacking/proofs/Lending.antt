@@ -15,7 +15,7 @@ use Rattle.rules.specs.declared.Unpacked.{Unpacked}
 use Rattle.rules.specs.declared.Unpacked.the-variants as U
 use Rattle.rules.specs.Limits.{maxPlaces, inRange}
 use Rattle.rules.specs.Fan.{oneFanEach}
-use Rattle.rules.specs.Machine.{Machine, asStated, totals, roomy}
+use Rattle.rules.specs.Machine.{Machine, asStated, totals, longEnough}
 use Rattle.rules.specs.Answer.{Answer, refusal, unpacked, unpackedAnswer}
 use Rattle.rules.specs.Buffer.{freePlace, over, zeroed, cleared, Buffers, lengths}
 use Rattle.rules.specs.Fields.{Fields, no-pack, fields, fieldsOf}
@@ -44,14 +44,14 @@ ended-pick c r M rest =
     picked (rest && asStated M) (oneFanEach (M .used) (M .triangles)) (unpackDone c (totals M) (M .triangles) r) (unpackRefused 20 c r) (unpackRefused 19 c r)
 
 fields-pick : (r : Buffers) (s : Counts) (ops : List ℕ)
-    → unpackFields r (fields s ops) ≡ pick (inRange s) (roomy (lengths r) s) (unpackRun s r (runOf s ops)) (turnedDown 14 r) (turnedDown 13 r)
+    → unpackFields r (fields s ops) ≡ pick (inRange s) (longEnough (lengths r) s) (unpackRun s r (runOf s ops)) (turnedDown 14 r) (turnedDown 13 r)
 unfolding unpackFields
 fields-pick r s ops =
-    picked (inRange s) (roomy (lengths r) s) (unpackRun s r (runOf s ops)) (turnedDown 14 r) (turnedDown 13 r)
+    picked (inRange s) (longEnough (lengths r) s) (unpackRun s r (runOf s ops)) (turnedDown 14 r) (turnedDown 13 r)
 
 pub fields-13 : (r : Buffers) (s : Counts) (ops : List ℕ) → inRange s ≡ false → unpackFields r (fields s ops) ≡ turnedDown 13 r
 fields-13 r s ops h =
-    fields-pick r s ops ∙ ap (λ (a : Bool). pick a (roomy (lengths r) s) (unpackRun s r (runOf s ops)) (turnedDown 14 r) (turnedDown 13 r)) h
+    fields-pick r s ops ∙ ap (λ (a : Bool). pick a (longEnough (lengths r) s) (unpackRun s r (runOf s ops)) (turnedDown 14 r) (turnedDown 13 r)) h
 
 -- the same answer and triangles
 pub record Alike (x y : UnpackResult) : Type 0 where
@@ -84,10 +84,10 @@ module _ (r r′ : Buffers) (e : r .triangles ≡ r′ .triangles) where
   unfolding unpackFields
   alike-fields h no-pack = alike-down 12
   alike-fields h (fields s ops) =
-      let q : roomy (lengths r) s ≡ roomy (lengths r′) s =
+      let q : longEnough (lengths r) s ≡ longEnough (lengths r′) s =
       ap₂ (λ (xs : List ℕ) (b : Bool). leb (3 * s .triangles) (length xs) && b) e h in
       rw (fields-pick r s ops, fields-pick r′ s ops, q)
-      (alike-pick (inRange s) (roomy (lengths r′) s) _ _ _ _ _ _ (alike-run s (runOf s ops)) (alike-down 14) (alike-down 13))
+      (alike-pick (inRange s) (longEnough (lengths r′) s) _ _ _ _ _ _ (alike-run s (runOf s ops)) (alike-down 14) (alike-down 13))
 
 -- the place list afterwards
 abbrev pub clearedIf : Bool → List Place → List Place
@@ -120,7 +120,7 @@ unfolding unpackFields
 lend-places no-pack r = refl
 lend-places (fields s ops) r =
     ap (λ (x : UnpackResult). x .buffers .places) (fields-pick r s ops)
-    ∙ places-pick (inRange s) (roomy (lengths r) s) r _ _ _ (places-run s r (runOf s ops)) refl refl
+    ∙ places-pick (inRange s) (longEnough (lengths r) s) r _ _ _ (places-run s r (runOf s ops)) refl refl
 
 -- `unpackOn` with the length of the place list is `unpack`
 pub lend-unpack : (bytes : List ℕ) (r : Buffers) (n : ℕ) → leb maxPlaces (length {A = Place} (r .places)) ≡ leb maxPlaces n
@@ -156,12 +156,12 @@ module _ (bytes : List ℕ) (n : ℕ) (ts : List ℕ) (s : Counts) (ops : List �
     both : leb (3 * s .triangles) (length ts) && leb maxPlaces n ≡ true
     both = ap₂ _&&_ (le-leb (3 * s .triangles) (length ts) long) (le-leb maxPlaces n many)
 
-    pub roomy-is : unpackOn bytes n ts ≡ unpackRun s (lent n ts) (runOf s ops)
-    roomy-is =
+    pub enough-is : unpackOn bytes n ts ≡ unpackRun s (lent n ts) (runOf s ops)
+    enough-is =
         on-pick ∙ ap (λ (b : Bool). pick true b (unpackRun s (lent n ts) (runOf s ops)) (turnedDown 14 (lent n ts)) (turnedDown 13 (lent n ts))) both
 
-    pub roomy-past : isPast (fieldsOf bytes) n (length ts) ≡ true
-    roomy-past = past-is ∙ both
+    pub enough-past : isPast (fieldsOf bytes) n (length ts) ≡ true
+    enough-past = past-is ∙ both
 
 pub short-list : (k t n : ℕ) → t < k → leb k t && leb maxPlaces n ≡ false
 short-list k t n h = ap (λ (b : Bool). b && leb maxPlaces n) (lt-leb k t h)

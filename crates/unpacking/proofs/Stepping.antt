@@ -65,9 +65,9 @@ Grows M (finished x) = Unit {0}
 grows-by : (M : Machine) (e : Effect) → Grows M (done M e)
 unfolding done
 grows-by M not-allowed = tt
-grows-by M (builds ls t pq qr rp n s k) =
-    test-law (Grows M) _ _ _ tt (λ i. test-law (Grows M) (edgeRule t pq qr rp (M .triangles)) _ _ tt (λ j. (refl, refl)))
-grows-by M (marks ls d rim) = test-law (Grows M) _ _ _ tt (λ i. (refl, refl))
+grows-by M (builds x) =
+    test-law (Grows M) _ _ _ tt (λ i. test-law (Grows M) (edgeRule (x .triangle) (x .sides .pq) (x .sides .qr) (x .sides .rp) (M .triangles)) _ _ tt (λ j. (refl, refl)))
+grows-by M (marks x) = test-law (Grows M) _ _ _ tt (λ i. (refl, refl))
 
 grows : (M : Machine) (o : Operation) (s : Step) → operation M o ≡ s → Grows M s
 grows M o s e = subst (Grows M) e (grows-by M (effect o (M .used) (M .loops)))

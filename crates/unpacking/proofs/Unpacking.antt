@@ -27,7 +27,7 @@ use Rattle.unpacking.specs.Lent.{lent, unpackOn, isPast, recordNumbers, 
 use Rattle.unpacking.proofs.Starting.{starts-empty}
 use Rattle.unpacking.proofs.Looping.{ends-ended}
 use Rattle.buffers.proofs.Filling.{filled-take}
-use Rattle.unpacking.proofs.Lending.{short-is, short-past, roomy-is, roomy-past, run-answer, run-triangles}
+use Rattle.unpacking.proofs.Lending.{short-is, short-past, enough-is, enough-past, run-answer, run-triangles}
 
 -- the first state, as the code makes it
 module _ (c : Counts) (ops ts m : List ℕ) (f : Fitting c ops ts m) (s : Front) (es : s ≡ freshFront maxPlaces c) (m₁ : List ℕ)
@@ -78,7 +78,7 @@ module _ (bytes : List ℕ) (n : ℕ) (ts m : List ℕ) (c : Counts) (ops : List
   pub run-on : 3 * c .triangles ≤ length ts → maxPlaces ≤ n → (r : Unpacked) (ts′ m′ : List ℕ) → RunGives c ops ts r ts′ m′
       → UnpackedOn bytes n ts m r ts′ m′
   run-on l k r ts′ m′ g = record {
-    answer = g .answer n ∙ sym (ap (λ (x : UnpackResult). x .answer) (roomy-is bytes n ts c ops found ranges l k));
-    triangles = g .triangles n ∙ sym (ap (λ (x : UnpackResult). x .buffers .triangles) (roomy-is bytes n ts c ops found ranges l k));
-    memory = rw (roomy-past bytes n ts c ops found ranges l k) (g .memory);
+    answer = g .answer n ∙ sym (ap (λ (x : UnpackResult). x .answer) (enough-is bytes n ts c ops found ranges l k));
+    triangles = g .triangles n ∙ sym (ap (λ (x : UnpackResult). x .buffers .triangles) (enough-is bytes n ts c ops found ranges l k));
+    memory = rw (enough-past bytes n ts c ops found ranges l k) (g .memory);
   }

@@ -13,7 +13,7 @@ use Rattle.rules.specs.Limits.{maxPlaces, inRange}
 use Rattle.rules.specs.Answer.{unpackedAnswer}
 use Rattle.rules.specs.Buffer.{freePlace, Buffers, lengths}
 use Rattle.rules.specs.Fields.{Fields, no-pack, fields, fieldsOf}
-use Rattle.rules.specs.Machine.{roomy}
+use Rattle.rules.specs.Machine.{longEnough}
 use Rattle.rules.specs.Unpack.{UnpackResult, runOf, unpackRun, unpack}
 
 abbrev pub lent : ℕ → List ℕ → Buffers

@@ -17,31 +17,31 @@ use Rattle.codes.proofs.Fields.{length-header}
 use Rattle.wire.specs.Fields.{headed}
 
 -- after i bytes of s, from k on, of which there are n
-pub record Copied (n k : ℕ) (s room₀ room : List ℕ) (i : ℕ) : Type 0 where
+pub record Copied (n k : ℕ) (s buffer₀ buffer : List ℕ) (i : ℕ) : Type 0 where
   pub count : i ≤ n
-  pub within : k + n ≤ length room₀
+  pub within : k + n ≤ length buffer₀
   pub enough : n ≤ length s
-  pub long : length room ≡ length room₀
-  pub holds : room ≡ paste room₀ k s i
+  pub long : length buffer ≡ length buffer₀
+  pub holds : buffer ≡ paste buffer₀ k s i
 
-module _ (n k : ℕ) (s room₀ : List ℕ) where
-  pub copy-none : k + n ≤ length room₀ → n ≤ length s → Copied n k s room₀ room₀ 0
-  copy-none h l = record { count = omega arith; within = h; enough = l; long = refl; holds = paste-zero room₀ k s }
+module _ (n k : ℕ) (s buffer₀ : List ℕ) where
+  pub copy-none : k + n ≤ length buffer₀ → n ≤ length s → Copied n k s buffer₀ buffer₀ 0
+  copy-none h l = record { count = omega arith; within = h; enough = l; long = refl; holds = paste-zero buffer₀ k s }
 
-  pub copy-more : (room : List ℕ) (i j v : ℕ) → Copied n k s room₀ room i → i < n → j ≡ k + i → v ≡ getD s i 0 → Copied n k s room₀ (set room j v) (i + 1)
-  copy-more room i j v c h p q =
+  pub copy-more : (buffer : List ℕ) (i j v : ℕ) → Copied n k s buffer₀ buffer i → i < n → j ≡ k + i → v ≡ getD s i 0 → Copied n k s buffer₀ (set buffer j v) (i + 1)
+  copy-more buffer i j v c h p q =
       record {
         count = omega arith;
         within = c .within;
         enough = c .enough;
-        long = length-set room j v ∙ c .long;
+        long = length-set buffer j v ∙ c .long;
         holds =
-            ap₂ (λ (x y : ℕ). set room x y) p q ∙ ap (λ (r : List ℕ). set r (k + i) (getD s i 0)) (c .holds)
-            ∙ paste-suc room₀ k s i 0 (omega (arith, c .within)) (omega (arith, c .enough)) ∙ ap (paste room₀ k s) (sym (add-one i));
+            ap₂ (λ (x y : ℕ). set buffer x y) p q ∙ ap (λ (r : List ℕ). set r (k + i) (getD s i 0)) (c .holds)
+            ∙ paste-suc buffer₀ k s i 0 (omega (arith, c .within)) (omega (arith, c .enough)) ∙ ap (paste buffer₀ k s) (sym (add-one i));
       }
 
-  pub copy-all : (room : List ℕ) (i : ℕ) → Copied n k s room₀ room i → n ≤ i → room ≡ paste room₀ k s n
-  copy-all room i c h = let e : i ≡ n = omega (arith, c .count) in c .holds ∙ ap (paste room₀ k s) e
+  pub copy-all : (buffer : List ℕ) (i : ℕ) → Copied n k s buffer₀ buffer i → n ≤ i → buffer ≡ paste buffer₀ k s n
+  copy-all buffer i c h = let e : i ≡ n = omega (arith, c .count) in c .holds ∙ ap (paste buffer₀ k s) e
 
 -- ---- the header
 
@@ -52,18 +52,18 @@ module _ (s : Counts) (n : ℕ) where
   unfolding headerOf
   header-made a b c d e f g h i j ea eb ec ed ee ef eg eh ei ej = rw (ea, eb, ec, ed, ee, ef, eg, eh, ei, ej)
 
-  module _ (room : List ℕ) where
-    pub header-refused : length room < 14 → (false ≡ leb 14 (length room)) × (room ≡ headed room s n)
+  module _ (buffer : List ℕ) where
+    pub header-refused : length buffer < 14 → (false ≡ leb 14 (length buffer)) × (buffer ≡ headed buffer s n)
     unfolding headed
-    header-refused h = let l : leb 14 (length room) ≡ false = lt-leb 14 (length room) h in (sym l, rw l)
+    header-refused h = let l : leb 14 (length buffer) ≡ false = lt-leb 14 (length buffer) h in (sym l, rw l)
 
-    pub header-written : (last : List ℕ) (hs : List ℕ) (i : ℕ) → hs ≡ headerOf s n → Copied 14 0 hs room last i → 14 ≤ i
-        → (true ≡ leb 14 (length room)) × (last ≡ headed room s n)
+    pub header-written : (last : List ℕ) (hs : List ℕ) (i : ℕ) → hs ≡ headerOf s n → Copied 14 0 hs buffer last i → 14 ≤ i
+        → (true ≡ leb 14 (length buffer)) × (last ≡ headed buffer s n)
     unfolding headed
     header-written last hs i e c h =
-        let l : leb 14 (length room) ≡ true = le-leb 14 (length room) (c .within) in
+        let l : leb 14 (length buffer) ≡ true = le-leb 14 (length buffer) (c .within) in
         let m : length hs ≡ 14 = ap length e ∙ length-header s n in
-        let p : last ≡ hs ++ drop 14 room =
-        copy-all 14 0 hs room last i c h ∙ ap (λ (us : List ℕ). us ++ drop 14 room) (ap (λ (k : ℕ). take k hs) (sym m) ∙ take-length hs) in
-        let q : over hs room ≡ hs ++ drop 14 room = ap (λ (k : ℕ). hs ++ drop k room) m in
-        (sym l, rw l (p ∙ sym q ∙ ap (λ (us : List ℕ). over us room) e))
+        let p : last ≡ hs ++ drop 14 buffer =
+        copy-all 14 0 hs buffer last i c h ∙ ap (λ (us : List ℕ). us ++ drop 14 buffer) (ap (λ (k : ℕ). take k hs) (sym m) ∙ take-length hs) in
+        let q : over hs buffer ≡ hs ++ drop 14 buffer = ap (λ (k : ℕ). hs ++ drop k buffer) m in
+        (sym l, rw l (p ∙ sym q ∙ ap (λ (us : List ℕ). over us buffer) e))

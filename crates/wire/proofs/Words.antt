@@ -17,15 +17,15 @@ use Rattle.rules.specs.declared.Operation.the-variants.{New, Forward, Backward,
 use Rattle.rules.specs.Buffer.{over}
 use Rattle.rules.specs.Bits.{bits, valueOf, bytesOf}
 use Rattle.rules.specs.Code.{operationBits, operationsBits}
-use Rattle.codes.specs.Room.{writtenAt, bytesFor, fourBytes, wordOf}
+use Rattle.codes.specs.Buffer.{writtenAt, bytesFor, fourBytes, wordOf}
 use Rattle.codes.specs.Whole.{widthOf}
 use Rattle.codes.proofs.Lists.{below-all}
 use Rattle.codes.proofs.Numbers.{value-append, value-bits, value-below}
 use Rattle.codes.proofs.Operations.{length-operation, operation-bits-are, operations-bits-are, operations-more, width-least, width-most}
-use Rattle.codes.proofs.Room.{written-more, written-word}
+use Rattle.codes.proofs.Buffer.{written-more, written-word}
 use Rattle.wire.specs.declared.writer.Written.{Written}
-use Rattle.wire.specs.Fields.{pickRoom}
-use Rattle.wire.specs.Writer.{PieceOf, fitsIn, lastNumber, writtenOf, roomAfter}
+use Rattle.wire.specs.Fields.{pickBuffer}
+use Rattle.wire.specs.Writer.{PieceOf, fitsIn, lastNumber, writtenOf, bufferAfter}
 
 -- ---- an operation as a number
 
@@ -99,53 +99,53 @@ four-at w (suc (suc (suc (suc i)))) h = absurd (omega arith)
 
 -- ---- the answers
 
-module _ (room : List ℕ) (at : ℕ) (o : Operation) (n next : ℕ) (wide : n ≡ widthOf o) (further : next ≡ min (at + n) lastNumber) where
+module _ (buffer : List ℕ) (at : ℕ) (o : Operation) (n next : ℕ) (wide : n ≡ widthOf o) (further : next ≡ min (at + n) lastNumber) where
   ahead : next ≡ min (at + widthOf o) lastNumber
   ahead = further ∙ ap (λ (k : ℕ). min (at + k) lastNumber) wide
 
-  pub room-refused : length room < at / 8 + (at % 8 + n + 7) / 8
-      → (_≡_ {A = Written} (record { fits = false; next = next }) (writtenOf (length room) at o)) × (room ≡ roomAfter room at o)
-  unfolding roomAfter
-  room-refused h =
-      let f : fitsIn (length room) at o ≡ false = lt-leb (bytesFor (at + widthOf o)) (length room) (omega arith) in
-      (ap₂ (λ (t : Bool) (k : ℕ). record { fits = t; next = k }) (sym f) ahead, sym (ap (λ (t : Bool). pickRoom t (writtenAt room at (operationBits o)) room) f))
+  pub buffer-refused : length buffer < at / 8 + (at % 8 + n + 7) / 8
+      → (_≡_ {A = Written} (record { fits = false; next = next }) (writtenOf (length buffer) at o)) × (buffer ≡ bufferAfter buffer at o)
+  unfolding bufferAfter
+  buffer-refused h =
+      let f : fitsIn (length buffer) at o ≡ false = lt-leb (bytesFor (at + widthOf o)) (length buffer) (omega arith) in
+      (ap₂ (λ (t : Bool) (k : ℕ). record { fits = t; next = k }) (sym f) ahead, sym (ap (λ (t : Bool). pickBuffer t (writtenAt buffer at (operationBits o)) buffer) f))
 
-  pub room-written : (last : List ℕ) (b v w : ℕ) → ((i : ℕ) → Val.Fits w8 (getD room i 0)) → at / 8 + (at % 8 + n + 7) / 8 ≤ length room
-      → b ≡ getD room (at / 8) 0 → v ≡ valueOf 0 (operationBits o) → w ≡ wordOf b (at % 8) n v → last ≡ paste room (at / 8) (fourBytes w) ((at % 8 + n + 7) / 8)
-      → (_≡_ {A = Written} (record { fits = true; next = next }) (writtenOf (length room) at o)) × (last ≡ roomAfter room at o)
-  unfolding roomAfter
-  room-written last b v w all h eb ev ew el =
+  pub buffer-written : (last : List ℕ) (b v w : ℕ) → ((i : ℕ) → Val.Fits w8 (getD buffer i 0)) → at / 8 + (at % 8 + n + 7) / 8 ≤ length buffer
+      → b ≡ getD buffer (at / 8) 0 → v ≡ valueOf 0 (operationBits o) → w ≡ wordOf b (at % 8) n v → last ≡ paste buffer (at / 8) (fourBytes w) ((at % 8 + n + 7) / 8)
+      → (_≡_ {A = Written} (record { fits = true; next = next }) (writtenOf (length buffer) at o)) × (last ≡ bufferAfter buffer at o)
+  unfolding bufferAfter
+  buffer-written last b v w all h eb ev ew el =
       let xs = operationBits o in
       let l : length xs ≡ widthOf o = length-operation o in
       let m : n ≡ length xs = wide ∙ sym l in
-      let f : fitsIn (length room) at o ≡ true = le-leb (bytesFor (at + widthOf o)) (length room) (omega arith) in
-      let p : writtenAt room at xs ≡ paste room (at / 8) (fourBytes (wordOf (getD room (at / 8) 0) (at % 8) (length xs) (valueOf 0 xs))) (bytesFor (at % 8 + length xs)) =
-      written-word room at xs (below-all 256 room (λ i. all i .fits)) (operation-bits-are o) (omega (arith, width-most o)) (omega arith) (omega arith) in
-      let q : wordOf b (at % 8) n v ≡ wordOf (getD room (at / 8) 0) (at % 8) (length xs) (valueOf 0 xs) = rw (eb, ev, m) in
-      let r : paste room (at / 8) (fourBytes w) ((at % 8 + n + 7) / 8) ≡ writtenAt room at xs =
-      ap₂ (λ (x k : ℕ). paste room (at / 8) (fourBytes x) (bytesFor (at % 8 + k))) (ew ∙ q) m ∙ sym p in (
+      let f : fitsIn (length buffer) at o ≡ true = le-leb (bytesFor (at + widthOf o)) (length buffer) (omega arith) in
+      let p : writtenAt buffer at xs ≡ paste buffer (at / 8) (fourBytes (wordOf (getD buffer (at / 8) 0) (at % 8) (length xs) (valueOf 0 xs))) (bytesFor (at % 8 + length xs)) =
+      written-word buffer at xs (below-all 256 buffer (λ i. all i .fits)) (operation-bits-are o) (omega (arith, width-most o)) (omega arith) (omega arith) in
+      let q : wordOf b (at % 8) n v ≡ wordOf (getD buffer (at / 8) 0) (at % 8) (length xs) (valueOf 0 xs) = rw (eb, ev, m) in
+      let r : paste buffer (at / 8) (fourBytes w) ((at % 8 + n + 7) / 8) ≡ writtenAt buffer at xs =
+      ap₂ (λ (x k : ℕ). paste buffer (at / 8) (fourBytes x) (bytesFor (at % 8 + k))) (ew ∙ q) m ∙ sym p in (
         ap₂ (λ (t : Bool) (k : ℕ). record { fits = t; next = k }) (sym f) ahead,
-        el ∙ r ∙ sym (ap (λ (t : Bool). pickRoom t (writtenAt room at xs) room) f),
+        el ∙ r ∙ sym (ap (λ (t : Bool). pickBuffer t (writtenAt buffer at xs) buffer) f),
       )
 
 -- ---- for callers: one operation after the other
 
-module _ (room : List ℕ) (at : ℕ) (o : Operation) where
+module _ (buffer : List ℕ) (at : ℕ) (o : Operation) where
   -- it fits, and is written; or nothing is
-  pub room-fits : bytesFor (at + widthOf o) ≤ length room → roomAfter room at o ≡ writtenAt room at (operationBits o)
-  unfolding roomAfter
-  room-fits h = ap (λ (t : Bool). pickRoom t (writtenAt room at (operationBits o)) room) (le-leb (bytesFor (at + widthOf o)) (length room) h)
+  pub buffer-fits : bytesFor (at + widthOf o) ≤ length buffer → bufferAfter buffer at o ≡ writtenAt buffer at (operationBits o)
+  unfolding bufferAfter
+  buffer-fits h = ap (λ (t : Bool). pickBuffer t (writtenAt buffer at (operationBits o)) buffer) (le-leb (bytesFor (at + widthOf o)) (length buffer) h)
 
-  pub room-full : length room < bytesFor (at + widthOf o) → roomAfter room at o ≡ room
-  unfolding roomAfter
-  room-full h = ap (λ (t : Bool). pickRoom t (writtenAt room at (operationBits o)) room) (lt-leb (bytesFor (at + widthOf o)) (length room) h)
+  pub buffer-full : length buffer < bytesFor (at + widthOf o) → bufferAfter buffer at o ≡ buffer
+  unfolding bufferAfter
+  buffer-full h = ap (λ (t : Bool). pickBuffer t (writtenAt buffer at (operationBits o)) buffer) (lt-leb (bytesFor (at + widthOf o)) (length buffer) h)
 
 -- after the operations os, one more
-pub room-more : (os : List Operation) (o : Operation) (room₀ room : List ℕ) (at : ℕ) → room ≡ over (bytesOf (operationsBits os)) room₀
-    → at ≡ length (operationsBits os) → bytesFor (at + widthOf o) ≤ length room → roomAfter room at o ≡ over (bytesOf (operationsBits (os ++ (o ∷ [])))) room₀
-room-more os o room₀ room at e f h =
-    room-fits room at o h ∙ ap₂ (λ (r : List ℕ) (k : ℕ). writtenAt r k (operationBits o)) e f
-    ∙ written-more (operationsBits os) (operationBits o) room₀ (operations-bits-are os) ∙ ap (λ (xs : List ℕ). over (bytesOf xs) room₀) (sym (operations-more os o))
+pub buffer-more : (os : List Operation) (o : Operation) (buffer₀ buffer : List ℕ) (at : ℕ) → buffer ≡ over (bytesOf (operationsBits os)) buffer₀
+    → at ≡ length (operationsBits os) → bytesFor (at + widthOf o) ≤ length buffer → bufferAfter buffer at o ≡ over (bytesOf (operationsBits (os ++ (o ∷ [])))) buffer₀
+buffer-more os o buffer₀ buffer at e f h =
+    buffer-fits buffer at o h ∙ ap₂ (λ (r : List ℕ) (k : ℕ). writtenAt r k (operationBits o)) e f
+    ∙ written-more (operationsBits os) (operationBits o) buffer₀ (operations-bits-are os) ∙ ap (λ (xs : List ℕ). over (bytesOf xs) buffer₀) (sym (operations-more os o))
 
 -- and its position
 pub position-more : (os : List Operation) (o : Operation) (at : ℕ) → at ≡ length (operationsBits os) → at + widthOf o ≡ length (operationsBits (os ++ (o ∷ [])))

@@ -49,10 +49,10 @@ pub record PartFound (bs : List ℕ) (s : Counts) (a b : ℕ) : Type 0 where
 abbrev pub Parted : List ℕ → PackFields → Type 0
 Parted bs r = (s : Counts) (a b : ℕ) → r ≡ Found s a b → PartFound bs s a b
 
-abbrev pub pickRoom : Bool → List ℕ → List ℕ → List ℕ
-pickRoom true a b = a
-pickRoom false a b = b
+abbrev pub pickBuffer : Bool → List ℕ → List ℕ → List ℕ
+pickBuffer true a b = a
+pickBuffer false a b = b
 
--- the header at the front of a buffer that has room for it
+-- the header at the front of a buffer that has buffer for it
 unfoldable pub headed : List ℕ → Counts → ℕ → List ℕ
-headed room s n = pickRoom (leb 14 (length room)) (over (headerOf s n) room) room
+headed buffer s n = pickBuffer (leb 14 (length buffer)) (over (headerOf s n) buffer) buffer

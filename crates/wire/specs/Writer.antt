@@ -9,10 +9,10 @@ use lib.ListN.{length}
 use Rattle.rules.specs.declared.Operation.{Operation}
 use Rattle.rules.specs.Bits.{valueOf}
 use Rattle.rules.specs.Code.{operationBits}
-use Rattle.codes.specs.Room.{writtenAt, bytesFor}
+use Rattle.codes.specs.Buffer.{writtenAt, bytesFor}
 use Rattle.codes.specs.Whole.{widthOf}
 use Rattle.wire.specs.declared.writer.Written.{Written}
-use Rattle.wire.specs.Fields.{pickRoom}
+use Rattle.wire.specs.Fields.{pickBuffer}
 
 -- the bits of an operation as a number v of n bits
 pub record PieceOf (o : Operation) (n v : ℕ) : Type 0 where
@@ -32,5 +32,5 @@ lastNumber = 18446744073709551615
 abbrev pub writtenOf : ℕ → ℕ → Operation → Written
 writtenOf size at o = record { fits = fitsIn size at o; next = min (at + widthOf o) lastNumber }
 
-unfoldable pub roomAfter : List ℕ → ℕ → Operation → List ℕ
-roomAfter room at o = pickRoom (fitsIn (length room) at o) (writtenAt room at (operationBits o)) room
+unfoldable pub bufferAfter : List ℕ → ℕ → Operation → List ℕ
+bufferAfter buffer at o = pickBuffer (fitsIn (length buffer) at o) (writtenAt buffer at (operationBits o)) buffer

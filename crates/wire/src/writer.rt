@@ -6,8 +6,8 @@ ghost use mathlib.Core.Path.{_≡_};
 ghost use Prim.Native.Nat.{_+_, _^_, _≤_, _<_, min};
 ghost use lib.ListN.{length};
 ghost use lib.Seq.{paste};
-ghost use Rattle.codes.specs.Room.{fourBytes, wordOf};
-ghost use Rattle.wire.specs.Writer.{PieceOf, writtenOf, roomAfter};
+ghost use Rattle.codes.specs.Buffer.{fourBytes, wordOf};
+ghost use Rattle.wire.specs.Writer.{PieceOf, writtenOf, bufferAfter};
 
 // Whether the bits fit in the buffer, and the bit position after them, or the last that a number holds.
 pub struct Written {
@@ -76,7 +76,7 @@ fn put_word(pack: &mut [u8], k: usize, word: usize, m: usize)
 // Writes an operation's bits at a bit position, if the buffer has their last byte, whose rest is then zero. Nothing beyond
 // that byte is written; if it has not, nothing at all.
 pub fn write_operation(pack: &mut [u8], at: usize, o: Operation) -> Written
-    ensures { λ r. ⌜ (r ≡ writtenOf (length (now (pack .entry))) at o) × (now (pack .exit) ≡ roomAfter (now (pack .entry)) at o) ⌝ }
+    ensures { λ r. ⌜ (r ≡ writtenOf (length (now (pack .entry))) at o) × (now (pack .exit) ≡ bufferAfter (now (pack .entry)) at o) ⌝ }
 {
     let piece = piece_of(o);
     let n = piece.width;

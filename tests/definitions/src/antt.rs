@@ -1,6 +1,6 @@
 //! Values in the prover's notation.
 
-use crate::second::{Building, PackRooms, Packing, UnpackRooms, Unpacking};
+use crate::second::{Building, PackBuffers, Packing, UnpackBuffers, Unpacking};
 use cutborder::book::Book;
 use cutborder::{Answer, Place};
 use std::fmt::Write;
@@ -44,11 +44,11 @@ fn places(ps: &[Place]) -> String {
     list(ps, |p| format!("(place {} {} {} {})", p.vertex, p.before, p.after, p.open))
 }
 
-fn pack_rooms(r: &PackRooms) -> String {
+fn pack_buffers(r: &PackBuffers) -> String {
     format!("packLent {} {} {}", numbers(&r.numbering), places(&r.places), numbers(&r.pack))
 }
 
-fn unpack_rooms(r: &UnpackRooms) -> String {
+fn unpack_buffers(r: &UnpackBuffers) -> String {
     format!("unpackLent {} {}", numbers(&r.triangles), places(&r.places))
 }
 
@@ -63,7 +63,7 @@ pub fn packing(x: &Packing) -> String {
     };
     format!(
         "record {{ limits = record {{ places = {}; loops = {} }}; vertices = {}; list = {}; lent = {}; answer = {answer}; left = {} }}",
-        x.limits.0, x.limits.1, x.v, numbers(&x.list), pack_rooms(&x.lent), pack_rooms(&x.left)
+        x.limits.0, x.limits.1, x.v, numbers(&x.list), pack_buffers(&x.lent), pack_buffers(&x.left)
     )
 }
 
@@ -78,7 +78,7 @@ pub fn unpacking(x: &Unpacking) -> String {
     };
     format!(
         "record {{ bytes = {}; lent = {}; answer = {answer}; left = {} }}",
-        numbers(&x.bytes), unpack_rooms(&x.lent), unpack_rooms(&x.left)
+        numbers(&x.bytes), unpack_buffers(&x.lent), unpack_buffers(&x.left)
     )
 }
 
@@ -86,7 +86,7 @@ fn call(line: &str) -> String {
     let w: Vec<&str> = line.split(' ').collect();
     match w.as_slice() {
         ["begin", v, t, p, l, ..] => format!("begin (counts {v} {t} {p} {l})"),
-        ["finish"] => "end".into(),
+        ["finish"] => "finish".into(),
         ["op", name, indices @ ..] => {
             let name = name[..1].to_uppercase() + &name[1..];
             if indices.is_empty() { format!("operate {name}") } else { format!("operate ({name} {})", indices.join(" ")) }
@@ -115,8 +115,8 @@ pub fn building(x: &Building) -> String {
         let _ = write!(told, "{} ∷ ", answer(c, t));
     }
     format!(
-        "record {{ rooms = rooms {} {}; calls = {calls}[]; told = {told}[]; machine = {}; borders = {} }}",
-        x.rooms.0, x.rooms.1, numbers(&machine(&x.book)), numbers(&borders(&x.book))
+        "record {{ lengths = lengths {} {}; calls = {calls}[]; told = {told}[]; machine = {}; borders = {} }}",
+        x.lengths.0, x.lengths.1, numbers(&machine(&x.book)), numbers(&borders(&x.book))
     )
 }
 

@@ -3,12 +3,12 @@
 use crate::antt;
 use crate::expected::{self, LIMITS};
 use crate::prelude::{prelude, Home};
-use crate::second::{Building, PackRooms, Packing, UnpackRooms, Unpacking};
+use crate::second::{Building, PackBuffers, Packing, UnpackBuffers, Unpacking};
 use cutborder::gen;
 use cutborder::rng::Rng;
 use cutborder::Place;
 
-/// A room of about n entries, now and then one too short, filled with one value.
+/// A buffer of about n entries, now and then one too short, filled with one value.
 fn length(rng: &mut Rng, n: usize) -> usize {
     match rng.below(12) {
         0 => n.saturating_sub(1),
@@ -37,7 +37,7 @@ pub fn packing(rng: &mut Rng, max_t: usize) -> Packing {
     let m = short(300, || gen::model(rng, max_t), |m| &m.list);
     let limits = if rng.chance(1, 4) { (rng.range(3, 9) as u32, rng.range(1, 3) as u32) } else { LIMITS };
     let size = expected::packed(&m).map_or(20, |p| p.len());
-    let lent = PackRooms {
+    let lent = PackBuffers {
         numbering: vec![7; length(rng, m.v.min(5_000) as usize)],
         places: places(rng),
         pack: vec![5; length(rng, size)],
@@ -50,7 +50,7 @@ pub fn unpacking(rng: &mut Rng, max_t: usize) -> Unpacking {
     let t = expected::fields(&bytes).map_or(1, |(c, _)| c.t as usize);
     // A count near the limits is tried; its buffers are not: they would only be long.
     let n = if t > 400 { 5 } else { length(rng, 3 * t) };
-    let lent = UnpackRooms { triangles: vec![6; n], places: places(rng) };
+    let lent = UnpackBuffers { triangles: vec![6; n], places: places(rng) };
     Unpacking::new(&bytes, lent)
 }
 

@@ -46,8 +46,8 @@ use lib.IntN.{{pos, negsuc}}
 use {specs}.declared.Operation.the-variants.{{New, Forward, Backward, Border, Split, Close, Union, Start}}
 use {specs}.Triangle.{{tri}}
 use {specs}.Answer.{{refusal, accepted, triangle, no-triangle, numbers, packed}}
-use {specs}.Book.{{begin, operate, end}}
-use {proofs}.Rows.{{PackRow, UnpackRow, CallRow, place, packLent, unpackLent, rooms, counts, totalsOf, modelOf}}
+use {specs}.Book.{{begin, operate, finish}}
+use {proofs}.Rows.{{PackRow, UnpackRow, CallRow, place, packLent, unpackLent, lengths, counts, totalsOf, modelOf}}
 "
     );
     let mut names = unfoldable("proofs", "Rows");

@@ -6,7 +6,7 @@ use cutborder::ops::{encode_ops, pack_bytes, Counts};
 use cutborder::{plain, Answer, Place, Refusal};
 
 #[derive(Clone)]
-pub struct PackRooms {
+pub struct PackBuffers {
     pub numbering: Vec<u16>,
     pub places: Vec<Place>,
     pub pack: Vec<u8>,
@@ -16,13 +16,13 @@ pub struct Packing {
     pub limits: (u32, u32),
     pub v: u64,
     pub list: Vec<u16>,
-    pub lent: PackRooms,
+    pub lent: PackBuffers,
     pub answer: Result<usize, Refusal>,
-    pub left: PackRooms,
+    pub left: PackBuffers,
 }
 
 impl Packing {
-    pub fn new(limits: (u32, u32), v: u64, list: &[u16], lent: PackRooms) -> Packing {
+    pub fn new(limits: (u32, u32), v: u64, list: &[u16], lent: PackBuffers) -> Packing {
         let mut left = lent.clone();
         let answer = if limits == LIMITS {
             expected::pack(v, list, &mut left.numbering, &mut left.places, &mut left.pack)
@@ -34,7 +34,7 @@ impl Packing {
 }
 
 /// Packing with other limits on places and loops.
-fn pack_within(limits: (u32, u32), v: u64, list: &[u16], r: &mut PackRooms) -> Result<usize, Refusal> {
+fn pack_within(limits: (u32, u32), v: u64, list: &[u16], r: &mut PackBuffers) -> Result<usize, Refusal> {
     plain::check(v, list)?;
     let n = v as usize;
     if r.numbering.len() < n || r.places.len() < 1_024 {
@@ -67,29 +67,29 @@ fn pack_within(limits: (u32, u32), v: u64, list: &[u16], r: &mut PackRooms) -> R
 }
 
 #[derive(Clone)]
-pub struct UnpackRooms {
+pub struct UnpackBuffers {
     pub triangles: Vec<u16>,
     pub places: Vec<Place>,
 }
 
 pub struct Unpacking {
     pub bytes: Vec<u8>,
-    pub lent: UnpackRooms,
+    pub lent: UnpackBuffers,
     pub answer: Result<Answer, Refusal>,
-    pub left: UnpackRooms,
+    pub left: UnpackBuffers,
 }
 
 impl Unpacking {
-    pub fn new(bytes: &[u8], lent: UnpackRooms) -> Unpacking {
+    pub fn new(bytes: &[u8], lent: UnpackBuffers) -> Unpacking {
         let mut left = lent.clone();
         let answer = expected::unpack(bytes, &mut left.triangles, &mut left.places);
         Unpacking { bytes: bytes.to_vec(), lent, answer, left }
     }
 }
 
-/// A list of calls in the second program's words; every beginning has the same room lengths.
+/// A list of calls in the second program's words; every beginning has the same buffer lengths.
 pub struct Building {
-    pub rooms: (usize, usize),
+    pub lengths: (usize, usize),
     pub calls: Vec<String>,
     pub told: Vec<String>,
     pub book: Book,
@@ -97,15 +97,15 @@ pub struct Building {
 
 impl Building {
     pub fn new(calls: &[String]) -> Building {
-        let rooms = |line: &String| -> Option<(usize, usize)> {
+        let lengths = |line: &String| -> Option<(usize, usize)> {
             let w: Vec<&str> = line.split(' ').collect();
             (w[0] == "begin").then(|| (w[5].parse().unwrap(), w[6].parse().unwrap()))
         };
-        let all: Vec<_> = calls.iter().filter_map(rooms).collect();
-        assert!(calls[0].starts_with("begin") && all.iter().all(|r| *r == all[0]), "one pair of rooms: {calls:?}");
+        let all: Vec<_> = calls.iter().filter_map(lengths).collect();
+        assert!(calls[0].starts_with("begin") && all.iter().all(|r| *r == all[0]), "one pair of lengths: {calls:?}");
         let mut lines = Calls::default();
         let told = calls.iter().map(|c| lines.line(c)).collect();
         let book = lines.book.unwrap_or_else(|| Book::empty(Counts { v: 0, t: 0, places: 0, loops: 0 }));
-        Building { rooms: all[0], calls: calls.to_vec(), told, book }
+        Building { lengths: all[0], calls: calls.to_vec(), told, book }
     }
 }

@@ -3,7 +3,7 @@
 use crate::antt;
 use crate::expected::{self, LIMITS};
 use crate::prelude::{prelude, Home};
-use crate::second::{Building, PackRooms, Packing, UnpackRooms, Unpacking};
+use crate::second::{Building, PackBuffers, Packing, UnpackBuffers, Unpacking};
 use cutborder::gen::op_words;
 use cutborder::proto::unhex;
 use cutborder::{plain, Place};
@@ -57,9 +57,9 @@ fn models() -> Vec<(String, String)> {
 
 const USED: Place = Place { vertex: 3, before: 1, after: 2, open: true };
 
-/// Rooms with some entries more than are needed.
-fn ample(v: usize) -> PackRooms {
-    PackRooms { numbering: vec![7; v + 2], places: vec![USED; 1_026], pack: vec![5; 60] }
+/// Buffers with some entries more than are needed.
+fn ample(v: usize) -> PackBuffers {
+    PackBuffers { numbering: vec![7; v + 2], places: vec![USED; 1_026], pack: vec![5; 60] }
 }
 
 fn model(line: &str) -> (u64, Vec<u16>) {
@@ -67,11 +67,11 @@ fn model(line: &str) -> (u64, Vec<u16>) {
     (w.next().unwrap(), w.map(|n| n as u16).collect())
 }
 
-fn pack_row(name: &str, limits: (u32, u32), line: &str, change: impl Fn(&mut PackRooms)) -> (String, String) {
+fn pack_row(name: &str, limits: (u32, u32), line: &str, change: impl Fn(&mut PackBuffers)) -> (String, String) {
     let (v, list) = model(line);
-    let mut rooms = ample(v as usize);
-    change(&mut rooms);
-    let x = Packing::new(limits, v, &list, rooms);
+    let mut buffers = ample(v as usize);
+    change(&mut buffers);
+    let x = Packing::new(limits, v, &list, buffers);
     let told = match x.answer {
         Ok(_) => "accepted".to_owned(),
         Err(n) => format!("refusal {n}"),
@@ -89,7 +89,7 @@ const SHORT: &str = "4 0 2 1 1 3 0";
 const SPLIT: &str = "6 1 3 2 2 4 5 2 3 4 1 0 3 2 5 0 0 1 2";
 
 fn packings() -> Vec<(String, String)> {
-    let same = |_: &mut PackRooms| ();
+    let same = |_: &mut PackBuffers| ();
     let mut rows: Vec<_> = models().iter().map(|(name, line)| pack_row(name, LIMITS, line, same)).collect();
     for (name, line) in [
         ("union from a loop with a link; the peak of places is reached by it", "7 0 1 2 3 1 4 1 5 6 5 1 3 5 0 2 4 5 2 1 0 4 6 5 4 0 6 4"),
@@ -143,7 +143,7 @@ fn packings() -> Vec<(String, String)> {
 
 fn unpack_row(name: &str, hex: &str, triangles: usize, places: usize) -> (String, String) {
     let bytes = unhex(hex).expect("hexadecimal");
-    let x = Unpacking::new(&bytes, UnpackRooms { triangles: vec![6; triangles], places: vec![USED; places] });
+    let x = Unpacking::new(&bytes, UnpackBuffers { triangles: vec![6; triangles], places: vec![USED; places] });
     let told = match x.answer {
         Ok(_) => "accepted".to_owned(),
         Err(n) => format!("refusal {n}"),

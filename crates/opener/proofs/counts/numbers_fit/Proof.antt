@@ -2,15 +2,15 @@
 -- Assumes nothing.
 use borrow.Author.Needs.{needs}
 use borrow.Author.Tests.{not-true, not-false}
-use Rattle.opening.proofs.Tests.{no-room, no-counts, no-sums, by-triangles, triangles-there}
+use Rattle.opening.proofs.Tests.{too-short, no-counts, no-sums, by-triangles, triangles-there}
 use Rattle.opener.proofs.counts.numbers_fit.Statement.{statement}
 use Rattle.opener.proofs.counts.numbers_fit.Tie as tie
 
-is-roomy-requires : tie.Need-is-roomy-requires
-is-roomy-requires c κs = search needs
+is-long-enough-requires : tie.Need-is-long-enough-requires
+is-long-enough-requires c κs = search needs
 
 returns : tie.Need-returns
-returns c = no-room _ _ _ _ (c .before .is-roomy .ensures) (not-true _ (c .if1 .taken))
+returns c = too-short _ _ _ _ (c .before .is-long-enough .ensures) (not-true _ (c .if1 .taken))
 
 counts-fit-requires : tie.Need-counts-fit-requires
 counts-fit-requires c κs = search needs
@@ -29,10 +29,10 @@ triangles-fit-requires c κs =
     let left2 = c .before .before in
     let after-counts-fit = left2 .before in
     let left1 = after-counts-fit .before in
-    let after-is-roomy = left1 .before in
-    let start = after-is-roomy .before .before .before in
+    let after-is-long-enough = left1 .before in
+    let start = after-is-long-enough .before .before .before in
     let a = start .args in
-    triangles-there (a .b) (a .triangles .now) (a .n) _ (after-is-roomy .is-roomy .ensures) (not-false _ (left1 .if1 .left)) _
+    triangles-there (a .b) (a .triangles .now) (a .n) _ (after-is-long-enough .is-long-enough .ensures) (not-false _ (left1 .if1 .left)) _
     (after-counts-fit .counts-fit .ensures) (not-false _ (left2 .if2 .left))
 
 returns-4 : tie.Need-returns-4
@@ -42,15 +42,15 @@ returns-4 c =
     let left2 = after-sums-fit .before in
     let after-counts-fit = left2 .before in
     let left1 = after-counts-fit .before in
-    let after-is-roomy = left1 .before in
-    by-triangles _ _ _ _ (after-is-roomy .is-roomy .ensures) (not-false _ (left1 .if1 .left)) _ (after-counts-fit .counts-fit .ensures)
+    let after-is-long-enough = left1 .before in
+    by-triangles _ _ _ _ (after-is-long-enough .is-long-enough .ensures) (not-false _ (left1 .if1 .left)) _ (after-counts-fit .counts-fit .ensures)
     (not-false _ (left2 .if2 .left)) _ (after-sums-fit .sums-fit .ensures) (not-false _ (left3 .if3 .left)) _ (c .triangles-fit .ensures)
 
 pub numbers-fit-spec : {M : Type 1} → statement M
 numbers-fit-spec =
     tie.close
     (tie.spec
-    is-roomy-requires
+    is-long-enough-requires
     returns
     counts-fit-requires
     returns-2

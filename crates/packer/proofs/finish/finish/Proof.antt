@@ -26,7 +26,7 @@ same-length-2 : tie.Need-same-length-2
 same-length-2 c = search needs
 
 returns : tie.Need-returns
-returns c = let a = c .before .before .before .before .before .before .before .before .before .before .before .before .args in finish-refused (a .end) (a .v) (a .k) (a .numbering .now) (a .room .now) _ _ (c .before .before .before .before .before .before .before .before .enum-told .given .1) (c .before .before .before .before .before .before .before .number-of .ensures) _ (c .before .before .before .before .refuse .ensures .0) _ _ (c .before .before .before .before .refuse .ensures .1 .0) (c .before .before .before .before .refuse .ensures .1 .1)
+returns c = let a = c .before .before .before .before .before .before .before .before .before .before .before .before .args in finish-refused (a .end) (a .v) (a .k) (a .numbering .now) (a .buffer .now) _ _ (c .before .before .before .before .before .before .before .before .enum-told .given .1) (c .before .before .before .before .before .before .before .number-of .ensures) _ (c .before .before .before .before .refuse .ensures .0) _ _ (c .before .before .before .before .refuse .ensures .1 .0) (c .before .before .before .before .refuse .ensures .1 .1)
 
 add-n : tie.Need-add-n
 add-n c = let a = c .before .before .before .before .before .args in omega (arith, finish-sized (a .end) _ _ (c .before .end .given .1) (c .before .before .before .before .before .pre .3) .1)
@@ -41,7 +41,7 @@ same-length-4 : tie.Need-same-length-4
 same-length-4 c = search needs
 
 returns-2 : tie.Need-returns-2
-returns-2 c = let a = c .before .before .before .before .before .before .before .before .before .before .before .before .before .args in finish-short (a .end) (a .v) (a .k) (a .numbering .now) (a .room .now) _ _ (c .before .before .before .before .before .before .before .before .before .end .given .1) (c .before .before .before .before .before .before .before .if1 .taken) _ (c .before .before .before .before .refuse2 .ensures .0) _ _ (c .before .before .before .before .refuse2 .ensures .1 .0) (c .before .before .before .before .refuse2 .ensures .1 .1)
+returns-2 c = let a = c .before .before .before .before .before .before .before .before .before .before .before .before .before .args in finish-short (a .end) (a .v) (a .k) (a .numbering .now) (a .buffer .now) _ _ (c .before .before .before .before .before .before .before .before .before .end .given .1) (c .before .before .before .before .before .before .before .if1 .taken) _ (c .before .before .before .before .refuse2 .ensures .0) _ _ (c .before .before .before .before .refuse2 .ensures .1 .0) (c .before .before .before .before .refuse2 .ensures .1 .1)
 
 counts-at-requires : tie.Need-counts-at-requires
 counts-at-requires c κs = (c .before .before .before .before .before .before .pre .0, c .before .before .before .before .before .before .pre .1)
@@ -59,7 +59,7 @@ same-length-5 : tie.Need-same-length-5
 same-length-5 c = search needs
 
 returns-3 : tie.Need-returns-3
-returns-3 c = let a = c .before .before .before .before .before .before .before .before .before .before .before .args in finish-whole (a .end) (a .v) (a .k) (a .numbering .now) (a .room .now) _ _ (c .before .before .before .before .before .before .before .end .given .1) (c .before .before .before .before .before .if1 .left) _ (c .before .before .before .before .counts-at .ensures) _ (written-header (a .room .now) _ _ _ _ (finish-sized (a .end) _ _ (c .before .before .before .before .before .before .before .end .given .1) (c .before .before .before .before .before .before .before .before .before .before .before .pre .3) .0) (c .before .before .before .before .before .if1 .left) (c .before .before .write-header .ensures .1))
+returns-3 c = let a = c .before .before .before .before .before .before .before .before .before .before .before .args in finish-whole (a .end) (a .v) (a .k) (a .numbering .now) (a .buffer .now) _ _ (c .before .before .before .before .before .before .before .end .given .1) (c .before .before .before .before .before .if1 .left) _ (c .before .before .before .before .counts-at .ensures) _ (written-header (a .buffer .now) _ _ _ _ (finish-sized (a .end) _ _ (c .before .before .before .before .before .before .before .end .given .1) (c .before .before .before .before .before .before .before .before .before .before .before .pre .3) .0) (c .before .before .before .before .before .if1 .left) (c .before .before .write-header .ensures .1))
 
 pub finish-spec : {M : Type 1} → statement M
 finish-spec =

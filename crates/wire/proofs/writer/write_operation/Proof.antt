@@ -1,6 +1,6 @@
 -- `wire::writer::write_operation` meets its contract: each answer is a law of Words.
 -- Assumes nothing.
-use Rattle.wire.proofs.Words.{room-refused, room-written}
+use Rattle.wire.proofs.Words.{buffer-refused, buffer-written}
 use borrow.Author.Needs.{needs}
 use native.Mathlib.Omega.{arith}
 use Rattle.wire.proofs.writer.write_operation.Statement.{statement}
@@ -24,7 +24,7 @@ add-if1 c = omega arith
 returns : tie.Need-returns
 returns c =
     let k = c .before in
-    room-refused _ _ _ _ _ (k .before .piece-of .ensures .width) (k .after .ensures) (c .if1 .taken)
+    buffer-refused _ _ _ _ _ (k .before .piece-of .ensures .width) (k .after .ensures) (c .if1 .taken)
 
 slice-read-wide : tie.Need-slice-read-wide
 slice-read-wide c = omega arith
@@ -49,7 +49,7 @@ returns-2 c =
     let e = g .before .before in
     let k = e .before in
     let q = k .before .piece-of .ensures in
-    room-written _ _ _ _ _ (q .width) (k .after .ensures) _ _ _ _ (k .before .before .slice-known .given) (e .if1 .left) (g .wide .ensures .0) (q .value) (w .word-of .ensures) (p .put-word .ensures)
+    buffer-written _ _ _ _ _ (q .width) (k .after .ensures) _ _ _ _ (k .before .before .slice-known .given) (e .if1 .left) (g .wide .ensures .0) (q .value) (w .word-of .ensures) (p .put-word .ensures)
 
 pub write-operation-spec : {M : Type 1} → statement M
 write-operation-spec =

@@ -15,7 +15,7 @@ use Rattle.rules.specs.Buffer.{over}
 use Rattle.codes.specs.Shape.{Bits, Bytes}
 use Rattle.codes.specs.Header.{headerOf}
 use Rattle.codes.proofs.Fields.{pack-header, length-header, length-pack}
-use Rattle.codes.specs.Room.{writtenAt, bytesFor, fourBytes, wordOf}
+use Rattle.codes.specs.Buffer.{writtenAt, bytesFor, fourBytes, wordOf}
 use Rattle.codes.proofs.Lists.{below-append, below-take, below-replicate, below-getD}
 use Rattle.codes.proofs.Numbers.{length-bits, bits-are, value-append, value-from, value-of-bits, value-part, twice}
 use Rattle.codes.proofs.Bytes.{length-bits-of-bytes, bits-of-bytes-append, drop-bytes, bytes-step, bytes-nil, bytes-append, bytes-of-bits, bits-of-bytes, bytes-of-front, length-bytes, fill}
@@ -28,47 +28,47 @@ written-front bs ds h =
     ∙ take-append-seam bs (zs ++ bitsOfBytes ds)
 
 -- longer results cover shorter ones
-pub over-over : (xs ys room : List ℕ) → length xs ≤ length ys → over ys (over xs room) ≡ over ys room
-over-over xs ys room h =
+pub over-over : (xs ys buffer : List ℕ) → length xs ≤ length ys → over ys (over xs buffer) ≡ over ys buffer
+over-over xs ys buffer h =
     let n = length ys - length xs in
     let e : length ys ≡ length xs + n = omega arith in
     ap (λ (us : List ℕ). ys ++ us)
-    (ap (λ (k : ℕ). drop k (xs ++ drop (length xs) room)) e ∙ drop-append-add xs (drop (length xs) room) n ∙ drop-drop n (length xs) room
-    ∙ ap (λ (k : ℕ). drop k room) (sym e))
+    (ap (λ (k : ℕ). drop k (xs ++ drop (length xs) buffer)) e ∙ drop-append-add xs (drop (length xs) buffer) n ∙ drop-drop n (length xs) buffer
+    ∙ ap (λ (k : ℕ). drop k buffer) (sym e))
 
 -- more bits after those that were written
-pub written-more : (bs xs room : List ℕ) → Bits bs → writtenAt (over (bytesOf bs) room) (length bs) xs ≡ over (bytesOf (bs ++ xs)) room
+pub written-more : (bs xs buffer : List ℕ) → Bits bs → writtenAt (over (bytesOf bs) buffer) (length bs) xs ≡ over (bytesOf (bs ++ xs)) buffer
 unfolding writtenAt
-written-more bs xs room h =
-    let e : take (length bs) (bitsOfBytes (over (bytesOf bs) room)) ≡ bs = written-front bs (drop (length (bytesOf bs)) room) h in
+written-more bs xs buffer h =
+    let e : take (length bs) (bitsOfBytes (over (bytesOf bs) buffer)) ≡ bs = written-front bs (drop (length (bytesOf bs)) buffer) h in
     let l : length (bytesOf bs) ≤ length (bytesOf (bs ++ xs)) = omega (arith, length-bytes bs, length-bytes (bs ++ xs), length-append bs xs) in
-    ap (λ (us : List ℕ). over (bytesOf (us ++ xs)) (over (bytesOf bs) room)) e ∙ over-over (bytesOf bs) (bytesOf (bs ++ xs)) room l
+    ap (λ (us : List ℕ). over (bytesOf (us ++ xs)) (over (bytesOf bs) buffer)) e ∙ over-over (bytesOf bs) (bytesOf (bs ++ xs)) buffer l
 
 -- and the first ones
-pub written-first : (xs room : List ℕ) → writtenAt room 0 xs ≡ over (bytesOf xs) room
+pub written-first : (xs buffer : List ℕ) → writtenAt buffer 0 xs ≡ over (bytesOf xs) buffer
 unfolding writtenAt
-written-first xs room = refl
+written-first xs buffer = refl
 
-pub length-over : (xs room : List ℕ) → length xs ≤ length room → length (over xs room) ≡ length room
-length-over xs room h = omega (arith, length-append xs (drop (length xs) room), length-drop (length xs) room)
+pub length-over : (xs buffer : List ℕ) → length xs ≤ length buffer → length (over xs buffer) ≡ length buffer
+length-over xs buffer h = omega (arith, length-append xs (drop (length xs) buffer), length-drop (length xs) buffer)
 
-pub length-written : (room : List ℕ) (at : ℕ) (xs : List ℕ) → bytesFor (at + length xs) ≤ length room → length (writtenAt room at xs) ≡ length room
+pub length-written : (buffer : List ℕ) (at : ℕ) (xs : List ℕ) → bytesFor (at + length xs) ≤ length buffer → length (writtenAt buffer at xs) ≡ length buffer
 unfolding writtenAt
-length-written room at xs h =
-    let l : length (take at (bitsOfBytes room)) ≡ at = length-take-le at (bitsOfBytes room) (omega (arith, length-bits-of-bytes room)) in
-    let ys = take at (bitsOfBytes room) ++ xs in
-    length-over (bytesOf ys) room (omega (arith, length-bytes ys, length-append (take at (bitsOfBytes room)) xs))
+length-written buffer at xs h =
+    let l : length (take at (bitsOfBytes buffer)) ≡ at = length-take-le at (bitsOfBytes buffer) (omega (arith, length-bits-of-bytes buffer)) in
+    let ys = take at (bitsOfBytes buffer) ++ xs in
+    length-over (bytesOf ys) buffer (omega (arith, length-bytes ys, length-append (take at (bitsOfBytes buffer)) xs))
 
 -- a header over the front, with the operations after its 14 bytes, is the pack
-pub pack-over : (s : Counts) (ops room : List ℕ) → 14 ≤ length room → over (headerOf s (length ops)) (take 14 room ++ over ops (drop 14 room)) ≡ over (packBytes s ops) room
-pack-over s ops room h =
+pub pack-over : (s : Counts) (ops buffer : List ℕ) → 14 ≤ length buffer → over (headerOf s (length ops)) (take 14 buffer ++ over ops (drop 14 buffer)) ≡ over (packBytes s ops) buffer
+pack-over s ops buffer h =
     let hs = headerOf s (length ops) in
-    let t : length (take 14 room) ≡ 14 = length-take-le 14 room h in
-    let a : drop (length hs) (take 14 room ++ over ops (drop 14 room)) ≡ over ops (drop 14 room) =
-    ap (λ (k : ℕ). drop k (take 14 room ++ over ops (drop 14 room))) (length-header s (length ops)) ∙ drop-at (take 14 room) (over ops (drop 14 room)) 14 t in
-    let b : drop (length ops) (drop 14 room) ≡ drop (length (packBytes s ops)) room = drop-drop (length ops) 14 room ∙ ap (λ (k : ℕ). drop k room) (sym (length-pack s ops)) in
-    ap (λ (us : List ℕ). hs ++ us) (a ∙ ap (λ (us : List ℕ). ops ++ us) b) ∙ sym (append-assoc hs ops (drop (length (packBytes s ops)) room))
-    ∙ ap (λ (us : List ℕ). us ++ drop (length (packBytes s ops)) room) (sym (pack-header s ops))
+    let t : length (take 14 buffer) ≡ 14 = length-take-le 14 buffer h in
+    let a : drop (length hs) (take 14 buffer ++ over ops (drop 14 buffer)) ≡ over ops (drop 14 buffer) =
+    ap (λ (k : ℕ). drop k (take 14 buffer ++ over ops (drop 14 buffer))) (length-header s (length ops)) ∙ drop-at (take 14 buffer) (over ops (drop 14 buffer)) 14 t in
+    let b : drop (length ops) (drop 14 buffer) ≡ drop (length (packBytes s ops)) buffer = drop-drop (length ops) 14 buffer ∙ ap (λ (k : ℕ). drop k buffer) (sym (length-pack s ops)) in
+    ap (λ (us : List ℕ). hs ++ us) (a ∙ ap (λ (us : List ℕ). ops ++ us) b) ∙ sym (append-assoc hs ops (drop (length (packBytes s ops)) buffer))
+    ∙ ap (λ (us : List ℕ). us ++ drop (length (packBytes s ops)) buffer) (sym (pack-header s ops))
 
 -- ---- by bytes
 
@@ -91,16 +91,16 @@ in-first [] (suc r) h l = absurd (omega arith)
 in-first (c ∷ cs) r h l = take-append-le r (bits 8 c) (bitsOfBytes cs) (omega (arith, length-bits 8 c))
 
 -- the bits before a position: whole bytes, and the front of one
-before-at : (room : List ℕ) (at : ℕ) → at ≤ 8 * length room
-    → take at (bitsOfBytes room) ≡ bitsOfBytes (take (at / 8) room) ++ take (at % 8) (bits 8 (getD room (at / 8) 0))
-before-at room at h =
+before-at : (buffer : List ℕ) (at : ℕ) → at ≤ 8 * length buffer
+    → take at (bitsOfBytes buffer) ≡ bitsOfBytes (take (at / 8) buffer) ++ take (at % 8) (bits 8 (getD buffer (at / 8) 0))
+before-at buffer at h =
     let k = at / 8 in
     let r = at % 8 in
     let e : at ≡ 8 * k + r = omega arith in
-    let g : getD (drop k room) 0 0 ≡ getD room k 0 = getD-drop k room 0 0 ∙ ap (λ (i : ℕ). getD room i 0) (add-zero k) in
-    let d : take r (drop (8 * k) (bitsOfBytes room)) ≡ take r (bits 8 (getD room k 0)) =
-    ap (take r) (drop-bytes k room) ∙ in-first (drop k room) r (omega arith) (omega (arith, length-drop k room)) ∙ ap (λ (b : ℕ). take r (bits 8 b)) g in
-    ap (λ (n : ℕ). take n (bitsOfBytes room)) e ∙ take-add (8 * k) r (bitsOfBytes room) ∙ ap₂ (λ (us vs : List ℕ). us ++ vs) (take-bytes k room) d
+    let g : getD (drop k buffer) 0 0 ≡ getD buffer k 0 = getD-drop k buffer 0 0 ∙ ap (λ (i : ℕ). getD buffer i 0) (add-zero k) in
+    let d : take r (drop (8 * k) (bitsOfBytes buffer)) ≡ take r (bits 8 (getD buffer k 0)) =
+    ap (take r) (drop-bytes k buffer) ∙ in-first (drop k buffer) r (omega arith) (omega (arith, length-drop k buffer)) ∙ ap (λ (b : ℕ). take r (bits 8 b)) g in
+    ap (λ (n : ℕ). take n (bitsOfBytes buffer)) e ∙ take-add (8 * k) r (bitsOfBytes buffer) ∙ ap₂ (λ (us vs : List ℕ). us ++ vs) (take-bytes k buffer) d
 
 value-zeros : (a n : ℕ) → valueOf a (replicate n 0) ≡ a * 2 ^ n
 unfolding valueOf
@@ -151,37 +151,37 @@ front-value b r h k =
 
 -- the word that the bits lie in, from the byte of their position on
 abbrev pub wordAt : List ℕ → ℕ → List ℕ → ℕ
-wordAt room at xs = wordOf (getD room (at / 8) 0) (at % 8) (length xs) (valueOf 0 xs)
+wordAt buffer at xs = wordOf (getD buffer (at / 8) 0) (at % 8) (length xs) (valueOf 0 xs)
 
-module _ (room : List ℕ) (at : ℕ) (xs : List ℕ) (hr : Bytes room) (hx : Bits xs) (small : at % 8 + length xs ≤ 32) (within : at ≤ 8 * length room) where
-  bytes-by-word : bytesOf (take at (bitsOfBytes room) ++ xs) ≡ take (at / 8) room ++ take (bytesFor (at % 8 + length xs)) (fourBytes (wordAt room at xs))
+module _ (buffer : List ℕ) (at : ℕ) (xs : List ℕ) (hr : Bytes buffer) (hx : Bits xs) (small : at % 8 + length xs ≤ 32) (within : at ≤ 8 * length buffer) where
+  bytes-by-word : bytesOf (take at (bitsOfBytes buffer) ++ xs) ≡ take (at / 8) buffer ++ take (bytesFor (at % 8 + length xs)) (fourBytes (wordAt buffer at xs))
   bytes-by-word =
       let k = at / 8 in
       let r = at % 8 in
-      let b = getD room k 0 in
-      let hb : b < 256 = below-getD 256 room k (omega arith) hr in
+      let b = getD buffer k 0 in
+      let hb : b < 256 = below-getD 256 buffer k (omega arith) hr in
       let us = take r (bits 8 b) in
       let ys = us ++ xs in
       let hy : Bits ys = below-append 2 us xs (below-take 2 r (bits 8 b) (bits-are 8 b)) hx in
       let lu : length us ≡ r = length-take-le r (bits 8 b) (omega (arith, length-bits 8 b)) in
       let ly : length ys ≡ r + length xs = omega (arith, length-append us xs) in
-      let lt : length (take k room) ≡ k = length-take-le k room (omega arith) in
-      let lf : length (bitsOfBytes (take k room)) ≡ 8 * k = omega (arith, length-bits-of-bytes (take k room)) in
+      let lt : length (take k buffer) ≡ k = length-take-le k buffer (omega arith) in
+      let lf : length (bitsOfBytes (take k buffer)) ≡ 8 * k = omega (arith, length-bits-of-bytes (take k buffer)) in
       let v : valueOf 0 ys ≡ b / 2 ^ (8 - r) * 2 ^ length xs + valueOf 0 xs =
       value-append 0 us xs ∙ value-from (valueOf 0 us) xs ∙ ap (λ (x : ℕ). x * 2 ^ length xs + valueOf 0 xs) (front-value b r hb (omega arith)) in
       let s : 32 - length ys ≡ 32 - r - length xs = omega arith in
       let w : valueOf 0 ys * 2 ^ (32 - length ys) ≡ wordOf b r (length xs) (valueOf 0 xs) = ap₂ (λ (x y : ℕ). x * 2 ^ y) v s in
-      ap (λ (zs : List ℕ). bytesOf (zs ++ xs)) (before-at room at within) ∙ ap bytesOf (append-assoc (bitsOfBytes (take k room)) us xs)
-      ∙ bytes-append k (bitsOfBytes (take k room)) ys lf
-      ∙ ap₂ (λ (cs ds : List ℕ). cs ++ ds) (bytes-of-bits (take k room) (below-take 256 k room hr))
+      ap (λ (zs : List ℕ). bytesOf (zs ++ xs)) (before-at buffer at within) ∙ ap bytesOf (append-assoc (bitsOfBytes (take k buffer)) us xs)
+      ∙ bytes-append k (bitsOfBytes (take k buffer)) ys lf
+      ∙ ap₂ (λ (cs ds : List ℕ). cs ++ ds) (bytes-of-bits (take k buffer) (below-take 256 k buffer hr))
       (bytes-of-four ys hy (omega arith) ∙ ap₂ (λ (m x : ℕ). take (bytesFor m) (fourBytes x)) ly w)
 
   -- the bits are written by writing the bytes in which they lie
-  pub written-word : bytesFor (at + length xs) ≤ length room → writtenAt room at xs ≡ paste room (at / 8) (fourBytes (wordAt room at xs)) (bytesFor (at % 8 + length xs))
+  pub written-word : bytesFor (at + length xs) ≤ length buffer → writtenAt buffer at xs ≡ paste buffer (at / 8) (fourBytes (wordAt buffer at xs)) (bytesFor (at % 8 + length xs))
   unfolding writtenAt
   written-word fits =
       let k = at / 8 in
       let m = bytesFor (at % 8 + length xs) in
-      let ds = take k room ++ take m (fourBytes (wordAt room at xs)) in
-      let l : length ds ≡ k + m = length-paste-head room k (fourBytes (wordAt room at xs)) m (omega arith) (omega arith) in
-      ap (λ (cs : List ℕ). over cs room) bytes-by-word ∙ ap (λ (n : ℕ). ds ++ drop n room) l
+      let ds = take k buffer ++ take m (fourBytes (wordAt buffer at xs)) in
+      let l : length ds ≡ k + m = length-paste-head buffer k (fourBytes (wordAt buffer at xs)) m (omega arith) (omega arith) in
+      ap (λ (cs : List ℕ). over cs buffer) bytes-by-word ∙ ap (λ (n : ℕ). ds ++ drop n buffer) l

@@ -1,11 +1,11 @@
--- `opener::counts::is_roomy` meets its contract: the two tests in their order.
+-- `opener::counts::is_long_enough` meets its contract: the two tests in their order.
 -- Assumes nothing.
 use borrow.Author.Needs.{needs}
 use mathlib.Core.Path.{sym}
 use borrow.Author.Tests.{lt-leb, le-leb}
 use Rattle.opening.proofs.Tests.{no-and, yes-and}
-use Rattle.opener.proofs.counts.is_roomy.Statement.{statement}
-use Rattle.opener.proofs.counts.is_roomy.Tie as tie
+use Rattle.opener.proofs.counts.is_long_enough.Statement.{statement}
+use Rattle.opener.proofs.counts.is_long_enough.Tie as tie
 
 cast-if1 : tie.Need-cast-if1
 cast-if1 c = search needs
@@ -19,5 +19,5 @@ returns c = sym (no-and _ _ (lt-leb _ _ (c .if1 .taken)))
 returns-2 : tie.Need-returns-2
 returns-2 c = sym (yes-and _ _ (le-leb _ _ (c .if1 .left)))
 
-pub is-roomy-spec : {M : Type 1} → statement M
-is-roomy-spec = tie.close (tie.spec cast-if1 mul-if1 returns returns-2)
+pub is-long-enough-spec : {M : Type 1} → statement M
+is-long-enough-spec = tie.close (tie.spec cast-if1 mul-if1 returns returns-2)

@@ -8,7 +8,7 @@ use Rattle.rules.specs.Buffer.{over}
 
 -- the bits xs from the bit position at on: the bits before them stay, the rest of their last byte is zero, and nothing beyond it changes
 unfoldable pub writtenAt : List ℕ → ℕ → List ℕ → List ℕ
-writtenAt room at xs = over (bytesOf (take at (bitsOfBytes room) ++ xs)) room
+writtenAt buffer at xs = over (bytesOf (take at (bitsOfBytes buffer) ++ xs)) buffer
 
 -- how many bytes so many bits need
 abbrev pub bytesFor : ℕ → ℕ
