@@ -19,6 +19,7 @@ use Rattle.memory.specs.Stands.{StandsAt}
 use Rattle.memory.specs.Moves.{topFree}
 use Rattle.memory.specs.Touched.{takenBy, touchedBy, NoneOf}
 use Rattle.memory.proofs.Standing.{Trail, Trails, trails}
+use Rattle.memory.proofs.Waiting.{waits-at}
 
 -- of two numbers whose sum is 1 or more, one is
 pub either : {P : Type 0} (s t : ℕ) → 1 ≤ s + t → (1 ≤ s → P) → (1 ≤ t → P) → P
@@ -134,6 +135,25 @@ module _ (n : ℕ) (s : Loops) (m : List ℕ) (rs : List Ring) (st : StandsAt n 
       (apart-from i (afterOf m (s .current)) out fore, (apart-from i c out p, (apart-from i (beforeOf m c) out (before-in c p), d))),
     )
     untouched-edge Start c p d = d
+
+-- the place where a waiting loop's current edge starts is in a loop
+start-placed : (ws : List Ring) (i : ℕ) → 1 ≤ length (loopAt ws i) → 1 ≤ placed (startOr 0 (loopAt ws i)) ws
+unfolding loopAt loopsSum ringSum pathSum
+start-placed [] i h = absurd (omega (arith, h))
+start-placed ([] ∷ ws) zero h = absurd (omega (arith, h))
+start-placed ((p ∷ ps) ∷ ws) zero h = omega (arith, same-yes (vertex p))
+start-placed (w ∷ ws) (suc i) h = omega (arith, start-placed ws i h)
+
+pub waiting-in : (n : ℕ) (s : Loops) (m : List ℕ) (rs : List Ring) → StandsAt n s m rs → (p j : ℕ) → 1 ≤ p → p ≤ s .live - 1
+    → j < at m (5 * n + 2 * (s .live - 1 - p) + 1) → 1 ≤ placed (at m (5 * n + 2 * (s .live - 1 - p))) rs
+unfolding loopsSum
+waiting-in n s m [] st p j a b c = absurd (omega (arith, a, b, st .heads))
+waiting-in n s m (r ∷ ws) st p j a b c =
+    let low : ℕ = s .live - 1 - p in
+    let e : low + (p - 1) + 1 ≡ length ws = omega (arith, a, b, st .heads .live) in
+    let x = waits-at n m ws (p - 1) low e (st .heads .waiting) in
+    let y = start-placed ws (p - 1) (omega (arith, c, x .1)) in
+    subst (λ (z : ℕ). 1 ≤ placed z (r ∷ ws)) (sym (x .0)) (omega (arith, y))
 
 -- the current place is in a loop
 pub current-in : (n : ℕ) (s : Loops) (m : List ℕ) (rs : List Ring) → StandsAt n s m rs → (s .live ≡ 0 → ⊥) → 1 ≤ placed (s .current) rs

@@ -9,6 +9,8 @@ use lib.Dec.{eqb, leb, ltb}
 use borrow.Author.Tests.{leb-true, ltb-true, eqb-true, eqb-false}
 use Rattle.rules.specs.declared.Operation.{Operation}
 use Rattle.rules.specs.declared.Operation.the-variants.{New, Forward, Backward, Border, Split, Close, Union, Start}
+use Rattle.rules.specs.Ring.{Ring}
+use Rattle.links.specs.Memory.{placed}
 use Rattle.memory.specs.declared.Loops.{Loops}
 use Rattle.memory.specs.declared.Front.{Front}
 use Rattle.memory.specs.declared.Plan.{Plan}
@@ -21,6 +23,7 @@ use Rattle.memory.specs.Near.{Near, Borders, Doubles}
 use Rattle.memory.specs.Keeps.{Ready}
 use Rattle.memory.specs.Performs.{Performs, Counts16}
 use Rattle.memory.proofs.Near.{starts}
+use Rattle.memory.proofs.Around.{PlaceIn, after-in, walked-in, waiting-in, current-in}
 use Rattle.memory.proofs.Ready.{ready-near, ready-free}
 use Rattle.memory.proofs.Performing.{chosen, never, never-marks, same-plan, HasRoom, has-room, passed, doubles-split, doubles-union}
 
@@ -33,6 +36,7 @@ record Small (p : Plan) : Type 0 where
 
 record Able (n : ℕ) (s : Front) (m : List ℕ) (o : Operation) (p : Plan) : Type 0 where
   performs : Performs n (s .loops) m (s .used) o (p .place)
+  place : PlaceIn o (p .place) (ringsIn n (s .loops) m)
   small : Small p
 
 small-at : (l : Loops) (m : List ℕ) (c qr rp v k x : ℕ) (p : Plan) → planAt l m c qr rp v k x ≡ p → qr ≤ 1 → rp ≤ 1 → v ≤ 3 → k ≤ 1 → Small p
@@ -48,24 +52,33 @@ module _ (n : ℕ) (s : Front) (m : List ℕ) (r : Ready n s m) (p : Plan) (room
   some-free : (c v k x : ℕ) → planAt (s .loops) m c 1 1 v k x ≡ p → 1 ≤ s .loops .free
   some-free c v k x e = omega (arith, ap (λ (q : Plan). newEdges q) e, room .places, r .roomy .enough, ready-free n s m r .0)
 
+  -- the place after the current one is in a loop
+  after-here : (s .loops .live ≡ 0 → ⊥) → 1 ≤ placed (afterOf m (s .loops .current)) (ringsIn n (s .loops) m)
+  after-here h =
+      let rs : List Ring = ringsIn n (s .loops) m in
+      after-in n (s .loops) m rs (r .stands) (s .loops .current) (current-in n (s .loops) m rs (r .stands) h)
+
   able-edge : (o : Operation) → (s .loops .live ≡ 0 → ⊥) → edgeProposed n (s .loops) m (s .used) o ≡ Builds p → Able n s m o p
   unfolding newPlan forwardPlan backwardPlan borderPlan splitPlan closePlan unionPlan
   able-edge New h e =
       let z = same-plan p _ e in
       record {
         performs = (ready-near n s m r h, some-free _ _ _ _ z);
+        place = tt;
         small = small-at (s .loops) m _ 1 1 1 0 0 p z (omega arith) (omega arith) (omega arith) (omega arith);
       }
   able-edge Forward h e =
       let z = same-plan p _ (passed _ _ p (passed _ _ p (passed _ _ p e .is) .is) .is) in
       record {
         performs = ready-near n s m r h;
+        place = tt;
         small = small-at (s .loops) m _ 1 0 0 0 0 p z (omega arith) (omega arith) (omega arith) (omega arith);
       }
   able-edge Backward h e =
       let z = same-plan p _ (passed _ _ p (passed _ _ p (passed _ _ p e .is) .is) .is) in
       record {
         performs = ready-near n s m r h;
+        place = tt;
         small = small-at (s .loops) m _ 0 1 0 0 0 p z (omega arith) (omega arith) (omega arith) (omega arith);
       }
   able-edge Border h e = absurd (never-marks _ _ p e)
@@ -91,12 +104,15 @@ module _ (n : ℕ) (s : Front) (m : List ℕ) (r : Ready n s m) (p : Plan) (room
           (ready-near n s m r h, subst (Doubles n (s .loops) m) (ap (λ (q : Plan). q .place) z) d),
           (high, omega (arith, live, r .loops), omega (arith, live, r .roomy .long)),
         );
+        place = subst (λ (c : ℕ). 1 ≤ placed c (ringsIn n (s .loops) m)) (ap (λ (q : Plan). q .place) z)
+            (walked-in n (s .loops) m (ringsIn n (s .loops) m) (r .stands) i (afterOf m (s .loops .current)) (after-here h));
         small = small-at (s .loops) m _ 1 1 0 0 _ p z (omega arith) (omega arith) (omega arith) (omega arith);
       }
   able-edge Close h e =
       let z = same-plan p _ (passed _ _ p (passed _ _ p (passed _ _ p e .is) .is) .is) in
       record {
         performs = ready-near n s m r h;
+        place = tt;
         small = small-at (s .loops) m _ 0 0 0 0 0 p z (omega arith) (omega arith) (omega arith) (omega arith);
       }
   able-edge (Union k j) h e =
@@ -114,6 +130,9 @@ module _ (n : ℕ) (s : Front) (m : List ℕ) (r : Ready n s m) (p : Plan) (room
           (ready-near n s m r h, subst (Doubles n (s .loops) m) (ap (λ (q : Plan). q .place) z) d),
           (low, omega (arith, low, high)),
         );
+        place = subst (λ (c : ℕ). 1 ≤ placed c (ringsIn n (s .loops) m)) (ap (λ (q : Plan). q .place) z)
+            (walked-in n (s .loops) m (ringsIn n (s .loops) m) (r .stands) j (at m (5 * n + 2 * (s .loops .live - 1 - k)))
+            (waiting-in n (s .loops) m (ringsIn n (s .loops) m) (r .stands) k j low high inside));
         small = small-at (s .loops) m _ 1 1 0 1 _ p z (omega arith) (omega arith) (omega arith) (omega arith);
       }
   able-edge Start h e = absurd (never 16 p e)
@@ -136,6 +155,7 @@ module _ (n : ℕ) (s : Front) (m : List ℕ) (r : Ready n s m) (p : Plan) (room
               (omega (arith, edges, room .places, r .roomy .enough, ready-free n s m r .0)),
           r .used,
         );
+        place = tt;
         small = record {
           edges = omega (arith, edges);
           vertices = omega (arith, ap (λ (q : Plan). q .vertices) z);
@@ -153,6 +173,10 @@ unfolding decided proposed
 able n s m o p r e =
     let c = chosen n s (proposed n s m o) p e in
     able-by n s m r p (has-room n s p (c .room)) o (eqb (s .loops .live) 0) refl (c .is)
+
+pub place-in : (n : ℕ) (s : Front) (m : List ℕ) (o : Operation) (p : Plan) → Ready n s m → decided n s m o ≡ Builds p
+    → PlaceIn o (p .place) (ringsIn n (s .loops) m)
+place-in n s m o p r e = able n s m o p r e .place
 
 pub performs : (n : ℕ) (s : Front) (m : List ℕ) (o : Operation) (p : Plan) → Ready n s m → decided n s m o ≡ Builds p → Performs n (s .loops) m (s .used) o (p .place)
 performs n s m o p r e = able n s m o p r e .performs
