@@ -24,7 +24,7 @@ use Rattle.rules.specs.Answer.{Answer, accepted, checkedAnswer, begunAnswer}
 use Rattle.rules.specs.Book.{operate, finish, Book, recounted, emptyBook, entered, answerOf, after, isAccepted}
 use Rattle.rules.specs.Buffer.{freePlace, cleared, Buffers, Lengths, lengths}
 use Rattle.rules.specs.View.{view, trianglesBuilt, placesOf, loopsOf}
-use Rattle.rules.specs.Test21.{sizesOf, countsFit, sumsFit, apart, placesFit, loopsFit, linksFit, trianglesFit, sound}
+use Rattle.rules.specs.Test21.{sizesOf, countsFit, sumsFit, apart, placesFit, loopsFit, linksFit, trianglesFit, sound, soundElse}
 use Rattle.rules.specs.Build.{viewed, operates, begunBuilder, begunBuffers, BegunBy, withTriangle, OperatedBy}
 use Rattle.book.specs.Consistent.{Ranges}
 use Rattle.book.specs.Reached.{reached}
@@ -196,30 +196,41 @@ writes b r k (built t m) h e g l =
 writes b r k (declared d m) h e g l = tt
 writes b r k (finished x) h e g l = tt
 
+-- what 21 asks but for the sums, and these
+sound-else : (b : Builder) (r : Buffers) → soundElse b r ≡ true → sumsFit b ≡ true → sound b r ≡ true
+unfolding soundElse
+sound-else b r h s =
+    let x₂ = longFits b r && countsFit b in
+    let x₃ = x₂ && linksFit b (r .places) in
+    let h₃ = and-left x₃ (trianglesFit b (r .triangles)) h in
+    let h₂ = and-left x₂ (linksFit b (r .places)) h₃ in
+    sound-all b r (and-left (longFits b r) (countsFit b) h₂) (and-right (longFits b r) (countsFit b) h₂) s
+    (and-right x₂ (linksFit b (r .places)) h₃) (and-right x₃ (trianglesFit b (r .triangles)) h)
+
 -- what an operation leaves
-module _ (b : Builder) (r : Buffers) (b′ : Builder) (r′ : Buffers) where
-  pub operated-same : (x : Step) → OperatedBy b r x b′ r′ → isAccepted x ≡ false → (b′ ≡ b) × (r′ ≡ r)
+module _ (b : Builder) (r : Buffers) (o : Operation) (b′ : Builder) (r′ : Buffers) where
+  pub operated-same : (x : Step) → OperatedBy b r o x b′ r′ → isAccepted x ≡ false → (b′ ≡ b) × (r′ ≡ r)
   operated-same (refused n) a h = a
   operated-same (begun m) a h = absurd a
   operated-same (built t m) a h = absurd (true≢false h)
   operated-same (declared d m) a h = absurd (true≢false h)
   operated-same (finished y) a h = absurd a
 
-  pub operated-view : (M : Machine) (x : Step) → OperatedBy b r x b′ r′ → isAccepted x ≡ true → viewed b′ r′ ≡ reached M x
+  pub operated-view : (M : Machine) (x : Step) → OperatedBy b r o x b′ r′ → isAccepted x ≡ true → viewed b′ r′ ≡ reached M x
   operated-view M (refused n) a h = absurd (false≢true h)
   operated-view M (begun m) a h = absurd a
   operated-view M (built t m) a h = a .machine
   operated-view M (declared d m) a h = a .machine
   operated-view M (finished y) a h = absurd a
 
-  operated-passes : (x : Step) → OperatedBy b r x b′ r′ → isAccepted x ≡ true → sumsFit b′ ≡ true → sound b′ r′ ≡ true
+  operated-passes : (x : Step) → OperatedBy b r o x b′ r′ → isAccepted x ≡ true → sumsFit b′ ≡ true → sound b′ r′ ≡ true
   operated-passes (refused n) a h = absurd (false≢true h)
   operated-passes (begun m) a h = absurd a
-  operated-passes (built t m) a h = a .passes
-  operated-passes (declared d m) a h = a .passes
+  operated-passes (built t m) a h = sound-else b′ r′ (a .passes)
+  operated-passes (declared d m) a h = sound-else b′ r′ (a .passes)
   operated-passes (finished y) a h = absurd a
 
-  operated-long : (x : Step) → OperatedBy b r x b′ r′ → isAccepted x ≡ true → Writes b r x → lengths r′ ≡ lengths r
+  operated-long : (x : Step) → OperatedBy b r o x b′ r′ → isAccepted x ≡ true → Writes b r x → lengths r′ ≡ lengths r
   operated-long (refused n) a h k = absurd (false≢true h)
   operated-long (begun m) a h k = absurd a
   operated-long (built t m) a h k = λ i. record {
@@ -282,17 +293,17 @@ module _ (R : Lengths) where
     goes-on =
         ap (λ (t : Bool). elim t [ true ↦ operation (viewOf w) o | false ↦ refused 21 ]) (g .passes) ∙ ap (λ (m : Machine). operation m o) (g .same)
 
-    operated : OperatedBy (w .state) (buffersOf w) (operation (b .machine) o) (v .state) (buffersOf v)
+    operated : OperatedBy (w .state) (buffersOf w) o (operation (b .machine) o) (v .state) (buffersOf v)
     operated =
-        subst (λ (x : Step). OperatedBy (w .state) (buffersOf w) x (v .state) (buffersOf v)) goes-on
-        (subst (λ (b₁ : Builder). OperatedBy (w .state) (buffersOf w) (operates (w .state) (buffersOf w) o) b₁ (buffersOf v)) (sym (c .state)) (c .promised .after))
+        subst (λ (x : Step). OperatedBy (w .state) (buffersOf w) o x (v .state) (buffersOf v)) goes-on
+        (subst (λ (b₁ : Builder). OperatedBy (w .state) (buffersOf w) o (operates (w .state) (buffersOf w) o) b₁ (buffersOf v)) (sym (c .state)) (c .promised .after))
 
     pub operate-answer : a ≡ answerOf (operation (b .machine) o)
     operate-answer = c .answer ∙ c .promised .answer ∙ ap answerOf goes-on
 
     operate-refused : isAccepted (operation (b .machine) o) ≡ false → v ≡ w
     operate-refused h =
-        let x = operated-same (w .state) (buffersOf w) (v .state) (buffersOf v) (operation (b .machine) o) operated h in
+        let x = operated-same (w .state) (buffersOf w) o (v .state) (buffersOf v) (operation (b .machine) o) operated h in
         same-world (v .state) (w .state) (buffersOf v) (buffersOf w) (x .0) (x .1)
 
     operate-accepted : isAccepted (operation (b .machine) o) ≡ true → Agrees R v (entered b (operation (b .machine) o))
@@ -300,13 +311,13 @@ module _ (R : Lengths) where
         let x = operation (b .machine) o in
         let n : Holds (entered b x) = holds-kept R b k (operate o) in
         let e : viewOf v ≡ entered b x .machine =
-        operated-view (w .state) (buffersOf w) (v .state) (buffersOf v) (b .machine) x operated h ∙ sym (machine-entered b x) in
+        operated-view (w .state) (buffersOf w) o (v .state) (buffersOf v) (b .machine) x operated h ∙ sym (machine-entered b x) in
         let f = subst Ranges (sym e) (bounded-ranges (entered b x) (n .bounded)) in
         let m =
         writes (w .state) (buffersOf w) b x (g .passes) (g .same) (grows (b .machine) (effect o (b .machine .used) (b .machine .loops))) n in
         record {
-          passes = operated-passes (w .state) (buffersOf w) (v .state) (buffersOf v) x operated h (ranges-sums (v .state) (buffersOf v) f);
-          long = operated-long (w .state) (buffersOf w) (v .state) (buffersOf v) x operated h m ∙ g .long;
+          passes = operated-passes (w .state) (buffersOf w) o (v .state) (buffersOf v) x operated h (ranges-sums (v .state) (buffersOf v) f);
+          long = operated-long (w .state) (buffersOf w) o (v .state) (buffersOf v) x operated h m ∙ g .long;
           same = e;
         }
 

@@ -27,7 +27,7 @@ pub record Beginning (s : Counts) (ts : List ℕ) (ps : List Place) (r : Begun) 
 -- an operation on the state b: the same
 pub record Operating (b : Builder) (o : Operation) (ts : List ℕ) (ps : List Place) (r : Performed) (ts′ : List ℕ) (ps′ : List Place) : Type 0 where
   pub answer : operatedAnswer (r .answer) ≡ answerOf (operates b (lentTo ts ps) o)
-  pub after : OperatedBy b (lentTo ts ps) (operates b (lentTo ts ps) o) (r .state) (lentTo ts′ ps′)
+  pub after : OperatedBy b (lentTo ts ps) o (operates b (lentTo ts ps) o) (r .state) (lentTo ts′ ps′)
 
 -- a finish: its answer; it changes nothing, for both buffers are only read
 pub record Finishing (b : Builder) (ts : List ℕ) (ps : List Place) (r : Finished) : Type 0 where

@@ -1,6 +1,6 @@
 -- The building calls on any state and any lent buffers: 21 before 15 to 20, and what each call leaves behind.
 -- Assumes nothing.
-use Prim.Native.Nat.{ℕ, _+_, _*_}
+use Prim.Native.Nat.{ℕ, _+_, _-_, _*_, _≤_, _<_}
 use mathlib.Core.Bool.{true, false}
 use mathlib.Core.List.{List, [], _∷_, _++_}
 use mathlib.Core.Path.{_≡_}
@@ -15,9 +15,11 @@ use Rattle.rules.specs.declared.Checked.{Checked}
 use Rattle.rules.specs.declared.Checked.the-variants.{Accepted, Refused}
 use Rattle.rules.specs.Limits.{maxPlaces, maxLoops}
 use Rattle.rules.specs.Machine.{Machine, Step, refused, begun, built, declared, finished, beginning, operation, finishing}
-use Rattle.rules.specs.Buffer.{cleared, Buffers, lengths}
-use Rattle.rules.specs.View.{view}
-use Rattle.rules.specs.Test21.{sumsFit, sound}
+use Rattle.rules.specs.Buffer.{freePlace, cleared, Buffers, lengths}
+use Rattle.rules.specs.Count.{occurs}
+use Rattle.rules.specs.Places.{ringsAfter}
+use Rattle.rules.specs.View.{placeAt, placeRings, placesOf, view}
+use Rattle.rules.specs.Test21.{sound, soundElse}
 
 -- the machine that a state and its buffers are read as
 abbrev pub viewed : Builder → Buffers → Machine
@@ -69,20 +71,39 @@ Begins r s x r′ = BegunBy r s (x .answer) (x .state) r′
 abbrev pub withTriangle : ℕ → Triangle → List ℕ → List ℕ
 withTriangle n t xs = take (3 * n) xs ++ ((t .p ∷ (t .q ∷ (t .r ∷ []))) ++ drop (3 * n + 3) xs)
 
--- What an accepted operation leaves: the triangle buffer xs; a state that is read as the machine m and that passes 21, unless its
--- edges, starts, unions or rims now exceed 3T, as no list of calls leads to; no record beyond the first 1,024 changed. Free is which
--- of these the places use, what the records hold that no loop uses, and what the state's arrays hold past the live loops.
-pub record Leaves (r : Buffers) (xs : List ℕ) (m : Machine) (b′ : Builder) (r′ : Buffers) : Type 0 where
+-- record i is a place of a live loop, or of none
+abbrev pub InLoop : Builder → Buffers → ℕ → Type 0
+InLoop b r i = 1 ≤ occurs i (placesOf b (r .places) (b .live))
+
+abbrev pub NoPlace : Builder → Buffers → ℕ → Type 0
+NoPlace b r i = occurs i (placesOf b (r .places) (b .live)) ≡ 0
+
+-- What an accepted operation o on the state b and the buffers r leaves: the triangle buffer xs, and a state b′ that is read as the
+-- machine m. Free is which records its new places take (`taken`), and nothing else.
+pub record Leaves (b : Builder) (r : Buffers) (o : Operation) (xs : List ℕ) (m : Machine) (b′ : Builder) (r′ : Buffers) : Type 0 where
   pub triangles : r′ .triangles ≡ xs
-  pub passes : sumsFit b′ ≡ true → sound b′ r′ ≡ true
   pub machine : viewed b′ r′ ≡ m
+  -- all that 21 asks but for edges, starts, unions and rims, which 16 to 18 do not test
+  pub passes : soundElse b′ r′ ≡ true
+  -- the records of the new places, in the order in which the operation numbers them: none of them was a place
+  pub taken : List ℕ
+  pub unused : (i : ℕ) → 1 ≤ occurs i taken → (i < maxPlaces) × NoPlace b r i
+  -- a place that stays keeps its record and its vertex
+  pub rings : placeRings b′ (r′ .places) (b′ .live) ≡ ringsAfter o taken (placeRings b (r .places) (b .live))
+  pub stays : (i : ℕ) → InLoop b r i → InLoop b′ r′ i → placeAt (r′ .places) i .vertex ≡ placeAt (r .places) i .vertex
+  -- the record of a place that leaves is zero, its edge not open
+  pub left : (i : ℕ) → InLoop b r i → NoPlace b′ r′ i → placeAt (r′ .places) i ≡ freePlace
+  -- a record that is no place before and after is as it was, those beyond the first 1,024 too
+  pub idle : (i : ℕ) → NoPlace b r i → NoPlace b′ r′ i → placeAt (r′ .places) i ≡ placeAt (r .places) i
   pub long : length {A = Place} (r′ .places) ≡ length {A = Place} (r .places)
-  pub beyond : drop {A = Place} maxPlaces (r′ .places) ≡ drop maxPlaces (r .places)
+  -- past the live loops the state's arrays are zero
+  pub current-past : drop (b′ .live) (b′ .current) ≡ replicate (maxLoops - b′ .live) 0
+  pub sizes-past : drop (b′ .live) (b′ .sizes) ≡ replicate (maxLoops - b′ .live) 0
 
 -- a refused operation changes nothing; it is never a beginning or a finish
-abbrev pub OperatedBy : Builder → Buffers → Step → Builder → Buffers → Type 0
-OperatedBy b r (refused n) b′ r′ = (b′ ≡ b) × (r′ ≡ r)
-OperatedBy b r (begun m) b′ r′ = ⊥
-OperatedBy b r (built t m) b′ r′ = Leaves r (withTriangle (b .built) t (r .triangles)) m b′ r′
-OperatedBy b r (declared d m) b′ r′ = Leaves r (r .triangles) m b′ r′
-OperatedBy b r (finished x) b′ r′ = ⊥
+abbrev pub OperatedBy : Builder → Buffers → Operation → Step → Builder → Buffers → Type 0
+OperatedBy b r o (refused n) b′ r′ = (b′ ≡ b) × (r′ ≡ r)
+OperatedBy b r o (begun m) b′ r′ = ⊥
+OperatedBy b r o (built t m) b′ r′ = Leaves b r o (withTriangle (b .built) t (r .triangles)) m b′ r′
+OperatedBy b r o (declared d m) b′ r′ = Leaves b r o (r .triangles) m b′ r′
+OperatedBy b r o (finished x) b′ r′ = ⊥

@@ -69,6 +69,10 @@ linksFit b ps =
 abbrev pub trianglesFit : Builder → List ℕ → Bool
 trianglesFit b xs = allBelow (b .used) (take (3 * b .built) xs)
 
+-- what is asked but for edges, starts, unions and rims
+unfoldable pub soundElse : Builder → Buffers → Bool
+soundElse b r = longEnough (lengths r) (b .stated) && countsFit b && linksFit b (r .places) && trianglesFit b (r .triangles)
+
 -- a state that passes
 unfoldable pub sound : Builder → Buffers → Bool
 sound b r = longEnough (lengths r) (b .stated) && countsFit b && sumsFit b && linksFit b (r .places) && trianglesFit b (r .triangles)
