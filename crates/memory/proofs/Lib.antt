@@ -24,3 +24,5 @@ pub mod Next
 pub mod Touched
 pub mod Vertices
 pub mod Around
+pub mod Balance
+pub mod Tidy

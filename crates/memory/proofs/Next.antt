@@ -70,17 +70,17 @@ module _ (n : ℕ) (s : Front) (m : List ℕ) (M : Machine) (o : Operation) (k :
       subst (Keeps n (markedFront n s (markedHeld n (s .loops) m .loops)) (markedHeld n (s .loops) m .memory)) (ap (reached M) (sym (b .step))) (b .keeps)
 
 -- an edge is marked only where a loop is live
-no-mark : (k x y : ℕ) → Refused k ≡ Marks x y → ⊥
+pub no-mark : (k x y : ℕ) → Refused k ≡ Marks x y → ⊥
 no-mark k x y e = let z : _≡_ {A = ℕ} 0 1 = cc in omega arith
 
-no-mark-built : (p : Plan) (x y : ℕ) → Builds p ≡ Marks x y → ⊥
+pub no-mark-built : (p : Plan) (x y : ℕ) → Builds p ≡ Marks x y → ⊥
 no-mark-built p x y e = let z : _≡_ {A = ℕ} 0 1 = cc in omega arith
 
-no-mark-room : (t : Bool) (p : Plan) (x y : ℕ) → roomBy t p ≡ Marks x y → ⊥
+pub no-mark-room : (t : Bool) (p : Plan) (x y : ℕ) → roomBy t p ≡ Marks x y → ⊥
 no-mark-room true p x y e = no-mark-built p x y e
 no-mark-room false p x y e = no-mark 17 x y e
 
-no-mark-rest : (n : ℕ) (s : Front) (u : ℕ) (o : Operation) (x y : ℕ) → decidedBy n s (restProposed u o) ≡ Marks x y → ⊥
+pub no-mark-rest : (n : ℕ) (s : Front) (u : ℕ) (o : Operation) (x y : ℕ) → decidedBy n s (restProposed u o) ≡ Marks x y → ⊥
 unfolding startPlan
 no-mark-rest n s u New x y e = no-mark 16 x y e
 no-mark-rest n s u Forward x y e = no-mark 16 x y e

@@ -1,14 +1,16 @@
 -- The records that an operation touches: those that it writes, and the free ones that its new places take. What leaves is put on the
 -- stack of free places, after those that were there.
 -- Assumes nothing.
-use Prim.Native.Nat.{ℕ, _+_, _-_, _*_, _≤_, _<_}
+use Prim.Native.Nat.{ℕ, zero, suc, _+_, _-_, _*_, _≤_, _<_}
 use mathlib.Core.List.{List, [], _∷_}
 use mathlib.Core.Path.{_≡_}
 use Rattle.rules.specs.declared.Operation.{Operation}
 use Rattle.rules.specs.declared.Operation.the-variants.{New, Forward, Backward, Border, Split, Close, Union, Start}
 use Rattle.memory.specs.declared.Loops.{Loops}
 use Rattle.memory.specs.Layout.{at, beforeOf, afterOf}
+use Rattle.rules.specs.Count.{occurs}
 use Rattle.rules.specs.Places.{ringsAfter}
+use Rattle.links.specs.Memory.{placed}
 use Rattle.memory.specs.Stands.{ringsIn}
 use Rattle.memory.specs.Moves.{Held, topFree}
 
@@ -52,3 +54,24 @@ pub record VerticesAt (n : ℕ) (xs m m′ : List ℕ) : Type 0 where
 pub record Rearranged (n : ℕ) (s : Loops) (m : List ℕ) (o : Operation) (h : Held) : Type 0 where
   pub rings : ringsIn n (h .loops) (h .memory) ≡ ringsAfter o (takenBy n s m o) (ringsIn n s m)
   pub stack : (j : ℕ) → j < s .free → j < h .loops .free → at (h .memory) (4 * n + j) ≡ at m (4 * n + j)
+
+-- the c places of the stack from a on, the latest first
+unfoldable pub stackPart : ℕ → List ℕ → ℕ → ℕ → List ℕ
+stackPart n m a zero = []
+stackPart n m a (suc c) = at m (4 * n + (a + c)) ∷ stackPart n m a c
+
+-- the places that leave: those put on the stack
+abbrev pub leavers : ℕ → Loops → Held → List ℕ
+leavers n s h = stackPart n (h .memory) (s .free) (h .loops .free - s .free)
+
+-- What an operation leaves of the records: the rings of places are the table's; only the records that it touches change, and of the
+-- vertices those of the places that it takes, which were free; what it touches was in a loop or is taken; and the places before it and
+-- those that it takes are the places after it and those that leave.
+pub record Tidy (n : ℕ) (s : Loops) (m : List ℕ) (o : Operation) (h : Held) (touched : List ℕ) : Type 0 where
+  pub rings : ringsIn n (h .loops) (h .memory) ≡ ringsAfter o (takenBy n s m o) (ringsIn n s m)
+  pub free : (x : ℕ) → 1 ≤ occurs x (takenBy n s m o) → (placed x (ringsIn n s m) ≡ 0) × (x < n)
+  pub only : OnlyAt n touched m (h .memory)
+  pub named : VerticesAt n (takenBy n s m o) m (h .memory)
+  pub inside : (i : ℕ) → placed i (ringsIn n s m) ≡ 0 → NoneOf i (takenBy n s m o) → NoneOf i touched
+  pub balance : (x : ℕ)
+      → placed x (ringsIn n s m) + occurs x (takenBy n s m o) ≡ placed x (ringsIn n (h .loops) (h .memory)) + occurs x (leavers n s h)
