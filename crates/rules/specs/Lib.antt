@@ -10,10 +10,12 @@ pub mod Buffer
 pub mod Machine
 pub mod Answer
 pub mod Book
+pub mod Calls
 pub mod Bits
 pub mod Code
 pub mod Fields
 pub mod Choice
+pub mod Right
 pub mod Pack
 pub mod Unpack
 pub mod View
