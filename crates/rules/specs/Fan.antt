@@ -1,5 +1,5 @@
--- Fans: the triangles about a vertex, in the words of the rules, open and closed, and as a test that computes. In a list that passes 4 and 5 they
--- are the same (`one-fan`, crate fans).
+-- Fans: the triangles about a vertex, in the words of the rules, open and closed, and as a test that computes. In a list that passes
+-- 4 and 5 they are the same (`one-fan`, crate fans).
 -- Assumes nothing.
 use Prim.Native.Nat.{ℕ, zero, suc}
 use mathlib.Core.Bool.{Bool, true, false}
