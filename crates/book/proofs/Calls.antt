@@ -7,7 +7,8 @@ use Rattle.rules.specs.declared.Counts.{Counts}
 use Rattle.rules.specs.Limits.{inRange}
 use Rattle.rules.specs.Machine.{Machine, empty, Step, refused, begun, built, declared, finished, beginning, finishing}
 use Rattle.rules.specs.Buffer.{Lengths}
-use Rattle.rules.specs.Book.{Call, begin, operate, finish, Book, recounted, emptyBook, entered, after, afterAll, isAccepted}
+use Rattle.rules.specs.Book.{Call, begin, operate, finish, Book, recounted, emptyBook, entered, after, isAccepted}
+use Rattle.rules.specs.Calls.{afterAll}
 use Rattle.book.specs.Consistent.{Consistent}
 use Rattle.book.specs.Reached.{reached}
 use Rattle.book.proofs.Kept.{test-law, kept, empty-consistent}

@@ -5,9 +5,9 @@ use native.Mathlib.Omega.{arith}
 use mathlib.Core.Path.{_≡_}
 use lib.Dec.{eqb·suc-zero}
 use Rattle.rules.specs.Count.{count, uses}
-use Rattle.rules.specs.Book.{Book}
+use Rattle.rules.specs.Book.{Book, openIf, modelOpen}
 use Rattle.book.specs.Sums.{openEdges}
-use Rattle.book.specs.Consistent.{openIf, modelOpen, Consistent}
+use Rattle.book.specs.Consistent.{Consistent}
 
 -- the edge equation for one edge, solved for the places where it is open
 open-number : (o c u v : ℕ) → u ≤ 1 → v ≤ 1 → o + c + u * v ≡ u → o ≡ openIf u v c

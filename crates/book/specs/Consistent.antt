@@ -2,29 +2,19 @@
 -- border fit together, the Euler sum, and the bounds on the counts that 21 asks for.
 -- Assumes nothing.
 use Prim.Native.Nat.{ℕ, _+_, _*_, _≤_, _<_}
-use mathlib.Core.Bool.{true, false, _&&_}
+use mathlib.Core.Bool.{true, false}
 use mathlib.Core.List.{List, [], _∷_}
 use mathlib.Core.Path.{_≡_}
 use lib.ListN.{length}
-use lib.Dec.{eqb}
-use Rattle.rules.specs.declared.Triangle.{Triangle}
 use Rattle.rules.specs.Limits.{inRange}
-use Rattle.rules.specs.Triangle.{Edge, corners, edgesOf}
-use Rattle.rules.specs.Count.{num, occurs, count, uses, different, pairs}
+use Rattle.rules.specs.Triangle.{corners, edgesOf}
+use Rattle.rules.specs.Count.{occurs, count, uses, different, pairs}
 use Rattle.rules.specs.Ring.{Ring, firstOpen}
 use Rattle.rules.specs.Machine.{Machine, within}
 use Rattle.rules.specs.Book.{Book}
 use Rattle.shown.specs.Spaced.{Spaced}
 use Rattle.book.specs.Sums.{openEdges}
 use Rattle.book.specs.Numbers.{LoopsBelow}
-
--- 1 if x→y is an open edge of the model, else 0: it is used, its opposite is not, and it is not declared border. Its arguments are
--- how often x→y is used, how often y→x, and how often x→y is declared border
-abbrev pub openIf : ℕ → ℕ → ℕ → ℕ
-openIf used opposite border = num (eqb used 1 && eqb opposite 0 && eqb border 0)
-
-abbrev pub modelOpen : ℕ → ℕ → List Triangle → List Edge → ℕ
-modelOpen x y ts ds = openIf (uses x y ts) (uses y x ts) (count x y ds)
 
 -- a loop has two places or more, its current edge is open, and none of its places has both edges marked
 pub record Sound (l : Ring) : Type 0 where

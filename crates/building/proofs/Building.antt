@@ -16,13 +16,13 @@ use Rattle.rules.specs.Count.{num, count, uses}
 use Rattle.rules.specs.Check.{allBelow}
 use Rattle.rules.specs.Machine.{Machine, Step, refused, begun, built, declared, finished, beginning, totals}
 use Rattle.rules.specs.Answer.{Answer, accepted}
-use Rattle.rules.specs.Book.{Call, begin, operate, finish, Book, recounted, call, emptyBook, answerOf, answer, after, answers, afterAll, isAccepted, logged, logAll}
+use Rattle.rules.specs.Book.{Call, begin, operate, finish, Book, openIf, modelOpen, recounted, call, emptyBook, answerOf, answer, after, isAccepted}
+use Rattle.rules.specs.Calls.{answers, afterAll, logged, logAll}
 use Rattle.rules.specs.Buffer.{Buffers, Lengths}
 use Rattle.rules.specs.View.{placesOf, openAt, loopsOf, view}
 use Rattle.rules.specs.Test21.{apart, placesFit, loopsFit, linksFit, sound}
 use Rattle.rules.specs.Build.{viewed}
 use Rattle.book.specs.Sums.{openEdges}
-use Rattle.book.specs.Consistent.{openIf, modelOpen}
 use Rattle.book.proofs.Counting.{and-right}
 use Rattle.book.proofs.Calls.{Holds, empty-holds, holds-kept, holds-after, begins-empty, refused-same, finish-same}
 use Rattle.book.proofs.Open.{open-edges-exact}

@@ -22,6 +22,7 @@ use Rattle.rules.specs.Table.{Effect, not-allowed, builds, marks, effect}
 use Rattle.rules.specs.Machine.{Machine, empty, Step, refused, begun, built, declared, finished, longEnough, within, done, operation, beginning, finishing}
 use Rattle.rules.specs.Answer.{Answer, accepted, checkedAnswer, begunAnswer}
 use Rattle.rules.specs.Book.{operate, finish, Book, recounted, emptyBook, entered, answerOf, after, isAccepted}
+use Rattle.rules.specs.Calls.{lastState}
 use Rattle.rules.specs.Buffer.{freePlace, cleared, Buffers, Lengths, lengths}
 use Rattle.rules.specs.View.{view, trianglesBuilt, placesOf, loopsOf}
 use Rattle.rules.specs.Test21.{sizesOf, countsFit, sumsFit, apart, placesFit, loopsFit, linksFit, trianglesFit, sound, soundElse}
@@ -32,7 +33,7 @@ use Rattle.book.proofs.Counting.{and-left, and-right}
 use Rattle.book.proofs.Kept.{test-law}
 use Rattle.book.proofs.Bounds.{bounded-ranges}
 use Rattle.book.proofs.Calls.{Holds, holds-kept, machine-entered, refused-same, recounted-same, finish-same}
-use Rattle.building.specs.Building.{World, buffersOf, lengthsOf, lastState, BeginningCalled, OperationCalled, FinishCalled}
+use Rattle.building.specs.Building.{World, buffersOf, lengthsOf, BeginningCalled, OperationCalled, FinishCalled}
 
 -- the machine that a world is read as
 abbrev pub viewOf : World → Machine

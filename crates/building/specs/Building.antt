@@ -10,20 +10,18 @@ use Rattle.rules.specs.declared.Counts.{Counts}
 use Rattle.rules.specs.declared.Operation.{Operation}
 use Rattle.rules.specs.declared.Place.{Place}
 use Rattle.rules.specs.declared.Builder.{Builder}
-use Rattle.rules.specs.declared.Checked.{Checked}
-use Rattle.rules.specs.declared.Checked.the-variants.{Accepted, Refused}
 use Rattle.rules.specs.declared.Begun.{Begun}
 use Rattle.rules.specs.declared.Performed.{Performed}
 use Rattle.rules.specs.declared.Finished.{Finished}
 use Rattle.rules.specs.Triangle.{corners, edgesOf}
 use Rattle.rules.specs.Count.{different, pairs}
 use Rattle.rules.specs.Answer.{Answer, accepted, begunAnswer, operatedAnswer, finishedAnswer}
-use Rattle.rules.specs.Book.{Call, begin, operate, finish, Book, emptyBook, answer, answers, afterAll, logAll}
+use Rattle.rules.specs.Book.{Call, begin, operate, finish, Book, modelOpen, emptyBook, answer}
+use Rattle.rules.specs.Calls.{answers, afterAll, logAll, lastState}
 use Rattle.rules.specs.Buffer.{Buffers, Lengths, lengths}
 use Rattle.rules.specs.View.{openAt}
 use Rattle.rules.specs.Test21.{sound}
 use Rattle.rules.specs.Build.{viewed}
-use Rattle.book.specs.Consistent.{modelOpen}
 use Rattle.building.specs.Promised.{lentTo, Beginning, Operating, Finishing}
 
 -- what lies between two calls: the state last returned, and both buffers as the last call left them
@@ -38,11 +36,6 @@ buffersOf w = lentTo (w .triangles) (w .places)
 -- the buffers' lengths
 abbrev pub lengthsOf : World → Lengths
 lengthsOf w = lengths (buffersOf w)
-
--- a refused beginning returns its number only: the state before it is still the last
-abbrev pub lastState : Builder → Checked → Builder → Builder
-lastState b Accepted b′ = b′
-lastState b (Refused n) b′ = b
 
 -- Each call, lent the buffers as the one before left them and, unless it is a beginning, the state last returned: from the world w it
 -- leads to the answer a and the world v. Of the call nothing is known but what its function promises; what that leaves free, the

@@ -1,31 +1,17 @@
--- A triangle seen from one of its corners, and the triangles of a list.
+-- More of a triangle seen from one of its corners, and of the triangles of a list; `Rot`, `In` and `Free` are the rules'.
 -- Assumes nothing.
 use Prim.Native.Nat.{ℕ, _+_}
 use mathlib.Core.List.{List, [], _∷_}
 use mathlib.Core.Path.{_≡_}
 use Rattle.rules.specs.declared.Triangle.{Triangle}
 use Rattle.rules.specs.Count.{hit}
-
--- t is the triangle x y z, from one of its three corners on
-pub data Rot (t : Triangle) (x y z : ℕ) : Type 0 where
-  at-p : t .p ≡ x → t .q ≡ y → t .r ≡ z → Rot t x y z
-  at-q : t .q ≡ x → t .r ≡ y → t .p ≡ z → Rot t x y z
-  at-r : t .r ≡ x → t .p ≡ y → t .q ≡ z → Rot t x y z
+pub use Rattle.rules.specs.Triangle.{Rot, at-p, at-q, at-r, In, here, there, Free}
 
 -- which corner of t then z is: 0 for p, 1 for q, 2 for r
 abbrev pub third : {t : Triangle} {x y z : ℕ} → Rot t x y z → ℕ
 third (at-p a b c) = 2
 third (at-q a b c) = 0
 third (at-r a b c) = 1
-
--- the triangle x y z is in the list
-pub data In (x y z : ℕ) : List Triangle → Type 0 where
-  here : {t : Triangle} {ts : List Triangle} → Rot t x y z → In x y z (t ∷ ts)
-  there : {t : Triangle} {ts : List Triangle} → In x y z ts → In x y z (t ∷ ts)
-
--- the directed edge x→y is not used
-abbrev pub Free : ℕ → ℕ → List Triangle → Type 0
-Free x y ts = (z : ℕ) → In x y z ts → ⊥
 
 -- three different vertices
 pub record Different (x y z : ℕ) : Type 0 where

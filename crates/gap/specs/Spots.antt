@@ -1,29 +1,18 @@
--- Where an open edge stands in the rings, and what the packer sees of a place.
+-- What the packer sees of a place. Where an open edge stands in the rings is said by `OpenAt` of the rules.
 -- Assumes nothing.
-use Prim.Native.Nat.{ℕ, zero, suc}
-use mathlib.Core.Bool.{true, false}
-use mathlib.Core.List.{List, [], _∷_, _++_}
+use Prim.Native.Nat.{ℕ}
+use mathlib.Core.Bool.{false}
+use mathlib.Core.List.{List, _∷_, _++_}
 use mathlib.Core.Path.{_≡_}
 use mathlib.Core.Logic.{_⊎_}
 use lib.ListN.{length}
 use Rattle.rules.specs.declared.Triangle.{Triangle}
-use Rattle.rules.specs.Ring.{Node, Ring, vertex, isOpen, startOr, reached}
+use Rattle.rules.specs.Ring.{Node, Ring, vertex, startOr, reached}
 use Rattle.rules.specs.Choice.{sizeOf, following}
+pub use Rattle.rules.specs.Right.{EdgeIn, OpenAt}
 use Rattle.shown.specs.Shown.{Stays}
 use Rattle.gap.specs.Turn.{Unused}
 use Rattle.gap.specs.Corners.{endOr}
-
--- the open edge x→y starts at place i of the list, after whose last place comes first
-abbrev pub EdgeIn : ℕ → List Node → ℕ → ℕ → ℕ → Type 0
-EdgeIn first [] i x y = ⊥
-EdgeIn first (p ∷ ps) zero x y = (isOpen p ≡ true) × (vertex p ≡ x) × (startOr first ps ≡ y)
-EdgeIn first (p ∷ ps) (suc i) x y = EdgeIn first ps i x y
-
--- the open edge x→y starts at place i of ring l
-abbrev pub OpenAt : List Ring → ℕ → ℕ → ℕ → ℕ → Type 0
-OpenAt [] l i x y = ⊥
-OpenAt (w ∷ ws) zero i x y = EdgeIn (startOr 0 w) w i x y
-OpenAt (w ∷ ws) (suc l) i x y = OpenAt ws l i x y
 
 -- each open edge stands at one place
 abbrev pub Unique : List Ring → Type 0

@@ -25,7 +25,7 @@ use Rattle.gap.proofs.Choice.{open-enter, open-leave}
 use Rattle.gap.proofs.Showing.{open-full, unique-shown}
 use Rattle.gap.proofs.Canonical.{State, shown-used}
 use Rattle.gap.proofs.Packing.{Packs}
-use Rattle.roundtrip.specs.Right.{RightPlace, by-entering, by-leaving}
+use Rattle.rules.specs.Right.{RightPlace, by-entering, by-leaving}
 
 pub links-map : {c x y : ℕ} {ts us : List Triangle} → ((v w : ℕ) → In c v w ts → In c v w us) → Links c ts x y → Links c us x y
 links-map g stop = stop

@@ -43,7 +43,7 @@ use Rattle.gap.proofs.Choosing.{Fits, GoesOn, choose-old, no-new, choose-step}
 use Rattle.gap.proofs.Whole.{choose-ended, fits-begin}
 use Rattle.gap.proofs.Accepted.{Packable, accepted-packable}
 use Rattle.roundtrip.specs.Run.{Reached, begins, goes-on}
-use Rattle.roundtrip.specs.Right.{RightPlace, by-entering, by-leaving}
+use Rattle.rules.specs.Right.{RightPlace, by-entering, by-leaving}
 use Rattle.roundtrip.specs.Claims.{Built, RightChoice, OnePlaceIsRight}
 use Rattle.roundtrip.proofs.Places.{links-map, place-right, only-right}
 

@@ -35,7 +35,7 @@ use Rattle.gap.specs.Works.{Works, Reads}
 use Rattle.fans.specs.Corner.{In, Once}
 use Rattle.codes.specs.Shape.{Bytes}
 use Rattle.roundtrip.specs.Run.{unlimited, runLoops, buildOrder, startsOf, NoFault, FirstFault, peakOf, Reached}
-use Rattle.roundtrip.specs.Right.{RightPlace}
+use Rattle.rules.specs.Right.{RightPlace}
 
 -- 1. Never stuck. Without limits the packer comes to the end of an accepted list; what limits change is told by 9 and 10, and
 -- by nothing else but 11.

@@ -1,3 +1,4 @@
 pub mod Rows
 pub mod Models
 pub mod States
+pub mod Examples

@@ -22,7 +22,7 @@ use Rattle.rules.specs.Ring.{allOpen, vertexAt, lastOpen, lastVertex, fr
 use Rattle.rules.specs.Table.{allowed, inOrder, atEdge, atRest, effect}
 use Rattle.rules.specs.Buffer.{cleared}
 use Rattle.rules.specs.Machine.{test, done, beginning, finishing}
-use Rattle.rules.specs.Book.{answers, afterAll, logAll}
+use Rattle.rules.specs.Calls.{answers, afterAll, logAll}
 use Rattle.rules.specs.Bits.{bits, valueOf, bitsOfBytes, bytesWithin, readNumber, allZero}
 use Rattle.rules.specs.Code.{operationBits, operationsBits, kindIn, readOperation}
 use Rattle.rules.specs.Fields.{packBytes, takeField, fieldsOf}

@@ -15,7 +15,8 @@ use Rattle.rules.specs.Count.{num}
 use Rattle.rules.specs.Ring.{Ring, vertex, isOpen}
 use Rattle.rules.specs.Machine.{Machine}
 use Rattle.rules.specs.Answer.{Answer, refusal, accepted, triangle, no-triangle, numbers, packed, unpacked}
-use Rattle.rules.specs.Book.{Book, Call, emptyBook, answers, afterAll}
+use Rattle.rules.specs.Book.{Book, Call, emptyBook}
+use Rattle.rules.specs.Calls.{answers, afterAll}
 use Rattle.rules.specs.Pack.{Most, PackBuffers, PackResult, packWithin}
 use Rattle.rules.specs.Buffer.{Buffers, Lengths}
 use Rattle.rules.specs.Unpack.{UnpackResult, numbersOf, unpack}

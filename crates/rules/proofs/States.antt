@@ -17,7 +17,8 @@ use Rattle.rules.specs.Ring.{allOpen, vertexAt, lastOpen, lastVertex, fr
 use Rattle.rules.specs.Table.{allowed, inOrder, atEdge, atRest, effect}
 use Rattle.rules.specs.Machine.{Step, refused, begun, built, declared, finished, test, done, beginning, finishing}
 use Rattle.rules.specs.Unpack.{numbersOf}
-use Rattle.rules.specs.Book.{begin, operate, emptyBook, afterAll}
+use Rattle.rules.specs.Book.{begin, operate, emptyBook}
+use Rattle.rules.specs.Calls.{afterAll}
 use Rattle.rules.specs.Buffer.{freePlace, cleared, Buffers}
 use Rattle.rules.specs.Build.{operates, finishes, begunBuffers, withTriangle}
 use Rattle.rules.specs.View.{follow, followed, placesOf, nodes, loopsOf, trianglesBuilt, view}

@@ -1,11 +1,14 @@
--- The book (a term of the rules): the machine and the edges declared border; and lists of calls.
+-- The book (a term of the rules): the machine and the edges declared border; what each call does to it, and the model's open edges.
 -- Assumes nothing.
-use mathlib.Core.Bool.{Bool, true, false}
+use Prim.Native.Nat.{ℕ}
+use mathlib.Core.Bool.{Bool, true, false, _&&_}
 use mathlib.Core.List.{List, [], _∷_}
+use lib.Dec.{eqb}
+use Rattle.rules.specs.declared.Triangle.{Triangle}
 use Rattle.rules.specs.declared.Counts.{Counts}
 use Rattle.rules.specs.declared.Operation.{Operation}
 use Rattle.rules.specs.Triangle.{Edge, corners, edgesOf}
-use Rattle.rules.specs.Count.{different, pairs}
+use Rattle.rules.specs.Count.{num, count, uses, different, pairs}
 use Rattle.rules.specs.Machine.{Machine, empty, Step, refused, begun, built, declared, finished, beginning, operation, finishing}
 use Rattle.rules.specs.Buffer.{Lengths}
 use Rattle.rules.specs.Answer.{Answer, refusal, accepted, triangle, no-triangle, numbers}
@@ -20,6 +23,14 @@ pub record Book : Type 0 where
   pub machine : Machine
   -- the edges declared border, the latest first
   pub borders : List Edge
+
+-- The model's open edges are taken from the book's triangles and border edges: 1 if x→y is one, else 0. It is used, its opposite is not,
+-- and it is not declared border; the numbers are how often x→y is used, how often y→x, and how often x→y is declared border.
+abbrev pub openIf : ℕ → ℕ → ℕ → ℕ
+openIf used opposite border = num (eqb used 1 && eqb opposite 0 && eqb border 0)
+
+abbrev pub modelOpen : ℕ → ℕ → List Triangle → List Edge → ℕ
+modelOpen x y ts ds = openIf (uses x y ts) (uses y x ts) (count x y ds)
 
 -- the vertices and edges counted anew, from the triangles: a finish reads its answer off these
 abbrev pub recounted : Machine → Machine
@@ -65,29 +76,10 @@ answer r b c = answerOf (call r (b .machine) c)
 abbrev pub after : Lengths → Book → Call → Book
 after r b c = entered b (call r (b .machine) c)
 
--- a list of calls
-unfoldable pub answers : Lengths → Book → List Call → List Answer
-answers r b [] = []
-answers r b (c ∷ cs) = answer r b c ∷ answers r (after r b c) cs
-
-unfoldable pub afterAll : Lengths → Book → List Call → Book
-afterAll r b [] = b
-afterAll r b (c ∷ cs) = afterAll r (after r b c) cs
-
+-- a call is accepted unless it is refused
 abbrev pub isAccepted : Step → Bool
 isAccepted (refused n) = false
 isAccepted (begun m) = true
 isAccepted (built t m) = true
 isAccepted (declared d m) = true
 isAccepted (finished x) = true
-
--- the last accepted beginning and the operations accepted since, the latest first
-abbrev pub logged : List Call → Call → Bool → List Call
-logged l c false = l
-logged l (begin s) true = begin s ∷ []
-logged l (operate o) true = operate o ∷ l
-logged l finish true = l
-
-unfoldable pub logAll : Lengths → Book → List Call → List Call → List Call
-logAll r b l [] = l
-logAll r b l (c ∷ cs) = logAll r (after r b c) (logged l c (isAccepted (call r (b .machine) c))) cs

@@ -92,8 +92,8 @@ sizeOf ls n = length (loopAt ls n)
 abbrev pub following : ℕ → ℕ → ℕ
 following k i = elim (eqb (i + 1) k) [ true ↦ 0 | false ↦ i + 1 ]
 
--- The place of c from whose open edges the triangle b a c is reached by turning about c, through the triangles ts: turning back
--- from the triangle ends at that edge. An edge that comes into c ends at its place, one that leaves c starts there. In an
+-- The place of c from whose open edges the triangle b a c is reached by turning about c, through the triangles ts (`RightPlace`): turning
+-- back from the triangle ends at that edge. An edge that comes into c ends at its place, one that leaves c starts there. In an
 -- accepted list one of the two is found, so that the last branch is never met (`one-place-is-right`, crate roundtrip).
 unfoldable pub choosePlace : ℕ → ℕ → ℕ → List Triangle → List Ring → Operation
 choosePlace a b c ts ls =

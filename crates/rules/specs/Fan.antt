@@ -1,5 +1,5 @@
--- Fans: the triangles about a vertex, in the words of the rules and as a test that computes. In a list that passes 4 and 5 they
--- are the same (`one-fan`, crate fans).
+-- Fans: the triangles about a vertex, in the words of the rules, open and closed, and as a test that computes. In a list that passes
+-- 4 and 5 they are the same (`one-fan`, crate fans).
 -- Assumes nothing.
 use Prim.Native.Nat.{ℕ, zero, suc}
 use mathlib.Core.Bool.{Bool, true, false}
@@ -9,7 +9,7 @@ use mathlib.Core.Logic.{_⊎_}
 use lib.ListN.{length}
 use lib.Dec.{eqb}
 use Rattle.rules.specs.declared.Triangle.{Triangle}
-use Rattle.rules.specs.Triangle.{Edge, edge}
+use Rattle.rules.specs.Triangle.{Edge, edge, In, Free}
 use Rattle.rules.specs.Count.{count}
 
 -- the triangles about v, each as the edge x→y that it has opposite v: it is v x y
@@ -39,6 +39,40 @@ pub record OneFan (v : ℕ) (ts : List Triangle) : Type 0 where
   pub run : List Edge
   pub each : (x y : ℕ) → count x y run ≡ count x y (about v ts)
   pub shared : Run run
+
+-- The same fan by the neighbours of c in a row, each with the next one in a triangle at c (`one-fan-neighbours`, crate fans).
+abbrev pub Linked : ℕ → List Triangle → List ℕ → Type 0
+Linked c ts [] = Unit {0}
+Linked c ts (m ∷ []) = Unit {0}
+Linked c ts (m ∷ (n ∷ ns)) = In c m n ts × Linked c ts (n ∷ ns)
+
+-- x and z stand side by side
+abbrev pub Pair : ℕ → ℕ → List ℕ → Type 0
+Pair x z [] = ⊥
+Pair x z (m ∷ []) = ⊥
+Pair x z (m ∷ (n ∷ ns)) = ((m ≡ x) × (n ≡ z)) ⊎ Pair x z (n ∷ ns)
+
+abbrev pub endOf : ℕ → List ℕ → ℕ
+endOf x [] = x
+endOf x (n ∷ ns) = endOf n ns
+
+-- a fan from m on is closed if it comes round
+abbrev pub Closed : ℕ → List ℕ → Type 0
+Closed m ns = m ≡ endOf m ns
+
+-- else open: its first edge and its last one have no triangle on the other side
+abbrev pub Open : ℕ → List Triangle → ℕ → List ℕ → Type 0
+Open c ts m ns = Free m c ts × Free c (endOf m ns) ts
+
+abbrev pub Round : ℕ → List Triangle → List ℕ → Type 0
+Round c ts [] = Unit {0}
+Round c ts (m ∷ ns) = Closed m ns ⊎ Open c ts m ns
+
+pub record Neighbours (ts : List Triangle) (c : ℕ) : Type 0 where
+  pub fan : List ℕ
+  pub run : Linked c ts fan
+  pub round : Round c ts fan
+  pub whole : (x z : ℕ) → In c x z ts → Pair x z fan
 
 -- The test. An edge taken out of a list, or none
 pub data Taken : Type 0 where

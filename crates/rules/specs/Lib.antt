@@ -1,3 +1,133 @@
+-- What a reader must believe: every definition of the rules (01, and what 02 has changed so far) stands in one of the files below.
+-- Assumes nothing.
+--
+-- Notation:
+--   `f : A → B → C` says what f takes and gives, the lines `f x y = ..` what it is, case by case; `abbrev`, `unfoldable` and `pub`
+--   say how the prover and other files may use it, and change no meaning
+--   `elim t [ true ↦ x | false ↦ y ]` is x if t is true, else y, and so for other data; `let x = t in ..` names t; `λ x. ..`: a function
+--   `data` lists the forms of a value, `record` its fields: `record { f = x; .. }` has them, and `r .f` is one; «open» is a field's name
+--   ℕ: numbers from 0; `suc n` is n + 1; `m - n` is 0 where n is above m; `/` and `%`: quotient and remainder; ℤ: `pos n`, `_-ℤ_`
+--   lists: `[]`, `x ∷ xs`, `xs ++ ys`, `length`, `take n`, `drop n`, `replicate n x`; `getD xs i d` is entry i from 0, d past the end
+--   Bool: `&&`, `||`, `not`; `eqb`, `ltb`, `leb` test equal, below, at most
+--   statements: `x ≡ y` equal, `A × B` both, `A ⊎ B` one of them, `⊥` never, `Unit` always; `(x : A) → ..` each x, `(x : A) × ..` some x
+--   `use Rattle.rules.specs.X.{f}` is f of the file X here; `specs.declared.X` is the type X of src/lib.rt, `the-variants` its forms
+--
+-- Index, in 01's order: sentence | file: definitions | row that pins them. A row in quotes is one of proofs/Models, by its comment;
+-- `states` and `calls` are tables of proofs/States, other names theorems of proofs/Examples.
+--
+-- The model
+--   "a vertex count V and a list of 3T vertex numbers" | Triangle: trianglesOf | "M1" to "M5"
+--   "has the directed edges p→q, q→r and r→p" | Triangle: edgesOf | "5: second edges", "5: a first and a third edge"
+--   "A fan is a run of triangles about one vertex, each .." | Fan: about, Shares, Run, OneFan | "M8", "one fan, listed from its middle"
+--   "it is closed if it comes round, else open" | Fan: Closed, Open, Neighbours | closed-fan, open-fan
+--   "no directed edge occurs twice" | Check: noneTwice | "M7"
+--   "each vertex's triangles form one fan" | Fan: OneFan, the test oneFanEach | "7: a closed fan and an open one", "7: two closed fans"
+--
+-- Loops and the eight operations (the table as 02's C-14 has changed it)
+--   "A loop is a ring of places; each place has a vertex .." | Ring: Node, Ring | all rows of calls
+--   "One live loop is current .. the latest numbered 1" | Machine: Machine; Ring: loopAt, without | "union 2 of two waiting loops; .."
+--   "The border places are one lent list of records" | Place in src/lib.rt; View: placeAt | states
+--   "A freed place is used again" | Build: Leaves | (which records the places use is free)
+--   "at most 1,024 places, and at most 100 loops are live" | Limits: maxPlaces, maxLoops | "9", "10"
+--   "The current edge goes from vertex a (place e) to .." | Table: atEdge, effect | all rows of calls
+--   "All but start need a live loop"; start, "no live loop" | Table: atRest | "16: split in a loop of three; new without a live loop; .."
+--   new | Table: atEdge, the clause New | "M2"
+--   forward, "edge after f open"; C-14: k ≥ 3 | Table: atEdge, closes | "after a forward a→c is current", "forward at three places; .."
+--   backward, "edge into e open"; C-14: k ≥ 3 | Table: atEdge, closes | "after a backward c→b is current", "backward at three places; .."
+--   border, "the next open edge along the loop is current" | Ring: onward; Table: atEdge, marking | "neither place leaves"
+--   C-14: a place with both edges marked leaves its loop | Ring: reached, shown | "both places leave: a link joins .."
+--   split i, "2 ≤ i ≤ k − 3"; C-14: 1 to k − 2, but not .. | Table: besideNext, besideLast | "splits beyond an open edge, and .."
+--   close, "k = 3, all edges open" | Table: closes | "a loop of three with a marked edge does not close"
+--   union p j, "j below its places" | Table: atEdge, the clause Union | "waiting loops and union numbers out of range"
+--   start, "the next three unused numbers" | Table: atRest | "M1"
+--   "The loop with fewer places goes on; if equal, the first" | Table: shorterFirst | "split of equal halves, next to a marked edge"
+--   "The other waits, as the latest" | Table: inOrder | "the second loop of a split goes on, the first waits .."
+--   "A union makes one loop: a→c, round the waiting loop .." | Table: atEdge, the clause Union | "after a union c→b is current"
+--   "ends as a rim", "the latest waiting loop goes on" | Table: marking, Marking | "a rim ends with two places"
+--   "Edge rule: a, b and c differ, and an edge a→c or c→b .." | Table: edgeRule, sideRule | "c is a; c is b", "M10"
+--   ".. is new, its opposite unused too" | Count: unjoined | "refused by opposites only: .."
+--
+-- How the packer chooses
+--   "Start with the lowest-numbered triangle not yet built" | Choice: chooseIn, Packing | "M5"
+--   "find the triangle that has b→a" | Across: across | "M2"
+--   "If there is none, border. If its c has no new .., new" | Choice: chooseAt, has | "M3"
+--   "The right one is that from whose open edges .." | Right: RightPlace | right-place
+--   what finds it | Choice: choosePlace, turnIn, turnOut | "split to c that has an earlier place in the loop: .."
+--   "close (k = 3), forward, backward or split; .. union" | Choice: operationFor | "split to c that has a place in a waiting loop too"
+--
+-- The pack
+--   "a one-byte tag, a two-byte length, contents, high .." | Fields: fieldOf, word, takeField | "M1"
+--   "Tag 01, length 8: V, T, most places, most live loops" | Fields: countsOf, packBytes, countsFrom | "M1"
+--   "both peaks are taken after each operation" | Machine: afterBuild, afterMark; Choice: packingAfter | "the peak of places is .."
+--   "Tag 02: the operations. Nothing follows" | Fields: lastField | "a field after tag 02"
+--   "A code has three bits, i and j ten, p seven" | Code: code, operationBits | "M1", "union 2 of two waiting loops; .."
+--   "high bit first", "the last byte is filled with zero .." | Bits: bits, bytesOf | "M1"
+--   the same, read | Code: readOperation; Bits: readNumber | "M1 to M5"
+--   "The operation reader keeps the bytes it was lent .." | OperationReader in crates/wire/src/reader.rt | (its contract)
+--   "The model is complete when .." | Machine: complete | "T triangles are built and a loop is live: not complete"
+--
+-- Why a call is turned down
+--   1, "empty, over 24,576 numbers, or not a multiple of three" | Check: sizeFits | "M9, any V", "1: four numbers", "1: 24,579 numbers"
+--   2, "V is below 3 or above 4,096" | Limits: vertexRange | "2: V 2", "2: V 4,097"
+--   3, "A number is V or more" | Check: allBelow | "3: a number is V"
+--   4, "A triangle has a vertex twice" | Triangle: distinct; Check: allDistinct | "4: first and second corner"
+--   5, "A directed edge occurs twice" | Check: noneTwice | "M7"
+--   6, "A vertex is in no triangle" | Check: allUsed | "M6"
+--   7, "A vertex has more than one fan" | Fan: oneFanEach, oneRun | "M8"
+--   1 to 7, in that order | Check: check, checkTriangles | "1 before 2" to "6 before 7"
+--   8, "The numbering room has fewer than V entries or .." | Pack: packLongEnough | "8: numbering", "8: places"
+--   9, 10, "would exceed 1,024 places", "100 live loops" | Choice: limited | "9", "10", "9 before 10 at one operation"
+--   11, "The pack room is shorter than the pack" | Pack: packStored | "11"
+--   1 to 11 | Pack: pack, packWithin | "7 before 8" to "10 before 11"
+--   12, "not the two fields above, whole and in order" | Fields: fieldsOf, firstField | "12: nothing, wrong tag, .."
+--   13, "V is not 3 to 4,096, T not 1 to 8,192, .." | Limits: inRange | "13: V 2, V 4097, .."
+--   14, "fewer than 3T entries or .. 1,024 records" | Machine: longEnough | "14: triangles", "14: places"
+--   15, "end before the model is complete, or break off" | Unpack: runAll; Machine: complete | "15: no operations; .."
+--   16, "not allowed by the table" | Table: effect; Machine: done | "16: split in a loop of three; .."
+--   17, "would exceed the stated V, T, places or loops" | Machine: within | "17: a vertex too many"
+--   18, "The edge rule fails" | Table: edgeRule | "18: M10"
+--   19, "differ from those stated, a whole byte .., a fill bit" | Machine: asStated; Unpack: restFits | "19: V 4, places 4, loops 2, .."
+--   20, "A vertex has more than one fan" | Fan: oneFanEach; Unpack: unpackEnded | "20: the shortest"
+--   12 to 20 | Unpack: unpack, unpackFields, unpackRun | "12 before 13" to "19 before 20: a vertex too many"
+--   21, "lent rooms shorter than 14 asks, or a state whose .." | Test21: sound, countsFit, sumsFit, linksFit, trianglesFit | states
+--   "The first operation at fault decides between 9 and 10" | Pack: chooseAll | "10 at an operation before that of 9"
+--   ".. and among 15 to 18; .. the lower number" | Unpack: runAll; Machine: done | "16 before 17: forward in a loop of three"
+--   "A building call tests 21, then 16 to 18" | Build: operates; Machine: operation | calls
+--   "Its beginning tests 13 and 14" | Build: begins; Machine: beginning | "13 before 14 at a beginning; .."
+--   "its finish 21, then 15, .. 19's .., then 20" | Build: finishes; Machine: finishing | calls, "15 before 19", "refused by 20"
+--   "A refusal returns its number only" | Answer: Answer | all rows
+--   "After 1 to 8 and 12 to 14 no room has changed" | Pack: turnedDown; Unpack: turnedDown | all rows of packing and unpacking
+--   "After 9 to 11 .. zero" | Pack: packRefused; Buffer: zeroed | "9", "11"
+--   "after 15 to 20 .., the first 3T triangle entries" | Unpack: unpackRefused | "18: M10"
+--   "leaves the first 1,024 place records zero, .." | Buffer: cleared, freePlace | all rows of packing and unpacking
+--   "A refused building call changes nothing" | Build: BegunBy, OperatedBy | (the contracts of crates/service)
+--   "An accepted beginning leaves .." | Build: begunBuffers, begunBuilder | calls
+--   "Acceptance writes the results and nothing beyond them" | Buffer: over; Pack: packDone; Unpack: unpackDone | "buffers just long enough"
+--   "For each old vertex .. the new number" | Pack: newNumbers, indexOf | "M5"
+--   "packing answers the pack's length, unpacking V, T .." | Answer: packedAnswer, unpackedAnswer | "M1" to "M5"
+--   "a building operation the triangle .. also written .." | Build: withTriangle, Leaves | calls
+--   "The finish gives edges, rims, unions and the Euler .." | Machine: totals | "M1" to "M5", "torus of seven vertices"
+--
+-- The builder's book
+--   "a single claim about the whole list of calls" | BuildersBook in crates/building/specs/Building | (`building-calls-keep-the-book`)
+--   "as the call before left them", "the state last returned" | Calls: lastState | last-states
+--   "The book is fed each call's arguments .." | Book: Call, call; Buffer: Lengths | all rows of calls
+--   "It holds the stated counts, the triangles built .." | Machine: Machine; Book: Book | all rows of calls
+--   "if it passes, the book is emptied" | Machine: empty; Book: entered, emptyBook | "13 before 14 at a beginning; .."
+--   "tested by 16 to 18 on the rings and triangles" | Machine: operation, done | "17 before 18: M10 with too few places"
+--   "Its triangle is written down, at border the edge a→b" | Machine: afterBuild; Book: entered | all rows of calls
+--   "a start, a union and a loop that ends as a rim count .." | Table: Added, Marking | "M1", "smallest union found"
+--   "A finish .. reads its answer off the book" | Book: recounted; Machine: finishing | "M1" to "M5"
+--   "A call that fails .. leaves the book as it is" | Book: entered | "13 before 14 at a beginning; .."
+--   "The answers compared are acceptance or the number, .." | Book: answerOf, answer; Calls: answers | all rows of calls
+--   "Vertices are the different numbers in the .. triangles" | Count: different | "M1" to "M5"
+--   "edges the pairs of vertices that one of them joins, .." | Count: pairs | "M1" to "M5"
+--   "The builder's own counts equal them all" | View: view; Build: viewed | states
+--   "those recorded as open at its live loops' places .." | View: openAt | (`building-calls-keep-the-book`, crate building)
+--   "the model's are taken from the book's triangles and .." | Book: modelOpen | open-edges
+--   "the last accepted beginning's counts and the operations" | Calls: logAll | (`building-calls-keep-the-book`, crate building)
+--
+-- Models on the bench, M1 to M10: `table` of proofs/Models.
 pub mod Limits
 pub mod Triangle
 pub mod Count
@@ -11,10 +141,12 @@ pub mod Buffer
 pub mod Machine
 pub mod Answer
 pub mod Book
+pub mod Calls
 pub mod Bits
 pub mod Code
 pub mod Fields
 pub mod Choice
+pub mod Right
 pub mod Pack
 pub mod Unpack
 pub mod View

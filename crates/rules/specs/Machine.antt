@@ -103,7 +103,9 @@ unfoldable pub done : Machine → Effect → Step
 done m not-allowed = refused 16
 done m (builds x) =
     let m′ = afterBuild m x in
-    test (within m′) 17 (test (edgeRule (x .triangle) (x .sides .pq) (x .sides .qr) (x .sides .rp) (m .triangles)) 18 (built (x .triangle) m′))
+    let t = x .triangle in
+    let s = x .sides in
+    test (within m′) 17 (test (edgeRule t (s .pq) (s .qr) (s .rp) (m .triangles)) 18 (built t m′))
 done m (marks y) = let m′ = afterMark m y in test (within m′) 17 (declared (y .edge) m′)
 
 -- an operation: 16, 17, 18

@@ -1,8 +1,9 @@
--- Triangles and their directed edges. Where triangles are being built, a list of them has the latest first.
+-- Triangles, their directed edges, and the triangles of a list. Where triangles are being built, a list of them has the latest first.
 -- Assumes nothing.
 use Prim.Native.Nat.{ℕ}
 use mathlib.Core.Bool.{Bool, _&&_, not}
 use mathlib.Core.List.{List, [], _∷_}
+use mathlib.Core.Path.{_≡_}
 use lib.Dec.{eqb}
 use Rattle.rules.specs.declared.Triangle.{Triangle}
 
@@ -36,3 +37,18 @@ corners (t ∷ ts) = t .r ∷ (t .q ∷ (t .p ∷ corners ts))
 unfoldable pub edgesOf : List Triangle → List Edge
 edgesOf [] = []
 edgesOf (t ∷ ts) = edge (t .r) (t .p) ∷ (edge (t .q) (t .r) ∷ (edge (t .p) (t .q) ∷ edgesOf ts))
+
+-- t is the triangle x y z, from one of its three corners on
+pub data Rot (t : Triangle) (x y z : ℕ) : Type 0 where
+  at-p : t .p ≡ x → t .q ≡ y → t .r ≡ z → Rot t x y z
+  at-q : t .q ≡ x → t .r ≡ y → t .p ≡ z → Rot t x y z
+  at-r : t .r ≡ x → t .p ≡ y → t .q ≡ z → Rot t x y z
+
+-- the triangle x y z is in the list
+pub data In (x y z : ℕ) : List Triangle → Type 0 where
+  here : {t : Triangle} {ts : List Triangle} → Rot t x y z → In x y z (t ∷ ts)
+  there : {t : Triangle} {ts : List Triangle} → In x y z ts → In x y z (t ∷ ts)
+
+-- the directed edge x→y is not used
+abbrev pub Free : ℕ → ℕ → List Triangle → Type 0
+Free x y ts = (z : ℕ) → In x y z ts → ⊥

@@ -7,7 +7,6 @@ use lib.ListN.{length}
 use lib.Dec.{ltb}
 use Rattle.rules.specs.declared.Triangle.{Triangle}
 use Rattle.rules.specs.declared.Counts.{Counts}
-use Rattle.rules.specs.declared.Place.{Place}
 use Rattle.rules.specs.declared.Totals.{Totals}
 use Rattle.rules.specs.Limits.{inRange}
 use Rattle.rules.specs.Fan.{oneFanEach}
