@@ -1,3 +1,4 @@
 pub mod Run
 pub mod Right
 pub mod Claims
+pub mod Enough
