@@ -15,3 +15,4 @@ pub mod Alike
 pub mod Starts
 pub mod Model
 pub mod Alone
+pub mod Enough
