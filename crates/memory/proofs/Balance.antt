@@ -136,19 +136,20 @@ moves n s m u Close c p = record { none = λ x. refl; more = ended-more n s m }
 moves n s m u (Union k j) c p = let t = takes-one n s m (unionHeld n s m k c) (p .0 .1 .some) refl in record { top = t .0; fewer = t .1 }
 moves n s m u Start c p = record { top = λ x. three-stacked n x m (s .free) (p .0 .some); fewer = omega arith }
 
+-- where the stack does not grow no place leaves
+part-empty : (n : ℕ) (s : Loops) (h : Held) (x : ℕ) → h .loops .free ≤ s .free → occurs x (leavers n s h) ≡ 0
+unfolding stackPart occurs
+part-empty n s h x l = let e : h .loops .free - s .free ≡ 0 = omega (arith, l) in rw e
+
 -- the loops' places before and after
 module _ (n : ℕ) (s : Loops) (m : List ℕ) (rs : List Ring) (st : StandsAt n s m rs) (h : Held) (rs′ : List Ring)
     (st′ : StandsAt n (h .loops) (h .memory) rs′)
     (stack : (j : ℕ) → j < s .free → j < h .loops .free → at (h .memory) (4 * n + j) ≡ at m (4 * n + j)) (o : Operation) where
-  part-none : (x : ℕ) → h .loops .free ≤ s .free → occurs x (leavers n s h) ≡ 0
-  unfolding stackPart occurs
-  part-none x l = let e : h .loops .free - s .free ≡ 0 = omega (arith, l) in rw e
-
   pub stacks-balance : Stacks n s m o h → (x : ℕ) → placed x rs + occurs x (takenBy n s m o) ≡ placed x rs′ + occurs x (leavers n s h)
   stacks-balance k x =
       let e : stacked n (h .memory) (h .loops .free) x ≡ stacked n m (h .loops .free) x =
       stacked-same n x m (h .memory) (h .loops .free) (λ j l. stack j (omega (arith, l, k .fewer)) l) in
-      omega (arith, st .each x, st′ .each x, e, k .top x, part-none x (k .fewer))
+      omega (arith, st .each x, st′ .each x, e, k .top x, part-empty n s h x (k .fewer))
 
   pub grows-balance : Grows n s m o h → (x : ℕ) → placed x rs + occurs x (takenBy n s m o) ≡ placed x rs′ + occurs x (leavers n s h)
   grows-balance k x =
@@ -187,3 +188,15 @@ all-taken-free n s m rs st u (Split i) c k x l = taken-free n s m rs st (Split i
 all-taken-free n s m rs st u Close c k x l = absurd (omega (arith, l, k .none x))
 all-taken-free n s m rs st u (Union p j) c k x l = taken-free n s m rs st (Union p j) (heldBy n s m u (Union p j) c) k x l
 all-taken-free n s m rs st u Start c k x l = taken-free n s m rs st Start (heldBy n s m u Start c) k x l
+
+-- it takes places, or places leave, or neither
+pub takes-or-leaves : (n : ℕ) (s : Loops) (m : List ℕ) (u : ℕ) (o : Operation) (c : ℕ) → Moves n s m u o c
+    → (x : ℕ) → 1 ≤ occurs x (takenBy n s m o) → occurs x (leavers n s (heldBy n s m u o c)) ≡ 0
+takes-or-leaves n s m u New c k x l = part-empty n s (heldBy n s m u New c) x (k .fewer)
+takes-or-leaves n s m u Forward c k x l = absurd (omega (arith, l, k .none x))
+takes-or-leaves n s m u Backward c k x l = absurd (omega (arith, l, k .none x))
+takes-or-leaves n s m u Border c k x l = absurd (omega (arith, l, k .none x))
+takes-or-leaves n s m u (Split i) c k x l = part-empty n s (heldBy n s m u (Split i) c) x (k .fewer)
+takes-or-leaves n s m u Close c k x l = absurd (omega (arith, l, k .none x))
+takes-or-leaves n s m u (Union p j) c k x l = part-empty n s (heldBy n s m u (Union p j) c) x (k .fewer)
+takes-or-leaves n s m u Start c k x l = part-empty n s (heldBy n s m u Start c) x (k .fewer)

@@ -21,7 +21,7 @@ pub mod Performing
 pub mod Performed
 pub mod Fresh
 pub mod Next
-pub mod Touched
+pub mod Touching
 pub mod Vertices
 pub mod Around
 pub mod Balance

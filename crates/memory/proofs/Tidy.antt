@@ -26,10 +26,10 @@ use Rattle.memory.proofs.Performing.{chosen, never, never-marks}
 use Rattle.memory.proofs.Performed.{place-in, performs}
 use Rattle.memory.proofs.Ready.{ready-borders}
 use Rattle.memory.proofs.Next.{decides-as, no-mark, no-mark-built, no-mark-room, no-mark-rest, marks-live}
-use Rattle.memory.proofs.Touched.{touches}
+use Rattle.memory.proofs.Touching.{touches}
 use Rattle.memory.proofs.Vertices.{names}
 use Rattle.memory.proofs.Around.{untouched-edge, current-in}
-use Rattle.memory.proofs.Balance.{moves, balance, all-taken-free}
+use Rattle.memory.proofs.Balance.{moves, balance, all-taken-free, takes-or-leaves}
 
 -- with no live loop only a start is decided
 rest-inside : (n : ℕ) (l : Loops) (m : List ℕ) (u : ℕ) (o : Operation) (p : Plan) → restProposed u o ≡ Builds p → (i : ℕ)
@@ -71,6 +71,7 @@ built-tidy n s m M o k r y p e =
       only = touches n (s .loops) m (s .used) o (p .place) able;
       named = names n (s .loops) m (s .used) o (p .place);
       inside = inside n s m o p y e;
+      apart = takes-or-leaves n (s .loops) m (s .used) o (p .place) v;
       balance = balance n (s .loops) m rs (y .stands) (s .used) o (p .place) v
           (ringsIn n (heldAfter n s m o p .loops) (heldAfter n s m o p .memory)) (b .keeps .stands) (b .places .stack);
     }
@@ -126,6 +127,7 @@ border-tidy n s m M k r y a c e =
       only = touches n l m (s .used) Border 0 able;
       named = names n l m (s .used) Border 0;
       inside = λ i out d. untouched-edge n l m rs (y .stands) (current-in n l m rs (y .stands) live) i out Border 0 tt d;
+      apart = takes-or-leaves n l m (s .used) Border 0 v;
       balance = balance n l m rs (y .stands) (s .used) Border 0 v
           (ringsIn n (markedHeld n l m .loops) (markedHeld n l m .memory)) (b .keeps .stands) (b .places .stack);
     }

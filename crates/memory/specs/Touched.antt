@@ -6,7 +6,9 @@ use mathlib.Core.List.{List, [], _∷_}
 use mathlib.Core.Path.{_≡_}
 use Rattle.rules.specs.declared.Operation.{Operation}
 use Rattle.rules.specs.declared.Operation.the-variants.{New, Forward, Backward, Border, Split, Close, Union, Start}
+use lib.ListN.{length, getD, set}
 use Rattle.memory.specs.declared.Loops.{Loops}
+use Rattle.memory.specs.declared.Touched.{Touched}
 use Rattle.memory.specs.Layout.{at, beforeOf, afterOf}
 use Rattle.rules.specs.Count.{occurs}
 use Rattle.rules.specs.Places.{ringsAfter}
@@ -36,6 +38,25 @@ touchedBy n s m (Split i) c = s .current ∷ (afterOf m (s .current) ∷ (c ∷ 
 touchedBy n s m Close c = []
 touchedBy n s m (Union p j) c = s .current ∷ (afterOf m (s .current) ∷ (c ∷ (beforeOf m c ∷ (topFree n s m ∷ []))))
 touchedBy n s m Start c = at m (4 * n + (s .free - 1)) ∷ (at m (4 * n + (s .free - 2)) ∷ (at m (4 * n + (s .free - 3)) ∷ []))
+
+-- the places touched, as the core's functions hand them on
+abbrev pub listed : List ℕ → Touched
+listed xs = record {
+  count = length xs;
+  first = getD xs 0 0;
+  second = getD xs 1 0;
+  third = getD xs 2 0;
+  fourth = getD xs 3 0;
+  fifth = getD xs 4 0;
+}
+
+-- the note of them in the plain memory, and of the part of the stack from k to l
+unfoldable pub noted : List ℕ → Touched → ℕ → ℕ → List ℕ
+noted m t k l =
+    let m₁ = set (set m 5320 (t .count)) 5321 (t .first) in
+    let m₂ = set (set m₁ 5322 (t .second)) 5323 (t .third) in
+    let m₃ = set (set m₂ 5324 (t .fourth)) 5325 (t .fifth) in
+    set (set m₃ 5326 k) 5327 l
 
 -- i is none of these
 abbrev pub NoneOf : ℕ → List ℕ → Type 0
@@ -73,5 +94,7 @@ pub record Tidy (n : ℕ) (s : Loops) (m : List ℕ) (o : Operation) (h : Held) 
   pub only : OnlyAt n touched m (h .memory)
   pub named : VerticesAt n (takenBy n s m o) m (h .memory)
   pub inside : (i : ℕ) → placed i (ringsIn n s m) ≡ 0 → NoneOf i (takenBy n s m o) → NoneOf i touched
+  -- it takes places, or places leave, or neither
+  pub apart : (x : ℕ) → 1 ≤ occurs x (takenBy n s m o) → occurs x (leavers n s h) ≡ 0
   pub balance : (x : ℕ)
       → placed x (ringsIn n s m) + occurs x (takenBy n s m o) ≡ placed x (ringsIn n (h .loops) (h .memory)) + occurs x (leavers n s h)

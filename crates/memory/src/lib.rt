@@ -38,6 +38,16 @@ pub struct Plan {
     pub place: u16,
 }
 
+// The places whose records an operation writes: how many they are, and which.
+pub struct Touched {
+    pub count: u16,
+    pub first: u16,
+    pub second: u16,
+    pub third: u16,
+    pub fourth: u16,
+    pub fifth: u16,
+}
+
 // What an operation would do.
 pub enum Decided {
     Refused(u8),

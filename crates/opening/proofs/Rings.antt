@@ -26,7 +26,7 @@ use Rattle.memory.proofs.Columns.{column-at, column-length}
 use Rattle.reading.proofs.Records.{records-at}
 use Rattle.reading.proofs.Walks.{walk-below, nodes-read}
 use Rattle.reading.proofs.Current.{fit-parts}
-use Rattle.opening.proofs.Walking.{place-none}
+use Rattle.reading.proofs.Records.{place-none}
 
 -- the rings of the first n loops, the last of them first
 unfoldable pub ringsOf : Builder → List ℕ → ℕ → List Ring

@@ -20,17 +20,9 @@ use Rattle.reading.proofs.Records.{records-at}
 use Rattle.opening.specs.Marks.{Marked, markable, allMarkable, flagged, returns, loopMarks, loopsMark, allFlagged}
 use Rattle.opening.proofs.Tests.{no-and, and-no, yes-and, and-yes}
 
--- a record of the memory, and one beyond them
+-- a record of the memory
 pub place-record : (m : List ℕ) (i : ℕ) (p : Place) → i < maxPlaces → p ≡ recordAt m i → p ≡ placeAt (records maxPlaces m) i
 place-record m i p h e = e ∙ sym (records-at maxPlaces m i h)
-
-pub past-end : (ps : List Place) (i : ℕ) → length ps ≤ i → freePlace ≡ placeAt ps i
-past-end [] i h = refl
-past-end (p ∷ ps) zero h = absurd (omega arith)
-past-end (p ∷ ps) (suc i) h = past-end ps i (omega arith)
-
-pub place-none : (m : List ℕ) (i : ℕ) → maxPlaces ≤ i → freePlace ≡ placeAt (records maxPlaces m) i
-place-none m i h = past-end (records maxPlaces m) i (omega (arith, h, length-records maxPlaces m))
 
 module _ (ps : List Place) (v i : ℕ) (p q : Place) (ep : p ≡ placeAt ps i) (eq : q ≡ placeAt ps (p .after)) where
   fits-as : placeFits ps v i ≡ eqb (q .before) i && ltb (p .vertex) v && (p .«open» || q .«open»)

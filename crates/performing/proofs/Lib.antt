@@ -1,5 +1,6 @@
 pub mod Sound
 pub mod Writing
 pub mod After
+pub mod Noting
+pub mod Leaving
 pub mod Operating
-pub mod Lifting

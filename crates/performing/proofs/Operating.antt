@@ -5,7 +5,7 @@ use native.Mathlib.Omega.{arith}
 use mathlib.Core.Bool.{Bool, true, false, not}
 use mathlib.Core.List.{List, []}
 use mathlib.Core.Path.{_≡_, refl, sym, ap, ap₂, _∙_, subst}
-use lib.ListN.{length, take, drop, drop-of-length-le}
+use lib.ListN.{length, take}
 use lib.Dec.{leb}
 use borrow.Author.Tests.{leb-true, not-true, not-false}
 use Rattle.rules.specs.declared.Counts.{Counts}
@@ -18,12 +18,12 @@ use Rattle.rules.specs.Check.{allBelow}
 use Rattle.rules.specs.Ring.{places}
 use Rattle.rules.specs.Triangle.{edge}
 use Rattle.rules.specs.Table.{edgeRule}
-use Rattle.rules.specs.Machine.{Machine, Step, refused, built, declared, operation}
+use Rattle.rules.specs.Machine.{Machine, Step, refused, begun, built, declared, finished, operation}
 use Rattle.rules.specs.Book.{answerOf}
-use Rattle.rules.specs.Buffer.{Buffers, lengths}
-use Rattle.rules.specs.View.{view, trianglesBuilt}
-use Rattle.rules.specs.Test21.{linksFit, sound}
-use Rattle.rules.specs.Build.{viewed, operates, withTriangle, Leaves, OperatedBy}
+use Rattle.rules.specs.Buffer.{Buffers}
+use Rattle.rules.specs.View.{placeRings, view, trianglesBuilt}
+use Rattle.rules.specs.Test21.{sound}
+use Rattle.rules.specs.Build.{viewed, operates, withTriangle}
 use Rattle.book.specs.Consistent.{Ranges}
 use Rattle.book.specs.Reached.{reached}
 use Rattle.book.proofs.Counting.{and-left}
@@ -32,52 +32,62 @@ use Rattle.memory.specs.declared.Front.{Front}
 use Rattle.memory.specs.declared.Plan.{Plan}
 use Rattle.memory.specs.declared.Decided.{Decided}
 use Rattle.memory.specs.declared.Decided.the-variants as D
-use Rattle.memory.specs.Layout.{verticesOf}
+use Rattle.memory.specs.Layout.{at, verticesOf}
 use Rattle.memory.specs.Stands.{ringsIn}
-use Rattle.memory.specs.Moves.{markedHeld}
+use Rattle.memory.specs.Moves.{Held, markedHeld}
 use Rattle.memory.specs.Decision.{decided, sideOf, heldAfter, builtFront, markedFront}
 use Rattle.memory.specs.Keeps.{Keeps}
 use Rattle.memory.proofs.Deciding.{stands-live}
-use Rattle.memory.proofs.Next.{refused-next, rule-refused, built-step, built-keeps, marked-step, marked-keeps, marks-live}
+use Rattle.memory.proofs.Next.{decides-as, refused-next, rule-refused, built-step, built-keeps, marked-step, marked-keeps, marks-live}
 use Rattle.places.specs.Memory.{records}
-use Rattle.places.proofs.Reading.{length-records}
 use Rattle.reading.specs.declared.Opened.{Opened}
 use Rattle.reading.specs.declared.Opened.the-variants.{Passed, Failed}
-use Rattle.reading.specs.Reading.{lent, SameRecords, Passes, Opens}
+use Rattle.reading.specs.Reading.{lent, Passes, Opens}
 use Rattle.reading.specs.Closing.{builderOf}
-use Rattle.reading.proofs.Records.{records-alike, all-alike}
+use Rattle.reading.proofs.Records.{all-alike}
 use Rattle.reading.proofs.Closing.{closes}
 use Rattle.reading.proofs.Sound.{closes-sound}
-use Rattle.building.specs.Promised.{Operating}
-use Rattle.performing.specs.Performing.{OperatesOn, Open, refusedWith, builtWith, markedWith}
+use Rattle.performing.specs.Performing.{Written, Accepts, Done, OperatesOn, Open, refusedWith, builtWith, markedWith}
 use Rattle.performing.proofs.Sound.{parts, sound-ranges, sound-below, sound-current, triangles-long}
 use Rattle.performing.proofs.Writing.{written-next, written-long, below-more, written-below}
 use Rattle.performing.proofs.After.{within-each, Next, Built, Declared, Follows, follows}
+use Rattle.rules.specs.declared.Operation.the-variants.{Border}
+use Rattle.memory.specs.declared.Loops.{Loops}
+use Rattle.memory.specs.declared.Touched.{Touched}
+use Rattle.memory.specs.Touched.{takenBy, touchedBy, listed, noted, leavers, Tidy}
+use Rattle.memory.proofs.Room.{room as places-room}
+use Rattle.memory.proofs.Tidy.{built-tidy, marked-tidy}
+use Rattle.places.specs.Noted.{toLink, toFree}
+use Rattle.performing.proofs.Noting.{noted-before, noted-end, noted-count, noted-links, noted-frees}
+use Rattle.performing.proofs.Leaving.{unused, rings-are, stays, idle, others, near, left, gone, few-touched, rewritten}
 
 -- a refusal
 refuses : (b : Builder) (o : Operation) (xs m : List ℕ) (n : ℕ) (m′ : List ℕ) (k : ℕ) → operates b (lent xs n m) o ≡ refused k
-    → records n m′ ≡ records n m → (r : Performed) → r ≡ refusedWith b k → OperatesOn b o xs m n r xs m′
-refuses b o xs m n m′ k e s r er =
+    → at m′ 5320 ≡ 0 → at m′ 5327 ≡ 0 → (r : Performed) → r ≡ refusedWith b k → OperatesOn b o xs m n r xs m′
+refuses b o xs m n m′ k e c d r er =
     subst (λ (q : Performed). OperatesOn b o xs m n q xs m′) (sym er)
     (record {
-      kept = record {
-        answer = sym (ap answerOf e);
-        after =
-            subst (λ (x : Step). OperatedBy b (lent xs n m) x b (lent xs n m′)) (sym e) (refl, ap (λ (ps : List Place). record { triangles = xs; places = ps }) s);
-      };
-      links = λ h. ap (linksFit b) s ∙ parts b (lent xs n m) h .links;
+      answer = sym (ap answerOf e);
+      after = subst (λ (x : Step). Done b o xs m n x b xs m′) (sym e) (record { state = refl; triangles = refl; links = c; frees = d });
     })
 
--- 21
-fails-21 : (b : Builder) (o : Operation) (xs m : List ℕ) (n : ℕ) (m′ : List ℕ) → n ≤ maxPlaces → (sound b (lent xs n m) ≡ false) × SameRecords m m′
-    → (r : Performed) → r ≡ refusedWith b 21 → OperatesOn b o xs m n r xs m′
-fails-21 b o xs m n m′ l h =
-    refuses b o xs m n m′ 21 (ap (λ (t : Bool). elim t [ true ↦ operation (viewed b (lent xs n m)) o | false ↦ refused 21 ]) (h .0))
-    (records-alike n m m′ (h .1) l)
+-- a memory that notes nothing
+abbrev pub unnoted : List ℕ → List ℕ
+unnoted m = noted m (listed []) 0 0
 
-pub opens-failed : (b : Builder) (o : Operation) (xs m : List ℕ) (n : ℕ) (m′ : List ℕ) (x : Opened) → n ≤ maxPlaces → Opens b xs n m x m′ → x ≡ Failed
-    → (r : Performed) → r ≡ refusedWith b 21 → OperatesOn b o xs m n r xs m′
-opens-failed b o xs m n m′ x l h e = fails-21 b o xs m n m′ l (subst (λ (y : Opened). Opens b xs n m y m′) e h)
+nothing-linked : (m m′ : List ℕ) → 5328 ≤ length m → m′ ≡ unnoted m → at m′ 5320 ≡ 0
+nothing-linked m m′ l e = ap (λ (m₁ : List ℕ). at m₁ 5320) e ∙ noted-count m (listed []) 0 0 l
+
+nothing-freed : (m m′ : List ℕ) → 5328 ≤ length m → m′ ≡ unnoted m → at m′ 5327 ≡ 0
+nothing-freed m m′ l e = ap (λ (m₁ : List ℕ). at m₁ 5327) e ∙ noted-end m (listed []) 0 0 l
+
+-- 21
+pub opens-failed : (b : Builder) (o : Operation) (xs m : List ℕ) (n : ℕ) (m₁ m′ : List ℕ) (x : Opened) → Opens b xs n m x m₁ → x ≡ Failed
+    → 5328 ≤ length m₁ → m′ ≡ unnoted m₁ → (r : Performed) → r ≡ refusedWith b 21 → OperatesOn b o xs m n r xs m′
+opens-failed b o xs m n m₁ m′ x h e l em =
+    let f = subst (λ (y : Opened). Opens b xs n m y m₁) e h in
+    refuses b o xs m n m′ 21 (ap (λ (t : Bool). elim t [ true ↦ operation (viewed b (lent xs n m)) o | false ↦ refused 21 ]) (f .0))
+    (nothing-linked m₁ m′ l em) (nothing-freed m₁ m′ l em)
 
 pub opens-passed : (b : Builder) (xs : List ℕ) (n : ℕ) (m m′ : List ℕ) (x : Opened) (f : Front) → Opens b xs n m x m′ → x ≡ Passed f
     → Passes b xs n m f m′
@@ -92,22 +102,38 @@ opened b xs n m f m′ p =
       whole = refl;
       ready = p .ready;
       keeps = subst (λ (ps : List Place). Keeps maxPlaces f m′ (view b xs ps)) e (p .keeps);
+      rings = ap (λ (ps : List Place). placeRings b ps (b .live)) (all-alike m m′ (p .same)) ∙ p .rings;
       lengths = refl;
       same = λ i l. refl;
     }
 
+accepts-from : (b : Builder) (o : Operation) (ys m m₁ : List ℕ) (n : ℕ) (M : Machine) (b′ : Builder) (xs′ m′ : List ℕ) → n ≡ maxPlaces
+    → records maxPlaces m₁ ≡ records maxPlaces m → Accepts b o ys m₁ maxPlaces M b′ xs′ m′ → Accepts b o ys m n M b′ xs′ m′
+accepts-from b o ys m m₁ n M b′ xs′ m′ w e a = record {
+  whole = w;
+  noted = a .noted;
+  written = subst (λ (ps : List Place). Written b o ps ys M b′ xs′ (records maxPlaces m′) (toLink m′) (toFree m′)) e (a .written);
+}
+
+done-from : (b : Builder) (o : Operation) (xs m m₁ : List ℕ) (n : ℕ) (x : Step) (b′ : Builder) (xs′ m′ : List ℕ) → n ≡ maxPlaces
+    → records maxPlaces m₁ ≡ records maxPlaces m → Done b o xs m₁ maxPlaces x b′ xs′ m′ → Done b o xs m n x b′ xs′ m′
+done-from b o xs m m₁ n (refused k) b′ xs′ m′ w e d = d
+done-from b o xs m m₁ n (begun M) b′ xs′ m′ w e d = d
+done-from b o xs m m₁ n (built t M) b′ xs′ m′ w e d = accepts-from b o (withTriangle (b .built) t xs) m m₁ n M b′ xs′ m′ w e d
+done-from b o xs m m₁ n (declared x M) b′ xs′ m′ w e d = accepts-from b o xs m m₁ n M b′ xs′ m′ w e d
+done-from b o xs m m₁ n (finished x) b′ xs′ m′ w e d = d
+
 pub from-open : (b : Builder) (o : Operation) (xs : List ℕ) (n : ℕ) (m : List ℕ) (f : Front) (m₁ : List ℕ) → Passes b xs n m f m₁
     → (r : Performed) (xs′ m′ : List ℕ) → OperatesOn b o xs m₁ maxPlaces r xs′ m′ → OperatesOn b o xs m n r xs′ m′
 from-open b o xs n m f m₁ p r xs′ m′ h =
-    let e : records maxPlaces m₁ ≡ records n m = all-alike m m₁ (p .same) ∙ ap (λ (k : ℕ). records k m) (sym (p .whole)) in
-    let f : records maxPlaces m′ ≡ records n m′ = ap (λ (k : ℕ). records k m′) (sym (p .whole)) in
+    let e : records maxPlaces m₁ ≡ records maxPlaces m = all-alike m m₁ (p .same) in
+    let g : operates b (lent xs maxPlaces m₁) o ≡ operates b (lent xs n m) o =
+    ap (λ (ps : List Place). operates b (record { triangles = xs; places = ps }) o) (e ∙ ap (λ (k : ℕ). records k m) (sym (p .whole))) in
     record {
-      kept =
-          subst (λ (ps : List Place). Operating b o xs (records n m) r xs′ ps) f
-          (subst (λ (ps : List Place). Operating b o xs ps r xs′ (records maxPlaces m′)) e (h .kept));
-      links = λ s.
-          subst (λ (ps : List Place). linksFit (r .state) ps ≡ true) f
-          (h .links (subst (λ (ps : List Place). sound b (record { triangles = xs; places = ps }) ≡ true) (sym e) s));
+      answer = h .answer ∙ ap answerOf g;
+      after =
+          subst (λ (x : Step). Done b o xs m n x (r .state) xs′ m′) g
+          (done-from b o xs m m₁ n (operates b (lent xs maxPlaces m₁) o) (r .state) xs′ m′ (p .whole) e (h .after));
     }
 
 -- what marking gives back
@@ -146,17 +172,18 @@ module _ (b : Builder) (o : Operation) (xs m : List ℕ) (f : Front) (w : Open b
       omega (arith, room, e, w .keeps .triangles, within-each M (ranges .counts) .triangles)
 
   -- 16 and 17
-  pub decision-refused : (d : Decided) (k : ℕ) → d ≡ decided maxPlaces f m o → d ≡ D.Refused k → (r : Performed) → r ≡ refusedWith b k
-      → OperatesOn b o xs m maxPlaces r xs m
-  decision-refused d k i e =
-      refuses b o xs m maxPlaces m k (goes-on ∙ refused-next maxPlaces f m M o (w .keeps) ranges k (sym i ∙ e)) refl
+  pub decision-refused : (d : Decided) (k : ℕ) → d ≡ decided maxPlaces f m o → d ≡ D.Refused k → 5328 ≤ length m → (m′ : List ℕ) → m′ ≡ unnoted m
+      → (r : Performed) → r ≡ refusedWith b k → OperatesOn b o xs m maxPlaces r xs m′
+  decision-refused d k i e l m′ em =
+      refuses b o xs m maxPlaces m′ k (goes-on ∙ refused-next maxPlaces f m M o (w .keeps) ranges k (sym i ∙ e)) (nothing-linked m m′ l em)
+      (nothing-freed m m′ l em)
 
   -- what follows the machine
   after-machine : Follows M (operation M o)
   after-machine = follows M o (sound-current b r₀ (w .passes)) (sound-below b r₀ (w .passes))
 
-  -- the machine M′ is left in the state f′ and the memory m′, with the triangle buffer xs′
-  module _ (M′ : Machine) (x : Next M M′) (f′ : Front) (m′ : List ℕ) (k : Keeps maxPlaces f′ m′ M′) where
+  -- the machine M′ is left in the state f′ and the memory of h, with the triangle buffer xs′
+  module _ (M′ : Machine) (x : Next M M′) (f′ : Front) (h : Held) (same-loops : f′ .loops ≡ h .loops) (k : Keeps maxPlaces f′ (h .memory) M′) where
     stated-same : M′ .stated ≡ f .stated
     unfolding view
     stated-same = x .stated ∙ w .keeps .stated
@@ -164,40 +191,70 @@ module _ (b : Builder) (o : Operation) (xs m : List ℕ) (f : Front) (w : Open b
     few-loops : f′ .loops .live ≤ maxLoops
     few-loops =
         let e : f′ .loops .live ≡ length (M′ .loops) =
-        stands-live maxPlaces (f′ .loops) m′ (ringsIn maxPlaces (f′ .loops) m′) (k .stands)
-        ∙ sym (ap length (k .loops) ∙ named-lives (verticesOf maxPlaces m′) (ringsIn maxPlaces (f′ .loops) m′)) in
+        stands-live maxPlaces (f′ .loops) (h .memory) (ringsIn maxPlaces (f′ .loops) (h .memory)) (k .stands)
+        ∙ sym (ap length (k .loops) ∙ named-lives (verticesOf maxPlaces (h .memory)) (ringsIn maxPlaces (f′ .loops) (h .memory))) in
         let g : M′ .stated .loops ≡ f .stated .loops = ap (λ (c : Counts). c .loops) stated-same in
         omega (arith, e, g, within-each M′ (x .counts) .loops, w .ready .loops)
 
-    left-links : (xs′ : List ℕ) → trianglesBuilt xs′ (f′ .built) ≡ M′ .triangles → linksFit (builderOf f′ m′) (records maxPlaces m′) ≡ true
-    left-links xs′ t = closes f′ m′ xs′ M′ k few-loops (x .below) t .links
-
-    leaves : (xs′ : List ℕ) → length xs′ ≡ length xs → trianglesBuilt xs′ (f′ .built) ≡ M′ .triangles
-        → allBelow (M′ .used) (take (3 * f′ .built) xs′) ≡ true → Leaves r₀ xs′ M′ (builderOf f′ m′) (lent xs′ maxPlaces m′)
-    leaves xs′ l t a =
-        let b′ : Builder = builderOf f′ m′ in
-        let c = closes f′ m′ xs′ M′ k few-loops (x .below) t in
+    written : (touched : List ℕ) → Tidy maxPlaces (f .loops) m o h touched → (xs′ : List ℕ) → length xs′ ≡ length xs
+        → trianglesBuilt xs′ (f′ .built) ≡ M′ .triangles → allBelow (M′ .used) (take (3 * f′ .built) xs′) ≡ true
+        → Written b o (records maxPlaces m) xs′ M′ (builderOf f′ (h .memory)) xs′ (records maxPlaces (h .memory)) touched (leavers maxPlaces (f .loops) h)
+    written touched t xs′ l tr a =
+        let b′ : Builder = builderOf f′ (h .memory) in
+        let c = closes f′ (h .memory) xs′ M′ k few-loops (x .below) tr in
         let z = within-each M′ (x .counts) in
         let s₁ : M′ .stated .places ≡ M .stated .places = ap (λ (c : Counts). c .places) (x .stated) in
         let s₂ : M′ .stated .loops ≡ M .stated .loops = ap (λ (c : Counts). c .loops) (x .stated) in
         let s₃ : b′ .stated .triangles ≡ f .stated .triangles = ap (λ (c : Counts). c .triangles) (c .stated ∙ sym (k .stated) ∙ stated-same) in
         let u : M′ .used ≡ b′ .used = k .used ∙ sym (c .used) in
         let v : f′ .built ≡ b′ .built = sym (c .built) in
+        let s : Loops = f .loops in
+        let after = c .rings ∙ ap (λ (l : Loops). ringsIn maxPlaces l (h .memory)) same-loops in
         record {
           triangles = refl;
+          machine = c .machine;
           passes =
-              closes-sound f′ m′ xs′ M′ b′ c (ap inRange (x .stated) ∙ ranges .stated) (x .counts) (omega (arith, x .places, s₁, ranges .places, z .places))
+              closes-sound f′ (h .memory) xs′ M′ b′ c (ap inRange (x .stated) ∙ ranges .stated) (x .counts) (omega (arith, x .places, s₁, ranges .places, z .places))
               (omega (arith, x .loops, s₂, ranges .loops, z .loops)) (omega (arith, s₃, room, l))
               (ap₂ (λ (y i : ℕ). allBelow y (take (3 * i) xs′)) (sym u) (sym v) ∙ a);
-          machine = c .machine;
-          long = length-records maxPlaces m′ ∙ sym (length-records maxPlaces m);
-          beyond = no-more m′ ∙ sym (no-more m);
+          taken = takenBy maxPlaces s m o;
+          unused = unused b b′ s m o h touched (w .ready .stands) t (w .rings) after;
+          rings = rings-are b b′ s m o h touched (w .ready .stands) t (w .rings) after;
+          stays = stays b b′ s m o h touched (w .ready .stands) t (w .rings) after;
+          idle = idle b b′ s m o h touched (w .ready .stands) t (w .rings) after;
+          others = others b b′ s m o h touched (w .ready .stands) t (w .rings) after;
+          near = near b b′ s m o h touched (w .ready .stands) t (w .rings) after;
+          left = left b b′ s m o h touched (w .ready .stands) t (w .rings) after;
+          gone = gone b b′ s m o h touched (w .ready .stands) t (w .rings) after;
+          current-past = c .currents-past;
+          sizes-past = c .sizes-past;
         }
-      where
-        no-more : (m₁ : List ℕ) → _≡_ {A = List Place} (drop maxPlaces (records maxPlaces m₁)) []
-        no-more m₁ =
-            let l : length (records maxPlaces m₁) ≤ maxPlaces = omega (arith, length-records maxPlaces m₁) in
-            drop-of-length-le (records maxPlaces m₁) l
+
+    -- with the notes of what was touched
+    accepts : (touched : List ℕ) → Tidy maxPlaces (f .loops) m o h touched → length touched ≤ 5 → (xs′ : List ℕ) → length xs′ ≡ length xs
+        → trianglesBuilt xs′ (f′ .built) ≡ M′ .triangles → allBelow (M′ .used) (take (3 * f′ .built) xs′) ≡ true → 5328 ≤ length (h .memory)
+        → Accepts b o xs′ m maxPlaces M′ (builderOf f′ (h .memory)) xs′ (noted (h .memory) (listed touched) (f .loops .free) (h .loops .free))
+    accepts touched t few xs′ l tr a long₁ =
+        let n₁ : List ℕ = h .memory in
+        let k₀ : ℕ = f .loops .free in
+        let k₁ : ℕ = h .loops .free in
+        let m″ : List ℕ = noted n₁ (listed touched) k₀ k₁ in
+        let z : (i : ℕ) → i < 4 * maxPlaces → at m″ i ≡ at n₁ i = λ i j. noted-before n₁ (listed touched) k₀ k₁ i (omega (arith, j)) in
+        let lo : k₀ ≤ maxPlaces = omega (arith, places-room maxPlaces (f .loops) m (ringsIn maxPlaces (f .loops) m) (w .ready .stands)) in
+        let hi : k₁ ≤ maxPlaces =
+        subst (λ (q : Loops). q .free ≤ maxPlaces) same-loops
+        (omega (arith, places-room maxPlaces (f′ .loops) n₁ (ringsIn maxPlaces (f′ .loops) n₁) (k .stands))) in
+        record {
+          whole = refl;
+          noted = record {
+            few = omega (arith, few, noted-count n₁ (listed touched) k₀ k₁ long₁);
+            low = omega (arith, hi, noted-end n₁ (listed touched) k₀ k₁ long₁);
+          };
+          written =
+              rewritten b o (records maxPlaces m) xs′ M′ (builderOf f′ n₁) xs′ (records maxPlaces n₁) (records maxPlaces m″) touched (leavers maxPlaces (f .loops) h)
+              (toLink m″) (toFree m″) (sym (all-alike n₁ m″ z)) (λ i. noted-links n₁ k₀ k₁ long₁ i touched few)
+              (noted-frees n₁ (listed touched) k₀ k₁ long₁ lo hi) (written touched t xs′ l tr a);
+        }
 
   -- a planned triangle: t is what the edge rule says
   module _ (p : Plan) (e : decided maxPlaces f m o ≡ D.Builds p) (t : Bool)
@@ -208,9 +265,11 @@ module _ (b : Builder) (o : Operation) (xs m : List ℕ) (f : Front) (w : Open b
         ap (λ (n : ℕ). edgeRule (p .triangle) (sideOf (p .pq)) (sideOf (p .qr)) (sideOf (p .rp)) (trianglesBuilt xs n)) (sym built-same) ∙ sym i
 
     -- 18
-    pub rule-fails : not t ≡ true → (r : Performed) → r ≡ refusedWith b 18 → OperatesOn b o xs m maxPlaces r xs m
-    rule-fails h =
-        refuses b o xs m maxPlaces m 18 (goes-on ∙ rule-refused maxPlaces f m M o (w .keeps) ranges p e (rule-is ∙ not-true t h)) refl
+    pub rule-fails : not t ≡ true → 5328 ≤ length m → (m′ : List ℕ) → m′ ≡ unnoted m → (r : Performed) → r ≡ refusedWith b 18
+        → OperatesOn b o xs m maxPlaces r xs m′
+    rule-fails h l m′ em =
+        refuses b o xs m maxPlaces m′ 18 (goes-on ∙ rule-refused maxPlaces f m M o (w .keeps) ranges p e (rule-is ∙ not-true t h)) (nothing-linked m m′ l em)
+        (nothing-freed m m′ l em)
 
     module _ (h : not t ≡ false) where
       abbrev M₁ : Machine
@@ -232,10 +291,18 @@ module _ (b : Builder) (o : Operation) (xs m : List ℕ) (f : Front) (w : Open b
           let g : M₁ .stated .triangles ≡ f .stated .triangles = ap (λ (c : Counts). c .triangles) (grown .next .stated ∙ w .keeps .stated) in
           (omega (arith, l, g, w .keeps .triangles, room), omega (arith, l, g, w .keeps .triangles, w .ready .triangles))
 
+      abbrev h₁ : Held
+      h₁ = heldAfter maxPlaces f m o p
+
+      abbrev f₁ : Front
+      f₁ = builtFront maxPlaces f p (h₁ .loops)
+
+      same₁ : builtFront maxPlaces f p (heldAfter maxPlaces f m o p .loops) .loops ≡ heldAfter maxPlaces f m o p .loops
+      unfolding builtFront
+      same₁ = refl
+
       pub built-live : (f′ : Front) → f′ ≡ builtFront maxPlaces f p (heldAfter maxPlaces f m o p .loops) → f′ .loops .live ≤ maxLoops
-      built-live f′ ef =
-          subst (λ (y : Front). y .loops .live ≤ maxLoops) (sym ef)
-          (few-loops M₁ (grown .next) (builtFront maxPlaces f p (heldAfter maxPlaces f m o p .loops)) (heldAfter maxPlaces f m o p .memory) kept)
+      built-live f′ ef = subst (λ (y : Front). y .loops .live ≤ maxLoops) (sym ef) (few-loops M₁ (grown .next) f₁ h₁ same₁ kept)
 
       built-next : trianglesBuilt (withTriangle (b .built) (p .triangle) xs) (f .built + 1) ≡ M₁ .triangles
       unfolding view
@@ -245,46 +312,46 @@ module _ (b : Builder) (o : Operation) (xs m : List ℕ) (f : Front) (w : Open b
           let l : 3 * n + 3 ≤ length xs = omega (arith, write-room .0, built-same) in
           ap (trianglesBuilt (withTriangle n (p .triangle) xs)) s ∙ written-next xs n (p .triangle) l ∙ sym (grown .triangles)
 
-      built-links : linksFit (builderOf (builtFront maxPlaces f p (heldAfter maxPlaces f m o p .loops)) (heldAfter maxPlaces f m o p .memory))
-          (records maxPlaces (heldAfter maxPlaces f m o p .memory)) ≡ true
-      unfolding builtFront
-      built-links =
-          left-links M₁ (grown .next) (builtFront maxPlaces f p (heldAfter maxPlaces f m o p .loops)) (heldAfter maxPlaces f m o p .memory) kept
-          (withTriangle (b .built) (p .triangle) xs) built-next
-
-      built-leaves : Leaves r₀ (withTriangle (b .built) (p .triangle) xs) M₁
+      built-accepts : 5328 ≤ length m
+          → Accepts b o (withTriangle (b .built) (p .triangle) xs) m maxPlaces M₁
           (builderOf (builtFront maxPlaces f p (heldAfter maxPlaces f m o p .loops)) (heldAfter maxPlaces f m o p .memory))
-          (lent (withTriangle (b .built) (p .triangle) xs) maxPlaces (heldAfter maxPlaces f m o p .memory))
+          (withTriangle (b .built) (p .triangle) xs)
+          (noted (heldAfter maxPlaces f m o p .memory) (listed (touchedBy maxPlaces (f .loops) m o (p .place))) (f .loops .free)
+          (heldAfter maxPlaces f m o p .loops .free))
       unfolding builtFront view
-      built-leaves =
+      built-accepts big =
           let n = b .built in
           let s : f .built + 1 ≡ suc n = omega (arith, built-same) in
           let l : 3 * n + 3 ≤ length xs = omega (arith, write-room .0, built-same) in
           let ys : List ℕ = withTriangle n (p .triangle) xs in
-          leaves M₁ (grown .next) (builtFront maxPlaces f p (heldAfter maxPlaces f m o p .loops)) (heldAfter maxPlaces f m o p .memory) kept ys
-          (written-long xs n (p .triangle) l)
-          built-next
+          let u = decides-as maxPlaces f m M o (w .keeps) ranges (D.Builds p) e .unchanged .lengths in
+          accepts M₁ (grown .next) f₁ h₁ same₁ kept (touchedBy maxPlaces (f .loops) m o (p .place))
+          (built-tidy maxPlaces f m M o (w .keeps) ranges (w .ready) p e) (few-touched maxPlaces (f .loops) m o (p .place)) ys
+          (written-long xs n (p .triangle) l) built-next
           (ap (λ (k : ℕ). allBelow (M₁ .used) (take (3 * k) ys)) s
           ∙ written-below xs n (p .triangle) l (b .used) (M₁ .used) (grown .next .more) (parts b r₀ (w .passes) .triangles) (grown .corners))
+          (omega (arith, big, u))
 
-      pub triangle-built : (f′ : Front) → f′ ≡ builtFront maxPlaces f p (heldAfter maxPlaces f m o p .loops) → (xs′ : List ℕ)
-          → xs′ ≡ withTriangle (f .built) (p .triangle) xs → (m′ : List ℕ) → m′ ≡ heldAfter maxPlaces f m o p .memory → (b′ : Builder)
-          → b′ ≡ builderOf f′ m′ → OperatesOn b o xs m maxPlaces (builtWith b′ (p .triangle)) xs′ m′
-      triangle-built f′ ef xs′ ex m′ em b′ eb =
+      pub triangle-built : 5328 ≤ length m → (f′ : Front) → f′ ≡ builtFront maxPlaces f p (heldAfter maxPlaces f m o p .loops) → (xs′ : List ℕ)
+          → xs′ ≡ withTriangle (f .built) (p .triangle) xs → (m₁ : List ℕ) → m₁ ≡ heldAfter maxPlaces f m o p .memory → (b′ : Builder)
+          → b′ ≡ builderOf f′ m₁ → (t : Touched) → t ≡ listed (touchedBy maxPlaces (f .loops) m o (p .place)) → (m′ : List ℕ)
+          → m′ ≡ noted m₁ t (f .loops .free) (f′ .loops .free) → OperatesOn b o xs m maxPlaces (builtWith b′ (p .triangle)) xs′ m′
+      triangle-built big f′ ef xs′ ex m₁ em b′ eb t et m′ en =
           let y : operates b r₀ o ≡ built (p .triangle) M₁ = goes-on ∙ builds-it in
-          let c : b′ ≡ builderOf (builtFront maxPlaces f p (heldAfter maxPlaces f m o p .loops)) (heldAfter maxPlaces f m o p .memory) = eb ∙ ap₂ builderOf ef em in
-          let g : lent xs′ maxPlaces m′ ≡ lent (withTriangle (b .built) (p .triangle) xs) maxPlaces (heldAfter maxPlaces f m o p .memory) =
-          ap₂ (λ (zs m₁ : List ℕ). lent zs maxPlaces m₁) (ex ∙ ap (λ (n : ℕ). withTriangle n (p .triangle) xs) built-same) em in
+          let ys : List ℕ = withTriangle (b .built) (p .triangle) xs in
+          let c : b′ ≡ builderOf f₁ (h₁ .memory) = eb ∙ ap₂ builderOf ef em in
+          let g : xs′ ≡ ys = ex ∙ ap (λ (n : ℕ). withTriangle n (p .triangle) xs) built-same in
+          let T : Touched = listed (touchedBy maxPlaces (f .loops) m o (p .place)) in
+          let q : f′ .loops .free ≡ h₁ .loops .free = ap (λ (z : Front). z .loops .free) ef ∙ ap (λ (z : Loops). z .free) same₁ in
+          let r : m′ ≡ noted (h₁ .memory) T (f .loops .free) (h₁ .loops .free) =
+          en ∙ ap₂ (λ (z : List ℕ) (v : Touched). noted z v (f .loops .free) (f′ .loops .free)) em et ∙ ap (noted (h₁ .memory) T (f .loops .free)) q in
           record {
-            kept = record {
-              answer = sym (ap answerOf y);
-              after =
-                  subst (λ (z : Step). OperatedBy b r₀ z b′ (lent xs′ maxPlaces m′)) (sym y)
-                  (subst (λ (r : Buffers). Leaves r₀ (withTriangle (b .built) (p .triangle) xs) M₁ b′ r) (sym g)
-                  (subst (λ (b₁ : Builder). Leaves r₀ (withTriangle (b .built) (p .triangle) xs) M₁ b₁
-                  (lent (withTriangle (b .built) (p .triangle) xs) maxPlaces (heldAfter maxPlaces f m o p .memory))) (sym c) built-leaves));
-            };
-            links = λ h₁. ap₂ (λ (b₁ : Builder) (m₁ : List ℕ). linksFit b₁ (records maxPlaces m₁)) c em ∙ built-links;
+            answer = sym (ap answerOf y);
+            after =
+                subst (λ (z : Step). Done b o xs m maxPlaces z b′ xs′ m′) (sym y)
+                (subst (λ (z : Builder). Accepts b o ys m maxPlaces M₁ z xs′ m′) (sym c)
+                (subst (λ (z : List ℕ). Accepts b o ys m maxPlaces M₁ (builderOf f₁ (h₁ .memory)) z m′) (sym g)
+                (subst (λ (z : List ℕ). Accepts b o ys m maxPlaces M₁ (builderOf f₁ (h₁ .memory)) ys z) (sym r) (built-accepts big))));
           }
 
   -- an edge to be marked as border
@@ -295,8 +362,15 @@ module _ (b : Builder) (o : Operation) (xs m : List ℕ) (f : Front) (w : Open b
     abbrev f₂ : Front
     f₂ = markedFront maxPlaces f (markedHeld maxPlaces (f .loops) m .loops)
 
+    abbrev h₂ : Held
+    h₂ = markedHeld maxPlaces (f .loops) m
+
     abbrev m₂ : List ℕ
     m₂ = markedHeld maxPlaces (f .loops) m .memory
+
+    same₂ : markedFront maxPlaces f (markedHeld maxPlaces (f .loops) m .loops) .loops ≡ markedHeld maxPlaces (f .loops) m .loops
+    unfolding markedFront
+    same₂ = refl
 
     pub mark-live : f .loops .live ≡ 0 → ⊥
     mark-live = marks-live maxPlaces f m o x y (sym i ∙ e)
@@ -311,32 +385,32 @@ module _ (b : Builder) (o : Operation) (xs m : List ℕ) (f : Front) (w : Open b
     kept-it = marked-keeps maxPlaces f m M o (w .keeps) ranges x y (sym i ∙ e)
 
     pub marked-live : f₂ .loops .live ≤ maxLoops
-    marked-live = few-loops M₂ (follows-it .next) f₂ m₂ kept-it
+    marked-live = few-loops M₂ (follows-it .next) f₂ h₂ same₂ kept-it
 
     marked-next : trianglesBuilt xs (f .built) ≡ M₂ .triangles
     unfolding view
     marked-next = ap (trianglesBuilt xs) built-same ∙ sym (follows-it .triangles)
 
-    marked-links : linksFit (builderOf f₂ m₂) (records maxPlaces m₂) ≡ true
-    unfolding markedFront
-    marked-links = left-links M₂ (follows-it .next) f₂ m₂ kept-it xs marked-next
-
-    marked-leaves : Leaves r₀ xs M₂ (builderOf f₂ m₂) (lent xs maxPlaces m₂)
+    marked-accepts : 5328 ≤ length m
+        → Accepts b o xs m maxPlaces M₂ (builderOf f₂ m₂) xs (noted m₂ (listed (touchedBy maxPlaces (f .loops) m Border 0)) (f .loops .free) (h₂ .loops .free))
     unfolding markedFront view
-    marked-leaves =
-        leaves M₂ (follows-it .next) f₂ m₂ kept-it xs refl marked-next
+    marked-accepts big =
+        let u = decides-as maxPlaces f m M o (w .keeps) ranges (D.Marks x y) (sym i ∙ e) .unchanged .lengths in
+        accepts M₂ (follows-it .next) f₂ h₂ same₂ kept-it (touchedBy maxPlaces (f .loops) m Border 0)
+        (marked-tidy maxPlaces f m M o (w .keeps) ranges (w .ready) x y (sym i ∙ e)) (few-touched maxPlaces (f .loops) m Border 0) xs refl marked-next
         (ap (λ (k : ℕ). allBelow (M₂ .used) (take (3 * k) xs)) built-same
         ∙ below-more (b .used) (M₂ .used) (follows-it .next .more) (take (3 * b .built) xs) (parts b r₀ (w .passes) .triangles))
+        (omega (arith, big, u))
 
-    pub edge-marked : (r : Performed) (m′ : List ℕ) → m′ ≡ m₂ → r ≡ markedWith (builderOf f₂ m₂) → OperatesOn b o xs m maxPlaces r xs m′
-    edge-marked r m′ em er =
+    pub edge-marked : 5328 ≤ length m → (r : Performed) (m′ : List ℕ)
+        → m′ ≡ noted m₂ (listed (touchedBy maxPlaces (f .loops) m Border 0)) (f .loops .free) (h₂ .loops .free) → r ≡ markedWith (builderOf f₂ m₂)
+        → OperatesOn b o xs m maxPlaces r xs m′
+    edge-marked big r m′ em er =
         let z : operates b r₀ o ≡ declared (edge x y) M₂ = goes-on ∙ declares-it in
         subst (λ (q : Performed). OperatesOn b o xs m maxPlaces q xs m′) (sym er)
-        (subst (λ (m₁ : List ℕ). OperatesOn b o xs m maxPlaces (markedWith (builderOf f₂ m₂)) xs m₁) (sym em)
         (record {
-          kept = record {
-            answer = sym (ap answerOf z);
-            after = subst (λ (s : Step). OperatedBy b r₀ s (builderOf f₂ m₂) (lent xs maxPlaces m₂)) (sym z) marked-leaves;
-          };
-          links = λ h. marked-links;
-        }))
+          answer = sym (ap answerOf z);
+          after =
+              subst (λ (s : Step). Done b o xs m maxPlaces s (builderOf f₂ m₂) xs m′) (sym z)
+              (subst (λ (m₁ : List ℕ). Accepts b o xs m maxPlaces M₂ (builderOf f₂ m₂) xs m₁) (sym em) (marked-accepts big));
+        })

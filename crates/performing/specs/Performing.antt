@@ -1,26 +1,86 @@
 -- What the core of the building operation promises, over the first n records of the plain memory.
 -- Assumes nothing.
-use Prim.Native.Nat.{ℕ}
+use Prim.Native.Nat.{ℕ, _-_, _≤_, _<_}
 use mathlib.Core.Bool.{true}
-use mathlib.Core.List.{List}
+use mathlib.Core.List.{List, []}
 use mathlib.Core.Path.{_≡_}
+use lib.ListN.{drop, replicate}
 use Rattle.rules.specs.declared.Operation.{Operation}
+use Rattle.rules.specs.declared.Place.{Place}
 use Rattle.rules.specs.declared.Triangle.{Triangle}
 use Rattle.rules.specs.declared.Builder.{Builder}
 use Rattle.rules.specs.declared.Operated.the-variants.{Built, Marked, Refused}
 use Rattle.rules.specs.declared.Performed.{Performed}
-use Rattle.rules.specs.Limits.{maxPlaces}
-use Rattle.rules.specs.Test21.{linksFit, sound}
-use Rattle.building.specs.Promised.{Operating}
+use Rattle.rules.specs.Limits.{maxPlaces, maxLoops}
+use Rattle.rules.specs.Count.{occurs}
+use Rattle.rules.specs.Ring.{Ring}
+use Rattle.rules.specs.Places.{ringsAfter}
+use Rattle.rules.specs.Machine.{Machine, Step, refused, begun, built, declared, finished}
+use Rattle.rules.specs.Answer.{operatedAnswer}
+use Rattle.rules.specs.Book.{answerOf}
+use Rattle.rules.specs.Buffer.{Buffers}
+use Rattle.rules.specs.View.{placeAt, placeRings}
+use Rattle.rules.specs.Test21.{soundElse}
+use Rattle.rules.specs.Build.{viewed, operates, withTriangle}
+use Rattle.links.specs.Memory.{placed}
 use Rattle.places.specs.Memory.{records}
+use Rattle.places.specs.Noted.{toLink, toFree}
 use Rattle.memory.specs.declared.Front.{Front}
+use Rattle.memory.specs.Layout.{at}
 use Rattle.reading.specs.Reading.{lent, Passes}
 
--- The promise of the public call, with the records in place of the lent list. And of a state that passed 21 the links after it pass
--- too, so that the state is read alike off a list that goes on after these records.
+-- a state's loops as rings of places
+abbrev pub ringsOf : Builder → List Place → List Ring
+ringsOf b ps = placeRings b ps (b .live)
+
+-- What an accepted operation leaves in the core: the records ps have become qs, of which the operation wrote those `linked`, and the places
+-- `freed` have left their loops. Written back so, the list holds what 01 settles.
+pub record Written (b : Builder) (o : Operation) (ps : List Place) (xs : List ℕ) (M : Machine) (b′ : Builder) (xs′ : List ℕ) (qs : List Place)
+    (linked freed : List ℕ) : Type 0 where
+  pub triangles : xs′ ≡ xs
+  pub machine : viewed b′ (record { triangles = xs′; places = qs }) ≡ M
+  pub passes : soundElse b′ (record { triangles = xs′; places = qs }) ≡ true
+  pub taken : List ℕ
+  pub unused : (i : ℕ) → 1 ≤ occurs i taken → (i < maxPlaces) × (placed i (ringsOf b ps) ≡ 0)
+  pub rings : ringsOf b′ qs ≡ ringsAfter o taken (ringsOf b ps)
+  pub stays : (i : ℕ) → 1 ≤ placed i (ringsOf b ps) → placeAt qs i .vertex ≡ placeAt ps i .vertex
+  pub idle : (i : ℕ) → placed i (ringsOf b ps) ≡ 0 → placed i (ringsOf b′ qs) ≡ 0 → placeAt qs i ≡ placeAt ps i
+  pub others : (i : ℕ) → occurs i linked ≡ 0 → placeAt qs i ≡ placeAt ps i
+  pub near : (i : ℕ) → 1 ≤ occurs i linked → i < maxPlaces
+  -- a place is freed exactly if it was in a loop and is in none
+  pub left : (i : ℕ) → 1 ≤ occurs i freed → (1 ≤ placed i (ringsOf b ps)) × (placed i (ringsOf b′ qs) ≡ 0)
+  pub gone : (i : ℕ) → 1 ≤ placed i (ringsOf b ps) → placed i (ringsOf b′ qs) ≡ 0 → 1 ≤ occurs i freed
+  pub current-past : drop (b′ .live) (b′ .current) ≡ replicate (maxLoops - b′ .live) 0
+  pub sizes-past : drop (b′ .live) (b′ .sizes) ≡ replicate (maxLoops - b′ .live) 0
+
+-- the notes are those of a write-back that stays within the memory
+pub record Noted (m : List ℕ) : Type 0 where
+  pub few : at m 5320 ≤ 5
+  pub low : at m 5327 ≤ maxPlaces
+
+-- all 1,024 records are there, and they are written so
+pub record Accepts (b : Builder) (o : Operation) (xs m : List ℕ) (n : ℕ) (M : Machine) (b′ : Builder) (xs′ m′ : List ℕ) : Type 0 where
+  pub whole : n ≡ maxPlaces
+  pub noted : Noted m′
+  pub written : Written b o (records maxPlaces m) xs M b′ xs′ (records maxPlaces m′) (toLink m′) (toFree m′)
+
+-- a refusal gives the state back, leaves the triangle buffer and notes nothing
+pub record Refuses (b : Builder) (xs : List ℕ) (b′ : Builder) (xs′ m′ : List ℕ) : Type 0 where
+  pub state : b′ ≡ b
+  pub triangles : xs′ ≡ xs
+  pub links : at m′ 5320 ≡ 0
+  pub frees : at m′ 5327 ≡ 0
+
+abbrev pub Done : Builder → Operation → List ℕ → List ℕ → ℕ → Step → Builder → List ℕ → List ℕ → Type 0
+Done b o xs m n (refused k) b′ xs′ m′ = Refuses b xs b′ xs′ m′
+Done b o xs m n (begun M) b′ xs′ m′ = ⊥
+Done b o xs m n (built t M) b′ xs′ m′ = Accepts b o (withTriangle (b .built) t xs) m n M b′ xs′ m′
+Done b o xs m n (declared d M) b′ xs′ m′ = Accepts b o xs m n M b′ xs′ m′
+Done b o xs m n (finished x) b′ xs′ m′ = ⊥
+
 pub record OperatesOn (b : Builder) (o : Operation) (xs m : List ℕ) (n : ℕ) (r : Performed) (xs′ m′ : List ℕ) : Type 0 where
-  pub kept : Operating b o xs (records n m) r xs′ (records n m′)
-  pub links : sound b (lent xs n m) ≡ true → linksFit (r .state) (records n m′) ≡ true
+  pub answer : operatedAnswer (r .answer) ≡ answerOf (operates b (lent xs n m) o)
+  pub after : Done b o xs m n (operates b (lent xs n m) o) (r .state) xs′ m′
 
 -- the state b has passed 21, and f and m are the core's way of having it
 abbrev pub Open : Builder → List ℕ → List ℕ → Front → Type 0

@@ -6,7 +6,7 @@ use mathlib.Core.Bool.{Bool, true, false}
 use mathlib.Core.List.{List, [], _∷_, _++_}
 use mathlib.Core.Path.{_≡_, refl, sym, ap, _∙_, subst}
 use lib.Dec.{ltb}
-use lib.ListN.{getD, List·getD-append}
+use lib.ListN.{length, getD, List·getD-append}
 use lib.Seq.{getD-at}
 use borrow.Author.Tests.{ltb-true, ltb-false}
 use Rattle.rules.specs.declared.Place.{Place}
@@ -31,6 +31,15 @@ pub records-at : (n : ℕ) (m : List ℕ) (i : ℕ) → i < n → placeAt (recor
 unfolding records
 records-at zero m i h = absurd (omega (arith, h))
 records-at (suc k) m i h = at-by k m i (λ l. records-at k m i l) h (ltb i k) refl
+
+-- a record beyond them
+pub past-end : (ps : List Place) (i : ℕ) → length ps ≤ i → freePlace ≡ placeAt ps i
+past-end [] i h = refl
+past-end (p ∷ ps) zero h = absurd (omega arith)
+past-end (p ∷ ps) (suc i) h = past-end ps i (omega arith)
+
+pub place-none : (m : List ℕ) (i : ℕ) → maxPlaces ≤ i → freePlace ≡ placeAt (records maxPlaces m) i
+place-none m i h = past-end (records maxPlaces m) i (omega (arith, h, length-records maxPlaces m))
 
 -- a memory with the same records
 record-alike : (m m′ : List ℕ) → SameRecords m m′ → (i : ℕ) → i < maxPlaces → recordAt m′ i ≡ recordAt m i

@@ -1,4 +1,4 @@
--- A state that the core's is given back as passes 21, if the machine's counts are within those stated.
+-- A state that the core's is given back as passes 21 but for its sums, if the machine's counts are within those stated.
 -- Assumes nothing.
 use Prim.Native.Nat.{ℕ, zero, suc, _*_, _≤_}
 use native.Mathlib.Omega.{arith}
@@ -14,7 +14,7 @@ use Rattle.rules.specs.Ring.{places}
 use Rattle.rules.specs.Machine.{Machine, within, longEnough}
 use Rattle.rules.specs.Buffer.{lengths}
 use Rattle.rules.specs.View.{trianglesBuilt, view}
-use Rattle.rules.specs.Test21.{sizesOf, countsFit, sumsFit, trianglesFit, sound}
+use Rattle.rules.specs.Test21.{sizesOf, countsFit, trianglesFit, soundElse}
 use Rattle.book.proofs.Counting.{and-left, and-right}
 use Rattle.places.specs.Memory.{records}
 use Rattle.places.proofs.Reading.{length-records}
@@ -73,10 +73,9 @@ closes-counts f m xs M b c r w p l =
 
 pub closes-sound : (f : Front) (m xs : List ℕ) (M : Machine) (b : Builder) → Closes f m xs M b → inRange (M .stated) ≡ true → within M ≡ true
     → M .mostPlaces ≤ M .stated .places → M .mostLoops ≤ M .stated .loops → 3 * b .stated .triangles ≤ length xs → trianglesFit b xs ≡ true
-    → sumsFit b ≡ true → sound b (lent xs maxPlaces m) ≡ true
-unfolding sound
-closes-sound f m xs M b c r w p l long t s =
-    both _ _ (both _ _ (both _ _ (both _ _ enough (closes-counts f m xs M b c r w p l)) s) (c .links)) t
+    → soundElse b (lent xs maxPlaces m) ≡ true
+unfolding soundElse
+closes-sound f m xs M b c r w p l long t = both _ _ (both _ _ (both _ _ enough (closes-counts f m xs M b c r w p l)) (c .links)) t
   where
     enough : longEnough (lengths (lent xs maxPlaces m)) (b .stated) ≡ true
     enough =

@@ -1,7 +1,8 @@
 -- `opener::marks::place_at` meets its contract: a record, or none.
 -- Assumes nothing.
 use borrow.Author.Needs.{needs}
-use Rattle.opening.proofs.Walking.{place-record, place-none}
+use Rattle.reading.proofs.Records.{place-none}
+use Rattle.opening.proofs.Walking.{place-record}
 use Rattle.opener.proofs.marks.place_at.Statement.{statement}
 use Rattle.opener.proofs.marks.place_at.Tie as tie
 
