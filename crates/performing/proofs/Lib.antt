@@ -4,3 +4,5 @@ pub mod After
 pub mod Noting
 pub mod Leaving
 pub mod Operating
+pub mod Back
+pub mod Lifting
