@@ -13,8 +13,8 @@ ghost use Rattle.places.specs.Memory.{numberOf, isOne, storedAt, recordA
 // All loops together have at most so many places.
 pub const PLACES: usize = Builder::MAX_PLACES;
 
-// How many numbers the core's plain memory has: four for each of 1,024 records, then 1,224 that are the core's own.
-pub const NUMBERS: usize = 5320;
+// How many numbers the core's plain memory has: four for each of 1,024 records, then 1,224 that are the core's own, then eight notes.
+pub const NUMBERS: usize = 5328;
 
 // The core's plain memory.
 pub type Memory = [u16; NUMBERS];
