@@ -8,6 +8,10 @@ use edges::edge_rule;
 use memory::Decided;
 use memory::Front;
 use memory::Plan;
+use notes::by_border;
+use notes::note;
+use notes::note_nothing;
+use notes::touched;
 use opener::open;
 use places::Memory;
 use places::PLACES;
@@ -27,13 +31,13 @@ ghost use Rattle.memory.specs.Layout.{openOf};
 ghost use Rattle.memory.specs.Moves.{markedHeld};
 ghost use Rattle.memory.specs.Decision.{decided, markedFront};
 ghost use Rattle.memory.specs.Keeps.{Ready};
-ghost use Rattle.reading.specs.Closing.{builderOf};
-ghost use Rattle.performing.specs.Performing.{OperatesOn, Open, refusedWith, markedWith};
+ghost use Rattle.performing.specs.Performing.{OperatesOn, Open, RefusedIn, MarkedIn};
 
-// A refusal, with the state as it was.
-fn refuse(state: Builder, k: u8) -> Performed
-    ensures { λ r. ⌜ r ≡ refusedWith state k ⌝ }
+// A refusal, with the state as it was; nothing was touched.
+fn refuse(m: &mut Memory, state: Builder, k: u8) -> Performed
+    ensures { λ r. ⌜ RefusedIn (now (m .entry)) state k r (now (m .exit)) ⌝ }
 {
+    note_nothing(m);
     Performed {
         state,
         answer: Operated::Refused(k),
@@ -64,13 +68,18 @@ fn build_triangle(
     ensures { λ r. ⌜ OperatesOn state o (now (triangles .entry)) (now (m .entry)) maxPlaces r (now (triangles .exit)) (now (m .exit)) ⌝ }
 {
     if !edge_rule(triangles, f.built, p) {
-        return refuse(state, 18);
+        return refuse(m, state, 18);
     }
     let t = p.triangle;
+    let old = f.loops;
+    let places = touched(m, PLACES, old, o, p.place);
     put_triangle(triangles, f.built as usize, t);
     let built = build(m, PLACES, f, o, p);
+    let new = built.loops;
+    let after = close(built, m);
+    note(m, places, old.free, new.free);
     Performed {
-        state: close(built, m),
+        state: after,
         answer: Operated::Built(t),
     }
 }
@@ -78,12 +87,16 @@ fn build_triangle(
 // Marks the current edge as border.
 fn mark_border(f: Front, m: &mut Memory) -> Performed
     requires { ⌜ Ready maxPlaces f (now m) × ((f .loops .live ≡ 0 → ⊥) × (markedFront maxPlaces f (markedHeld maxPlaces (f .loops) (now m) .loops) .loops .live ≤ maxLoops)) ⌝ }
-    ensures state { λ r. ⌜ r ≡ markedWith (builderOf (markedFront maxPlaces f (markedHeld maxPlaces (f .loops) (now (m .entry)) .loops)) (markedHeld maxPlaces (f .loops) (now (m .entry)) .memory)) ⌝ }
-    ensures memory { λ _. ⌜ now (m .exit) ≡ markedHeld maxPlaces (f .loops) (now (m .entry)) .memory ⌝ }
+    ensures { λ r. ⌜ MarkedIn f (now (m .entry)) r (now (m .exit)) ⌝ }
 {
+    let old = f.loops;
+    let places = by_border(m, PLACES, old);
     let marked = mark(m, PLACES, f);
+    let new = marked.loops;
+    let after = close(marked, m);
+    note(m, places, old.free, new.free);
     Performed {
-        state: close(marked, m),
+        state: after,
         answer: Operated::Marked,
     }
 }
@@ -101,7 +114,7 @@ fn operate(
 {
     let d = decide(m, PLACES, f, o);
     match d {
-        Decided::Refused(k) => refuse(state, k),
+        Decided::Refused(k) => refuse(m, state, k),
         Decided::Builds(p) => build_triangle(state, o, f, p, triangles, m),
         Decided::Marks(_, _) => mark_border(f, m),
     }
@@ -121,7 +134,7 @@ pub fn operation_on(
 {
     let opened = open(state, triangles, m, n);
     let Opened::Passed(f) = opened else {
-        return refuse(state, 21);
+        return refuse(m, state, 21);
     };
     operate(state, op, f, triangles, m)
 }

@@ -9,6 +9,7 @@ use Rattle.rules.specs.declared.Operation.{Operation}
 use Rattle.rules.specs.declared.Place.{Place}
 use Rattle.rules.specs.declared.Triangle.{Triangle}
 use Rattle.rules.specs.declared.Builder.{Builder}
+use Rattle.rules.specs.declared.Operation.the-variants.{Border}
 use Rattle.rules.specs.declared.Operated.the-variants.{Built, Marked, Refused}
 use Rattle.rules.specs.declared.Performed.{Performed}
 use Rattle.rules.specs.Limits.{maxPlaces, maxLoops}
@@ -27,6 +28,10 @@ use Rattle.places.specs.Memory.{records}
 use Rattle.places.specs.Noted.{toLink, toFree}
 use Rattle.memory.specs.declared.Front.{Front}
 use Rattle.memory.specs.Layout.{at}
+use Rattle.memory.specs.Moves.{markedHeld}
+use Rattle.memory.specs.Decision.{markedFront}
+use Rattle.memory.specs.Touched.{touchedBy, listed, noted}
+use Rattle.reading.specs.Closing.{builderOf}
 use Rattle.reading.specs.Reading.{lent, Passes}
 
 -- a state's loops as rings of places
@@ -95,3 +100,14 @@ builtWith b t = record { state = b; answer = Built t }
 
 abbrev pub markedWith : Builder → Performed
 markedWith b = record { state = b; answer = Marked }
+
+-- a refusal notes nothing
+abbrev pub RefusedIn : List ℕ → Builder → ℕ → Performed → List ℕ → Type 0
+RefusedIn m b k r m′ = (r ≡ refusedWith b k) × (m′ ≡ noted m (listed []) 0 0)
+
+-- the edge is marked: the state after it, and the note of what that touched
+abbrev pub MarkedIn : Front → List ℕ → Performed → List ℕ → Type 0
+MarkedIn f m r m′ =
+    let h = markedHeld maxPlaces (f .loops) m in
+    (r ≡ markedWith (builderOf (markedFront maxPlaces f (h .loops)) (h .memory)))
+    × (m′ ≡ noted (h .memory) (listed (touchedBy maxPlaces (f .loops) m Border 0)) (f .loops .free) (h .loops .free))
