@@ -130,14 +130,24 @@ module _ {xs cs : List ℕ} {x y : ℕ} where
       let a = w n h in
       at-more c d a l (λ q. f (ap (λ (i : ℕ). getD xs i 0) e ∙ q)) (o .older xs (3 * n) h (omega (arith, a .bound)))
 
-  pub walk-found : (c k : ℕ) (r : Across) → Walks xs cs x y c → 0 < c → k ≡ cornerAfter (c - 1) → getD xs k 0 ≡ y
+  pub walk-found : (c k : ℕ) (r : Across) → (x ≡ y → ⊥) → Walks xs cs x y c → 0 < c → k ≡ cornerAfter (c - 1) → getD xs k 0 ≡ y
       → r ≡ seenFrom xs (c - 1)
       → Finds xs cs x y r
-  walk-found c k r w l e f g n h d =
-      g ∙ at-found c (w n h) l (ap (λ (i : ℕ). getD xs i 0) (sym e) ∙ f) ∙ with-across x y d xs n (h .within)
+  walk-found c k r differ w l e f g = record {
+    itself = λ s. absurd (differ s);
+    found =
+        λ n h d.
+        g ∙ at-found c (w n h) l (ap (λ (i : ℕ). getD xs i 0) (sym e) ∙ f) ∙ with-across x y d xs n (h .within);
+  }
 
   pub walk-none : (c : ℕ) → Walks xs cs x y c → c ≤ 0 → Finds xs cs x y Nothing
-  walk-none c w l n h d = at-none c (w n h) l ∙ with-across x y d xs n (h .within)
+  walk-none c w l = record {
+    itself = λ s. refl;
+    found = λ n h d. at-none c (w n h) l ∙ with-across x y d xs n (h .within);
+  }
+
+  pub finds-itself : x ≡ y → Finds xs cs x y Nothing
+  finds-itself s = record { itself = λ t. refl; found = λ n h d. absurd (d s) }
 
 -- the chains of a whole list
 pub linked-first : (xs cs : List ℕ) → Linked xs cs → firstTriangles (length xs / 3) xs ≡ trianglesOf xs
@@ -145,4 +155,4 @@ linked-first xs cs k = first-all (length xs / 3) xs (k .sound .long)
 
 pub linked-found : (xs cs : List ℕ) → Linked xs cs → (x y : ℕ) (r : Across) → Finds xs cs x y r → (x ≡ y → ⊥)
     → r ≡ across x y (trianglesOf xs)
-linked-found xs cs k x y r f d = f (length xs / 3) (k .chains) d ∙ ap (across x y) (linked-first xs cs k)
+linked-found xs cs k x y r f d = f .found (length xs / 3) (k .chains) d ∙ ap (across x y) (linked-first xs cs k)

@@ -28,14 +28,14 @@ module _ (xs cs : List ℕ) (x y : ℕ) (r : Across) (finds : Finds xs cs x y r)
   unfolding isFree
   free-found n k z e m h d =
       let ts = firstTriangles m xs in
-      let q = sym (finds m h d) ∙ e in
+      let q = sym (finds .found m h d) ∙ e in
       sym (ne-eqb (uses x y ts) 0 (λ u. omega (arith, in-uses (found-in ts (across-found x y ts n k z q)))))
 
   pub free-nothing : r ≡ Nothing → FreeIs xs cs x y true
   unfolding isFree
   free-nothing e m h d =
       let ts = firstTriangles m xs in
-      sym (eq-eqb (uses x y ts) 0 (across-nothing x y ts .0 (sym (finds m h d) ∙ e)))
+      sym (eq-eqb (uses x y ts) 0 (across-nothing x y ts .0 (sym (finds .found m h d) ∙ e)))
 
 -- a triangle is new if its three edges are free
 module _ (xs cs : List ℕ) (p q r : ℕ) where

@@ -9,6 +9,7 @@ use mathlib.Core.Path.{_≡_}
 use lib.ListN.{length, getD, set}
 use lib.Dec.{ltb}
 use Rattle.rules.specs.declared.Across.{Across}
+use Rattle.rules.specs.declared.Across.the-variants.{Nothing}
 use Rattle.rules.specs.Limits.{maxNumbers, maxTriangles, maxVertices}
 use Rattle.rules.specs.Triangle.{tri, trianglesOf, edgesOf}
 use Rattle.rules.specs.Across.{across}
@@ -56,9 +57,11 @@ pub record Older (cs : List ℕ) (c r : ℕ) : Type 0 where
   pub less : r ≤ c
   pub older : (xs : List ℕ) (n : ℕ) → Chains xs n cs → c < n → r ≡ latest (getD xs c 0) xs c
 
--- r is the triangle that has x→y, of several the last, among the first triangles of the list, as many as the chains hold
-abbrev pub Finds : List ℕ → List ℕ → ℕ → ℕ → Across → Type 0
-Finds xs cs x y r = (n : ℕ) → Chains xs (3 * n) cs → (x ≡ y → ⊥) → r ≡ across x y (firstTriangles n xs)
+-- r is the triangle that has x→y, of several the last, among the first triangles of the list, as many as the chains hold; none is
+-- found from a vertex to itself
+pub record Finds (xs cs : List ℕ) (x y : ℕ) (r : Across) : Type 0 where
+  pub itself : x ≡ y → r ≡ Nothing
+  pub found : (n : ℕ) → Chains xs (3 * n) cs → (x ≡ y → ⊥) → r ≡ across x y (firstTriangles n xs)
 
 -- b tells whether x→y, or each directed edge of the triangle p q r, is free among the triangles that the chains hold
 abbrev pub FreeIs : List ℕ → List ℕ → ℕ → ℕ → Bool → Type 0

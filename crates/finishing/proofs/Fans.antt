@@ -12,7 +12,8 @@ use Rattle.rules.specs.declared.Checked.{Checked}
 use Rattle.rules.specs.declared.Checked.the-variants.{Accepted, Refused}
 use Rattle.rules.specs.Triangle.{trianglesOf, edgesOf}
 use Rattle.rules.specs.Count.{uses}
-use Rattle.rules.specs.Check.{allDistinct, noneTwice, check}
+use Rattle.rules.specs.Check.{allDistinct, noneTwice, check, checks}
+use Rattle.rules.specs.Answer.{Answer, refusal, accepted, triangle, no-triangle, numbers, packed, unpacked, checkedAnswer}
 use Rattle.rules.specs.Fan.{oneFanEach}
 use Rattle.rules.specs.View.{trianglesBuilt}
 use Rattle.rules.specs.Unpack.{numbersOf}
@@ -20,6 +21,23 @@ use Rattle.fans.proofs.Corners.{uses-in}
 use Rattle.fans.proofs.Tests.{all-distinct, none-twice}
 use Rattle.fans.proofs.Checks.{check-accepted, check-refused}
 use Rattle.unpacking.proofs.Order.{asBuilt, same-uses, same-fans}
+
+-- an answer is that of one check only
+abbrev asChecked : Answer → Checked
+asChecked accepted = Accepted
+asChecked (refusal n) = Refused n
+asChecked (triangle t) = Accepted
+asChecked no-triangle = Accepted
+asChecked (numbers x) = Accepted
+asChecked (packed n) = Accepted
+asChecked (unpacked m) = Accepted
+
+as-checked : (c : Checked) → asChecked (checkedAnswer c) ≡ c
+as-checked Accepted = refl
+as-checked (Refused n) = refl
+
+same-check : (c d : Checked) → checkedAnswer c ≡ checkedAnswer d → c ≡ d
+same-check c d e = sym (as-checked c) ∙ ap asChecked e ∙ as-checked d
 
 take-three : (xs : List ℕ) (m : ℕ) → m + 3 ≤ length xs
     → take 3 (drop m xs) ≡ getD xs m 0 ∷ (getD xs (m + 1) 0 ∷ (getD xs (m + 2) 0 ∷ []))
@@ -66,12 +84,13 @@ module _ (xs : List ℕ) (n : ℕ) (long : 3 * n ≤ length xs) where
         ∙ same-fans us used-once (λ x. sym (listed-uses x x) ∙ none-itself x (uses x x (trianglesOf ls)) refl) v
 
   -- a list that is accepted, and one that only 7 refuses
-  pub accepted-fans : (v : ℕ) (c : Checked) → c ≡ check v ls → c ≡ Accepted → true ≡ oneFanEach v us
+  pub accepted-fans : (v : ℕ) (c : Checked) → checkedAnswer c ≡ checks v ls → c ≡ Accepted → true ≡ oneFanEach v us
   accepted-fans v c e h =
-      let p = check-accepted v ls .0 (sym e ∙ h) in
+      let p = check-accepted v ls .0 (sym (same-check c (check v ls) e) ∙ h) in
       sym (p .fans) ∙ fans-same (p .distinct) (p .once) v
 
-  pub seven-fans : (v : ℕ) (c : Checked) (k : ℕ) → c ≡ check v ls → c ≡ Refused k → k ≡ 7 → false ≡ oneFanEach v us
+  pub seven-fans : (v : ℕ) (c : Checked) (k : ℕ) → checkedAnswer c ≡ checks v ls → c ≡ Refused k → k ≡ 7
+      → false ≡ oneFanEach v us
   seven-fans v c k e h i =
-      let p = check-refused v ls 6 .0 (sym e ∙ h ∙ ap Refused i) in
+      let p = check-refused v ls 6 .0 (sym (same-check c (check v ls) e) ∙ h ∙ ap Refused i) in
       sym (p .1 .1 .1 .1 .1 .1) ∙ fans-same (p .1 .1 .1 .0) (p .1 .1 .1 .1 .0) v

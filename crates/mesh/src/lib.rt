@@ -9,7 +9,8 @@ ghost use lib.ListN.{length};
 ghost use Rattle.rules.specs.Limits.{maxNumbers, maxVertices, vertexRange};
 ghost use Rattle.rules.specs.Triangle.{tri, distinct, trianglesOf, corners};
 ghost use Rattle.rules.specs.Fan.{about, oneRun, oneFanEach};
-ghost use Rattle.rules.specs.Check.{allBelow, allDistinct, allUsed};
+ghost use Rattle.rules.specs.Check.{allBelow, allDistinct, allUsed, checks};
+ghost use Rattle.rules.specs.Answer.{checkedAnswer};
 ghost use Rattle.chains.specs.Corner.{cornerAfter, cornerBefore, seenFrom};
 ghost use Rattle.chains.specs.Chains.{Chains, Finds, Newest, Older, linked, linkable, relinked, Sound, Linked, AllLinked};
 ghost use Rattle.chains.specs.Chains.{FreeIs, NewIs, CountsFrom};
@@ -96,10 +97,13 @@ fn seen_from(list: &[u16], c: usize) -> Across
 }
 
 // The triangle that has the directed edge p→q, of several the last, among the first triangles of the list, as many as the
-// chains hold. Safe on any array; what it answers is promised where the array holds chains and p and q differ.
+// chains hold; none from a vertex to itself. Safe on any array; what it finds is promised where the array holds chains.
 pub fn across(list: &[u16], chains: &Links, p: u16, q: u16) -> Across
     ensures { λ r. ⌜ Finds (now (list .entry)) (now (chains .entry)) p q r ⌝ }
 {
+    if p == q {
+        return Across::Nothing;
+    }
     let mut c = newest(list, chains, p);
     while 0 < c {
         c -= 1;
@@ -466,7 +470,7 @@ pub fn check_into(v: usize, list: &[u16], chains: &mut Links) -> Checked
 
 // The same without the chains.
 pub fn check(v: usize, list: &[u16]) -> Checked
-    ensures { λ r. ⌜ r ≡ Rattle.rules.specs.Check.check v (now (list .entry)) ⌝ }
+    ensures { λ r. ⌜ checkedAnswer r ≡ checks v (now (list .entry)) ⌝ }
 {
     let mut chains = [0u16; VERTICES + CORNERS];
     check_into(v, list, &mut chains)

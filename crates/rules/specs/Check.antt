@@ -12,6 +12,7 @@ use Rattle.rules.specs.Limits.{maxNumbers, between, vertexRange}
 use Rattle.rules.specs.Triangle.{distinct, Edge, trianglesOf, corners, edgesOf}
 use Rattle.rules.specs.Count.{occurs, count}
 use Rattle.rules.specs.Fan.{oneFanEach}
+use Rattle.rules.specs.Answer.{Answer, checkedAnswer}
 
 -- 1: the list is not empty, not too long, and three numbers for each triangle
 abbrev pub sizeFits : List ℕ → Bool
@@ -50,3 +51,7 @@ checkTriangles v ts =
 -- a list of numbers for a model of v vertices
 unfoldable pub check : ℕ → List ℕ → Checked
 check v xs = passes (sizeFits xs) 1 (passes (vertexRange v) 2 (passes (allBelow v xs) 3 (checkTriangles v (trianglesOf xs))))
+
+-- what the call that checks a list alone answers
+abbrev pub checks : ℕ → List ℕ → Answer
+checks v xs = checkedAnswer (check v xs)

@@ -1,14 +1,21 @@
--- What unpacking over the lent list of place records promises. What the building calls promise stands in building/specs/Promised.antt.
+-- What checking a list, and unpacking over the lent list of place records, promise. What the building calls promise stands in
+-- building/specs/Promised.antt.
 -- Assumes nothing.
 use Prim.Native.Nat.{ℕ}
 use mathlib.Core.List.{List}
 use mathlib.Core.Path.{_≡_}
+use Rattle.rules.specs.declared.Checked.{Checked}
 use Rattle.rules.specs.declared.Place.{Place}
 use Rattle.rules.specs.declared.Unpacked.{Unpacked}
-use Rattle.rules.specs.Answer.{unpackedAnswer}
+use Rattle.rules.specs.Answer.{checkedAnswer, unpackedAnswer}
+use Rattle.rules.specs.Check.{checks}
 use Rattle.rules.specs.Unpack.{unpack}
 use Rattle.building.specs.Promised.{lentTo}
 use Rattle.unpacking.specs.Lent.{UnpackedOn}
+
+-- a check of the list xs for a model of v vertices: its answer; the list is only read
+pub record Checking (v : ℕ) (xs : List ℕ) (r : Checked) : Type 0 where
+  pub answer : checkedAnswer r ≡ checks v xs
 
 -- what the core promises, its arguments in the order of the call
 abbrev pub UnpacksOn : List ℕ → List ℕ → List ℕ → ℕ → Unpacked → List ℕ → List ℕ → Type 0

@@ -6,6 +6,7 @@ use places::load;
 use places::save;
 use rules::Begun;
 use rules::Builder;
+use rules::Checked;
 use rules::Counts;
 use rules::Finished;
 use rules::Operation;
@@ -14,8 +15,15 @@ use rules::Performed;
 use rules::Place;
 use rules::Unpacked;
 ghost use Rattle.building.specs.Promised.{Beginning, Operating, Finishing};
-ghost use Rattle.service.specs.Calls.{Unpacks};
+ghost use Rattle.service.specs.Calls.{Checking, Unpacks};
 ghost use Rattle.service.specs.Packing.{Packs};
+
+// Checks any list of a model of v vertices: refusals 1 to 7, or its acceptance. It needs no place records.
+pub fn check(v: usize, list: &[u16]) -> Checked
+    ensures { λ r. ⌜ Checking v (now (list .entry)) r ⌝ }
+{
+    mesh::check(v, list)
+}
 
 // Unpacks any bytes: refusals 12 to 20, or the model, whose triangles then stand in the first entries as built. After 15 to 20 the
 // first 3T triangle entries are zero. Past 14 the first 1,024 place records are left zero; after 12 to 14 nothing has changed.

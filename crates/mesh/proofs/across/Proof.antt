@@ -6,7 +6,7 @@ use native.Mathlib.Omega.{arith}
 use lib.ListN.{length}
 use borrow.Author.Needs.{needs}
 use Rattle.rules.specs.Limits.{maxNumbers}
-use Rattle.chains.proofs.Finding.{Walks, walk-start, walk-more, walk-found, walk-none}
+use Rattle.chains.proofs.Finding.{Walks, walk-start, walk-more, walk-found, walk-none, finds-itself}
 use Rattle.mesh.proofs.across.Statement.{statement}
 use Rattle.mesh.proofs.across.Tie as tie
 
@@ -15,6 +15,9 @@ Inv-loop list chains p q c₀ c = (c ≤ maxNumbers) × (3 * ((c + 2) / 3) ≤ l
 
 abbrev μ-loop : tie.MeasureT-loop
 μ-loop list chains p q c₀ c = c
+
+returns : tie.Need-returns Inv-loop μ-loop
+returns c = finds-itself (c .if1 .taken)
 
 newest-requires : tie.Need-newest-requires Inv-loop μ-loop
 newest-requires c κs = search needs
@@ -28,21 +31,21 @@ sub-c c = omega arith
 corner-after-requires : tie.Need-corner-after-requires Inv-loop μ-loop
 corner-after-requires c κs = search needs
 
-mul-if1 : tie.Need-mul-if1 Inv-loop μ-loop
-mul-if1 c = omega arith
+mul-if2 : tie.Need-mul-if2 Inv-loop μ-loop
+mul-if2 c = omega arith
 
-shared-slice-read-if1 : tie.Need-shared-slice-read-if1 Inv-loop μ-loop
-shared-slice-read-if1 c = omega arith
+shared-slice-read-if2 : tie.Need-shared-slice-read-if2 Inv-loop μ-loop
+shared-slice-read-if2 c = omega arith
 
 seen-from-requires : tie.Need-seen-from-requires Inv-loop μ-loop
 seen-from-requires c κs = search needs
 
-returns : tie.Need-returns Inv-loop μ-loop
-returns c =
+returns-2 : tie.Need-returns-2 Inv-loop μ-loop
+returns-2 c =
     let k = c .before .before .before in
     let b = k .before in
-    walk-found _ _ _ (b .before .loop .inv .2) (b .loop-test .taken) (k .corner-after .ensures .0) (c .before .if1 .taken)
-    (c .seen-from .ensures)
+    walk-found _ _ _ (b .before .before .before .if1 .left) (b .before .loop .inv .2) (b .loop-test .taken)
+    (k .corner-after .ensures .0) (c .before .if2 .taken) (c .seen-from .ensures)
 
 older-requires : tie.Need-older-requires Inv-loop μ-loop
 older-requires c κs = search needs
@@ -57,11 +60,11 @@ loop-again c =
       search needs,
       search needs,
       walk-more _ _ _ (b .before .loop .inv .2) (b .loop-test .taken) (k .corner-after .ensures .0)
-          (c .before .if1 .left) (c .older .ensures),
+          (c .before .if2 .left) (c .older .ensures),
     )
 
-returns-2 : tie.Need-returns-2 Inv-loop μ-loop
-returns-2 c = walk-none _ (c .before .loop .inv .2) (c .loop-test .left)
+returns-3 : tie.Need-returns-3 Inv-loop μ-loop
+returns-3 c = walk-none _ (c .before .loop .inv .2) (c .loop-test .left)
 
 pub across-spec : {M : Type 1} → statement M
 across-spec =
@@ -69,15 +72,16 @@ across-spec =
     (tie.spec
     Inv-loop
     μ-loop
+    returns
     newest-requires
     loop-holds
     sub-c
     corner-after-requires
-    mul-if1
-    shared-slice-read-if1
+    mul-if2
+    shared-slice-read-if2
     seen-from-requires
-    returns
+    returns-2
     older-requires
     loop-less
     loop-again
-    returns-2)
+    returns-3)

@@ -1,6 +1,7 @@
 -- `mesh::check` meets its contract: zeros are the chains of no triangle.
 -- Assumes nothing.
-use mathlib.Core.Path.{refl}
+use mathlib.Core.Path.{refl, ap}
+use Rattle.rules.specs.Answer.{checkedAnswer}
 use Rattle.chains.proofs.Linking.{zeros-none}
 use Rattle.mesh.proofs.check.Statement.{statement}
 use Rattle.mesh.proofs.check.Tie as tie
@@ -9,7 +10,7 @@ check-into-requires : tie.Need-check-into-requires
 check-into-requires c κs = zeros-none _ _ refl
 
 returns : tie.Need-returns
-returns c = c .check-into .ensures .right
+returns c = ap checkedAnswer (c .check-into .ensures .right)
 
 pub check-spec : {M : Type 1} → statement M
 check-spec = tie.close (tie.spec check-into-requires returns)
