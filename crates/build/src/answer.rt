@@ -6,7 +6,6 @@ use crate::words::operation_from;
 use calls::begin::begin_on;
 use calls::finish::finish_on;
 use calls::operation::operation_on;
-use libc::STDOUT_FILENO;
 use places::Memory;
 use places::settle;
 use rules::Builder;
@@ -17,8 +16,8 @@ use rules::Operated;
 use rules::Operation;
 use rules::Totals;
 use rules::Triangle;
-use show::print_number;
 use show::print_refusal;
+use streams::Output;
 use text::is_same;
 use text::word_end;
 use text::word_start;
@@ -26,11 +25,20 @@ ghost use Prim.Native.Nat.{_≤_};
 ghost use mathlib.Core.Path.{_≡_};
 ghost use lib.ListN.{length};
 
-// A builder, and how long the buffers are that it is lent.
+// A builder, how long the buffers are that it is lent, and where the answers go.
 pub struct Session {
     pub state: Builder,
     pub entries: usize,
     pub records: usize,
+    pub out: Output,
+}
+
+// What a line's first word calls.
+enum Call {
+    Begin,
+    Op,
+    Finish,
+    Nothing,
 }
 
 // No model was begun yet.
@@ -41,12 +49,33 @@ pub(crate) fn fresh() -> Session
         state: Builder::empty(),
         entries: 0,
         records: 0,
+        out: Output::fresh(),
     }
 }
 
-fn print(line: &[u8]) {
-    io::write_all(STDOUT_FILENO, line);
-    io::write_all(STDOUT_FILENO, b"\n");
+// A session after an answer.
+fn answered(s: Session, out: Output) -> Session
+    ensures { λ r. ⌜ (r .entries ≡ s .entries) × (r .records ≡ s .records) ⌝ }
+{
+    let state = s.state;
+    Session {
+        state,
+        entries: s.entries,
+        records: s.records,
+        out,
+    }
+}
+
+fn print(out: Output, line: &[u8]) -> Output {
+    out.bytes(line).bytes(b"\n")
+}
+
+// A line as the answer.
+fn told(s: Session, line: &[u8]) -> Session
+    ensures { λ r. ⌜ (r .entries ≡ s .entries) × (r .records ≡ s .records) ⌝ }
+{
+    let out = s.out;
+    answered(s, print(out, line))
 }
 
 // The smaller of a length and the most that there is.
@@ -60,45 +89,43 @@ fn at_most(n: u16, most: usize) -> usize
     wide
 }
 
-fn print_triangle(t: Triangle) {
-    io::write_all(STDOUT_FILENO, b"ok ");
-    print_number(t.p, b' ');
-    print_number(t.q, b' ');
-    print_number(t.r, b'\n');
+fn print_triangle(out: Output, t: Triangle) -> Output {
+    out.bytes(b"ok ")
+        .number(t.p, b' ')
+        .number(t.q, b' ')
+        .number(t.r, b'\n')
 }
 
-fn print_operated(a: Operated) {
+fn print_operated(out: Output, a: Operated) -> Output {
     match a {
-        Operated::Built(t) => print_triangle(t),
-        Operated::Marked => print(b"ok"),
-        Operated::Refused(n) => print_refusal(n),
+        Operated::Built(t) => print_triangle(out, t),
+        Operated::Marked => print(out, b"ok"),
+        Operated::Refused(n) => print_refusal(out, n),
     }
 }
 
 // Prints a number that may be below zero.
-fn print_signed(n: i32) {
+fn print_signed(out: Output, n: i32) -> Output {
     let wide = n as i64;
     if wide < 0 {
-        io::write_all(STDOUT_FILENO, b"-");
-        io::print_decimal(STDOUT_FILENO, (0 - wide) as u64);
-        return;
+        return out.bytes(b"-").decimal((0 - wide) as u64);
     }
-    io::print_decimal(STDOUT_FILENO, wide as u64);
+    out.decimal(wide as u64)
 }
 
-fn print_totals(t: Totals) {
-    io::write_all(STDOUT_FILENO, b"ok ");
-    print_number(t.edges, b' ');
-    print_number(t.rims, b' ');
-    print_number(t.unions, b' ');
-    print_signed(t.euler);
-    io::write_all(STDOUT_FILENO, b"\n");
+fn print_totals(start: Output, t: Totals) -> Output {
+    let out = start
+        .bytes(b"ok ")
+        .number(t.edges, b' ')
+        .number(t.rims, b' ')
+        .number(t.unions, b' ');
+    print_signed(out, t.euler).bytes(b"\n")
 }
 
-fn print_finished(f: Finished) {
+fn print_finished(out: Output, f: Finished) -> Output {
     match f {
-        Finished::Totals(t) => print_totals(t),
-        Finished::Refused(n) => print_refusal(n),
+        Finished::Totals(t) => print_totals(out, t),
+        Finished::Refused(n) => print_refusal(out, n),
     }
 }
 
@@ -119,15 +146,15 @@ fn begin(n: Numbers, s: Session, triangles: &mut [u16], m: &mut Memory) -> Sessi
     let r = begin_on(stated, &mut triangles[..entries], m, records);
     let a = r.answer;
     let state = r.state;
+    let out = s.out;
     if let Checked::Refused(k) = a {
-        print_refusal(k);
-        return s;
+        return answered(s, print_refusal(out, k));
     }
-    print(b"ok");
     Session {
         state,
         entries,
         records,
+        out: print(out, b"ok"),
     }
 }
 
@@ -137,12 +164,10 @@ fn begin_line(n: Numbers, s: Session, triangles: &mut [u16], m: &mut Memory) -> 
     ensures { λ r. ⌜ (r .entries ≤ length (now (triangles .entry))) × (r .records ≤ 1024) ⌝ }
 {
     if n.count != 6 {
-        print(b"error no such call");
-        return s;
+        return told(s, b"error no such call");
     }
     if !n.valid {
-        print(b"error not a number");
-        return s;
+        return told(s, b"error not a number");
     }
     begin(n, s, triangles, m)
 }
@@ -158,11 +183,12 @@ fn operate(o: Operation, s: Session, triangles: &mut [u16], m: &mut Memory) -> S
     let r = operation_on(s.state, o, &mut triangles[..entries], m, records);
     let a = r.answer;
     let state = r.state;
-    print_operated(a);
+    let out = s.out;
     Session {
         state,
         entries,
         records,
+        out: print_operated(out, a),
     }
 }
 
@@ -173,30 +199,25 @@ fn operation_line(o: Named, s: Session, triangles: &mut [u16], m: &mut Memory) -
 {
     match o {
         Named::Found(o) => operate(o, s, triangles, m),
-        Named::NoNumber => {
-            print(b"error not a number");
-            s
-        }
-        Named::Nothing => {
-            print(b"error no such operation");
-            s
-        }
+        Named::NoNumber => told(s, b"error not a number"),
+        Named::Nothing => told(s, b"error no such operation"),
     }
 }
 
 // A finish, where nothing follows the word.
-fn finish_line(n: Numbers, s: Session, triangles: &[u16], m: &mut Memory)
+fn finish_line(n: Numbers, s: Session, triangles: &[u16], m: &mut Memory) -> Session
     requires { ⌜ (s .entries ≤ length (now triangles)) × (s .records ≤ 1024) ⌝ }
+    ensures { λ r. ⌜ (r .entries ≡ s .entries) × (r .records ≡ s .records) ⌝ }
 {
     if n.count != 0 {
-        print(b"error no such call");
-        return;
+        return told(s, b"error no such call");
     }
     let entries = s.entries;
     let records = s.records;
     settle(m);
     let r = finish_on(s.state, &triangles[..entries], m, records);
-    print_finished(r);
+    let out = s.out;
+    answered(s, print_finished(out, r))
 }
 
 // Answers a line.
@@ -205,23 +226,31 @@ pub(crate) fn answer_line(line: &[u8], s: Session, triangles: &mut [u16], m: &mu
     ensures { λ r. ⌜ (r .entries ≤ length (now (triangles .entry))) × (r .records ≤ 1024) ⌝ }
 {
     if is_remark(line) {
-        print(line);
-        return s;
+        return told(s, line);
     }
     let start = word_start(line, 0);
     let end = word_end(line, start);
-    if is_same(&line[start..end], b"begin") {
-        return begin_line(numbers_from(line, end), s, triangles, m);
+    let c = call_of(&line[start..end]);
+    match c {
+        Call::Begin => begin_line(numbers_from(line, end), s, triangles, m),
+        Call::Op => operation_line(operation_from(line, end), s, triangles, m),
+        Call::Finish => finish_line(numbers_from(line, end), s, triangles, m),
+        Call::Nothing => told(s, b"error no such call"),
     }
-    if is_same(&line[start..end], b"op") {
-        return operation_line(operation_from(line, end), s, triangles, m);
+}
+
+// The call that a line's first word names.
+fn call_of(word: &[u8]) -> Call {
+    if is_same(word, b"begin") {
+        return Call::Begin;
     }
-    if is_same(&line[start..end], b"finish") {
-        finish_line(numbers_from(line, end), s, triangles, m);
-        return s;
+    if is_same(word, b"op") {
+        return Call::Op;
     }
-    print(b"error no such call");
-    s
+    if is_same(word, b"finish") {
+        return Call::Finish;
+    }
+    Call::Nothing
 }
 
 // Whether a line is a remark.

@@ -1,13 +1,18 @@
 // Reads a model as text from standard input: V, then the vertex numbers, decimal, with white space between. It writes the model's pack
-// to standard output, or a line: `refused` and the number, or that the text is no model.
+// to standard output, or a line: `refused` and the number, or that the text is no model. A text that cannot be read or is too long
+// gets a line on standard error and nothing else; a write that fails gets such a line too.
 use libc::STDIN_FILENO;
-use libc::STDOUT_FILENO;
 use rules::Builder;
 use rules::Packed;
 use show::print_refusal;
+use streams::Output;
+use streams::Read;
+use streams::read_full;
+use streams::say;
+use streams::say_failed;
 use text::is_space;
 
-// A text is read in parts of so many bytes, and at most so many of them; a longer one is no model.
+// A text is read in parts of so many bytes, and fewer than so many whole ones.
 const PART: usize = 65536;
 
 const PARTS: usize = 256;
@@ -24,6 +29,13 @@ struct Text {
     value: usize,
     inside: bool,
     bad: bool,
+}
+
+// What a whole text is: so many numbers, V among them, or no model. Of one that was not read whole nothing is told.
+enum Told {
+    Numbers(usize),
+    NoModel,
+    Nothing,
 }
 
 // A text that is no model.
@@ -118,8 +130,34 @@ fn feed_all(start: Text, part: &[u8], numbers: &mut [u16]) -> Text {
     t
 }
 
-// The whole text: its numbers, as many as there is room for.
-fn read_text(part: &mut [u8], numbers: &mut [u16]) -> Text {
+// What a text is that has ended.
+fn judged(t: Text) -> Told {
+    if t.bad {
+        return Told::NoModel;
+    }
+    if t.count == 0 {
+        return Told::NoModel;
+    }
+    Told::Numbers(t.count)
+}
+
+// A text that cannot be read.
+fn unread() -> Told {
+    say_failed(b"pack", b"cannot read standard input");
+    Told::Nothing
+}
+
+// A text that is read no further.
+fn too_long() -> Told {
+    say(
+        b"pack",
+        b"the text is too long: it has 16,777,216 bytes or more",
+    );
+    Told::Nothing
+}
+
+// Reads the text: its numbers, as many as there is buffer for. Where it cannot be read whole, a line on standard error says why.
+fn read_text(part: &mut [u8], numbers: &mut [u16]) -> Told {
     let mut t = Text {
         count: 0,
         value: 0,
@@ -128,33 +166,37 @@ fn read_text(part: &mut [u8], numbers: &mut [u16]) -> Text {
     };
     let mut left = PARTS;
     while 0 < left {
-        let n = io::read_full(STDIN_FILENO, part);
+        let r = read_full(STDIN_FILENO, part);
+        let Read::To(n) = r else {
+            return unread();
+        };
         t = feed_all(t, &part[..n], numbers);
         if n < part.len() {
-            return end_number(t, numbers);
+            return judged(end_number(t, numbers));
         }
         left -= 1;
     }
-    bad(t)
+    too_long()
 }
 
-fn print_refused(r: Packed) {
+fn print_refused(out: Output, r: Packed) -> Output {
     match r {
-        Packed::Length(_) => {}
-        Packed::Refused(n) => print_refusal(n),
+        Packed::Length(_) => out,
+        Packed::Refused(n) => print_refusal(out, n),
     }
 }
 
 // Writes what a packing answered: the pack that stands in the buffer, or the refusal.
-fn print_answer(r: Packed, buffer: &[u8]) {
+fn print_answer(r: Packed, buffer: &[u8]) -> Output {
+    let out = Output::fresh();
     let Packed::Length(n) = r else {
-        print_refused(r);
-        return;
+        return print_refused(out, r);
     };
     let k = n as usize;
-    if k <= buffer.len() {
-        io::write_all(STDOUT_FILENO, &buffer[..k]);
+    if buffer.len() < k {
+        return out;
     }
+    out.bytes(&buffer[..k])
 }
 
 // A number that was read, as a count.
@@ -169,23 +211,22 @@ fn pack_numbers(
     numbering: &mut [u16],
     buffer: &mut [u8],
     m: &mut [u16; 5320],
-) {
+) -> Output {
     if numbers.len() < n {
-        return;
+        return Output::fresh();
     }
     if n < 1 {
-        return;
+        return Output::fresh();
     }
     let v = wide(numbers[0]);
     let r = packer::pack_on(v, &numbers[1..n], numbering, buffer, m, Builder::MAX_PLACES);
-    print_answer(r, buffer);
+    print_answer(r, buffer)
 }
 
-fn print_no_model() {
-    io::write_all(
-        STDOUT_FILENO,
+fn print_no_model() -> Output {
+    Output::fresh().bytes(
         b"no model: V and the vertex numbers are expected, decimal, with white space between\n",
-    );
+    )
 }
 
 // Reads a model and packs it.
@@ -195,15 +236,13 @@ fn run(
     numbering: &mut [u16],
     buffer: &mut [u8],
     m: &mut [u16; 5320],
-) {
+) -> Output {
     let t = read_text(part, numbers);
-    if t.bad {
-        return print_no_model();
+    match t {
+        Told::Numbers(n) => pack_numbers(numbers, n, numbering, buffer, m),
+        Told::NoModel => print_no_model(),
+        Told::Nothing => Output::fresh(),
     }
-    if t.count == 0 {
-        return print_no_model();
-    }
-    pack_numbers(numbers, t.count, numbering, buffer, m);
 }
 
 fn main() {
@@ -212,5 +251,5 @@ fn main() {
     let mut numbering = [0u16; 4096];
     let mut buffer = [0u8; BUFFER];
     let mut m = [0u16; 5320];
-    run(&mut part, &mut numbers, &mut numbering, &mut buffer, &mut m);
+    run(&mut part, &mut numbers, &mut numbering, &mut buffer, &mut m).end(b"pack");
 }

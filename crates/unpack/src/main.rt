@@ -1,34 +1,64 @@
 // Reads a pack from standard input and prints its model: a line with vertices, triangles, edges, rims and unions, then a line for
 // each triangle as built. A refused pack prints one line with its number. With arguments it does so for each in turn: the pack of
-// the file that it names, or for "-" that of standard input.
+// the file that it names, or for "-" that of standard input. What cannot be read gets a line on standard error and prints nothing;
+// after a write that fails there is such a line too, and the program ends.
 use libc::STDIN_FILENO;
 use rules::Builder;
 use show::print_refusal;
 use show::print_unpacked;
+use streams::Output;
+use streams::Read;
+use streams::read_full;
+use streams::say_failed;
 
 // The longest input that is unpacked, and one byte more to tell a longer one.
 const MOST_BYTES: usize = 65536;
 
-// Unpacks what is read; more than the most bytes counts as 12.
-fn unpack_from(fd: i32, pack: &mut [u8], triangles: &mut [u16], m: &mut [u16; 5320]) {
-    let n = io::read_full(fd, pack);
-    if MOST_BYTES < n {
-        print_refusal(12);
-        return;
+// Unpacks what was read; more than the most bytes counts as 12.
+fn unpack_bytes(out: Output, pack: &[u8], triangles: &mut [u16], m: &mut [u16; 5320]) -> Output {
+    if MOST_BYTES < pack.len() {
+        return print_refusal(out, 12);
     }
-    let r = unpacker::unpack_on(&pack[..n], triangles, m, Builder::MAX_PLACES);
-    print_unpacked(r, triangles);
+    let r = unpacker::unpack_on(pack, triangles, m, Builder::MAX_PLACES);
+    print_unpacked(out, r, triangles)
 }
 
-// Unpacks the file of a name, or says why it cannot be opened.
-fn unpack_file(name: &[u8], pack: &mut [u8], triangles: &mut [u16], m: &mut [u16; 5320]) {
+// Unpacks what standard input has.
+fn unpack_standard(
+    out: Output,
+    pack: &mut [u8],
+    triangles: &mut [u16],
+    m: &mut [u16; 5320],
+) -> Output {
+    let r = read_full(STDIN_FILENO, pack);
+    let Read::To(n) = r else {
+        say_failed(b"unpack", b"cannot read standard input");
+        return out;
+    };
+    unpack_bytes(out, &pack[..n], triangles, m)
+}
+
+// Unpacks the file of a name, or says why it cannot be opened or read.
+fn unpack_file(
+    out: Output,
+    name: &[u8],
+    pack: &mut [u8],
+    triangles: &mut [u16],
+    m: &mut [u16; 5320],
+) -> Output {
     let fd = os::open_read(name);
     if fd < 0 {
-        os::fail(name);
-        return;
+        say_failed(b"unpack", name);
+        return out;
     }
-    unpack_from(fd, pack, triangles, m);
+    let r = read_full(fd, pack);
+    let Read::To(n) = r else {
+        say_failed(b"unpack", name);
+        libc::close(fd);
+        return out;
+    };
     libc::close(fd);
+    unpack_bytes(out, &pack[..n], triangles, m)
 }
 
 // Whether a name stands for standard input.
@@ -37,18 +67,23 @@ fn is_standard(name: &[u8]) -> bool {
 }
 
 // Unpacks what argument i names.
-fn unpack_named(i: usize, pack: &mut [u8], triangles: &mut [u16], m: &mut [u16; 5320]) {
+fn unpack_named(
+    out: Output,
+    i: usize,
+    pack: &mut [u8],
+    triangles: &mut [u16],
+    m: &mut [u16; 5320],
+) -> Output {
     let mut name = [0u8; 4096];
     let n = os::arg(i, &mut name);
     if os::errno() != 0 {
-        os::fail(b"argument");
-        return;
+        say_failed(b"unpack", b"argument");
+        return out;
     }
     if is_standard(&name[..n]) {
-        unpack_from(STDIN_FILENO, pack, triangles, m);
-        return;
+        return unpack_standard(out, pack, triangles, m);
     }
-    unpack_file(&name[..n], pack, triangles, m);
+    unpack_file(out, &name[..n], pack, triangles, m)
 }
 
 // Unpacks what each argument names; the program's own name is none.
@@ -57,12 +92,17 @@ fn unpack_each(
     pack: &mut [u8; MOST_BYTES + 1],
     triangles: &mut [u16; 24576],
     m: &mut [u16; 5320],
-) {
+) -> Output {
+    let mut out = Output::fresh();
     let mut i = 1;
     while i < count {
-        unpack_named(i, pack, triangles, m);
+        out = unpack_named(out, i, pack, triangles, m);
+        if out.failed {
+            return out;
+        }
         i += 1;
     }
+    out
 }
 
 fn main() {
@@ -71,8 +111,8 @@ fn main() {
     let mut m = [0u16; 5320];
     let count = os::arg_count();
     if count < 2 {
-        unpack_from(STDIN_FILENO, &mut pack, &mut triangles, &mut m);
+        unpack_standard(Output::fresh(), &mut pack, &mut triangles, &mut m).end(b"unpack");
         return;
     }
-    unpack_each(count, &mut pack, &mut triangles, &mut m);
+    unpack_each(count, &mut pack, &mut triangles, &mut m).end(b"unpack");
 }

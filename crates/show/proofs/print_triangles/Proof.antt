@@ -8,22 +8,22 @@ use Rattle.show.proofs.print_triangles.Statement.{statement}
 use Rattle.show.proofs.print_triangles.Tie as tie
 
 abbrev Inv-loop : tie.InvT-loop
-Inv-loop triangles i₀ i = i ≤ length triangles
+Inv-loop triangles out₀ i₀ out i = i ≤ length triangles
 
 abbrev μ-loop : tie.MeasureT-loop
-μ-loop triangles i₀ i = length triangles - i
+μ-loop triangles out₀ i₀ out i = length triangles - i
 
 loop-holds : tie.Need-loop-holds Inv-loop μ-loop
 loop-holds c = search needs
 
-mul-print-number : tie.Need-mul-print-number Inv-loop μ-loop
-mul-print-number c = search needs
+mul-number : tie.Need-mul-number Inv-loop μ-loop
+mul-number c = search needs
 
-shared-slice-read-print-number : tie.Need-shared-slice-read-print-number Inv-loop μ-loop
-shared-slice-read-print-number c = search needs
+shared-slice-read-number : tie.Need-shared-slice-read-number Inv-loop μ-loop
+shared-slice-read-number c = search needs
 
-print-number-requires : tie.Need-print-number-requires Inv-loop μ-loop
-print-number-requires c κs = search needs
+number-requires : tie.Need-number-requires Inv-loop μ-loop
+number-requires c κs = search needs
 
 add-i : tie.Need-add-i Inv-loop μ-loop
 add-i c = search needs
@@ -44,9 +44,9 @@ print-triangles-spec =
     Inv-loop
     μ-loop
     loop-holds
-    mul-print-number
-    shared-slice-read-print-number
-    print-number-requires
+    mul-number
+    shared-slice-read-number
+    number-requires
     add-i
     loop-less
     loop-again

@@ -1,7 +1,7 @@
 //! The programs `unpack` and `pack` compared with the second program. `programs FOLDER`
 //!
 //! Every pack and model of the second program's vectors, random ones, sound and spoilt, input that is too long, and input that is none;
-//! packs in files that are named; files that are not there.
+//! packs in files that are named; files that are not there; what cannot be read.
 
 use compare::expected;
 use cutborder::gen::{self, Model};
@@ -35,10 +35,10 @@ fn printed(program: &str, input: &[u8]) -> String {
     String::from_utf8(written(program, input)).expect("text")
 }
 
-/// What it prints with this standard input.
-fn printed_from(command: &str, program: &str, input: Stdio) -> String {
+/// What it prints with this standard input, and what it says on standard error.
+fn printed_from(command: &str, program: &str, input: Stdio) -> (String, String) {
     let out = Command::new("sh").args(["-c", command, "sh", program]).stdin(input).output().expect("a shell");
-    String::from_utf8(out.stdout).expect("text")
+    (String::from_utf8(out.stdout).expect("text"), String::from_utf8(out.stderr).expect("text"))
 }
 
 /// The program `unpack` on packs of all kinds.
@@ -110,16 +110,20 @@ fn terminal() -> Option<(File, File)> {
     Some((keyboard, screen))
 }
 
-/// Input that is empty, closed, a folder, or a terminal: how many of these.
+/// Input that is empty, or a terminal, is answered by a line; that which is closed, or a folder, cannot be read: how many of these.
 fn odd(program: &str, line: &str) -> usize {
-    for (command, input) in [("exec \"$1\"", Stdio::null()), ("exec \"$1\" <&-", Stdio::null()), ("exec \"$1\"", File::open(".").expect("this folder").into())] {
-        assert_eq!(printed_from(command, program, input), line, "{command}");
+    let answer = (line.to_string(), String::new());
+    assert_eq!(printed_from("exec \"$1\"", program, Stdio::null()), answer, "no input");
+    for (command, input) in [("exec \"$1\" <&-", Stdio::null()), ("exec \"$1\"", File::open(".").expect("this folder").into())] {
+        let (out, said) = printed_from(command, program, input);
+        assert_eq!(out, "", "{command}");
+        assert!(said.lines().count() == 1 && said.contains("cannot read standard input"), "{command}: {said}");
     }
     let Some((_keyboard, screen)) = terminal() else {
         println!("no terminal here: not tried");
         return 3;
     };
-    assert_eq!(printed_from("exec \"$1\"", program, screen.into()), line, "a terminal");
+    assert_eq!(printed_from("exec \"$1\"", program, screen.into()), answer, "a terminal");
     4
 }
 
@@ -136,12 +140,11 @@ fn named(unpack: &str) -> usize {
         expected += &compare::printed(p);
     }
     let out = command.arg("").arg("x".repeat(5_000)).arg(&folder).stdin(Stdio::null()).output().expect("the program starts");
-    expected += &compare::printed(&[]);
     fs::remove_dir_all(&folder).expect("the folder");
     assert!(out.status.success(), "status {:?}", out.status);
     assert_eq!(String::from_utf8_lossy(&out.stdout), expected);
     let said = String::from_utf8_lossy(&out.stderr).into_owned();
-    assert_eq!(said.lines().count(), packs.len() + 2, "{said}");
+    assert_eq!(said.lines().count(), packs.len() + 3, "{said}");
     assert!((0..packs.len()).all(|i| said.contains(&format!("no{i}: No such file"))), "{said}");
     2 * packs.len() + 3
 }

@@ -1,5 +1,6 @@
 -- `build::answer::begin` is safe and ends.
 -- Assumes nothing.
+use native.Mathlib.Omega.{arith}
 use mathlib.Core.Path.{sym}
 use lib.Seq.{length-take-le}
 use borrow.Author.Needs.{needs}
@@ -9,11 +10,11 @@ use Rattle.build.proofs.answer.begin.Tie as tie
 array-read-at-most : tie.Need-array-read-at-most
 array-read-at-most c = search needs
 
-array-read-t19 : tie.Need-array-read-t19
-array-read-t19 c = search needs
+array-read-t20 : tie.Need-array-read-t20
+array-read-t20 c = search needs
 
-array-read-t22 : tie.Need-array-read-t22
-array-read-t22 c = search needs
+array-read-t23 : tie.Need-array-read-t23
+array-read-t23 c = search needs
 
 array-read-at-most-2 : tie.Need-array-read-at-most-2
 array-read-at-most-2 c = search needs
@@ -47,11 +48,16 @@ enum-known-a c = search needs
 print-refusal-requires : tie.Need-print-refusal-requires
 print-refusal-requires c κs = search needs
 
+answered-requires : tie.Need-answered-requires
+answered-requires c κs = search needs
+
 same-length : tie.Need-same-length
 same-length c = search needs
 
 returns : tie.Need-returns
-returns c = search needs
+returns c =
+    let a = c .before .before .before .before .before .before .before .before .before .before .before .before .before .before .before .before in
+    (omega (arith, c .answered .ensures .0, a .pre .0), omega (arith, c .answered .ensures .1, a .pre .1))
 
 enum-told : tie.Need-enum-told
 enum-told c = search needs
@@ -73,8 +79,8 @@ begin-spec =
     tie.close
     (tie.spec
     array-read-at-most
-    array-read-t19
-    array-read-t22
+    array-read-t20
+    array-read-t23
     array-read-at-most-2
     array-read-at-most-3
     at-most-requires
@@ -85,6 +91,7 @@ begin-spec =
     begin-on-requires
     enum-known-a
     print-refusal-requires
+    answered-requires
     same-length
     returns
     enum-told

@@ -6,11 +6,11 @@ use borrow.Author.Needs.{needs}
 use Rattle.build.proofs.answer.finish_line.Statement.{statement}
 use Rattle.build.proofs.answer.finish_line.Tie as tie
 
-slice-aggregate-print : tie.Need-slice-aggregate-print
-slice-aggregate-print c = search needs
+slice-aggregate-told : tie.Need-slice-aggregate-told
+slice-aggregate-told c = search needs
 
-print-requires : tie.Need-print-requires
-print-requires c κs = search needs
+told-requires : tie.Need-told-requires
+told-requires c κs = search needs
 
 returns : tie.Need-returns
 returns c = search needs
@@ -29,6 +29,9 @@ finish-on-requires c κs = search needs
 print-finished-requires : tie.Need-print-finished-requires
 print-finished-requires c κs = search needs
 
+answered-requires : tie.Need-answered-requires
+answered-requires c κs = search needs
+
 returns-2 : tie.Need-returns-2
 returns-2 c = search needs
 
@@ -36,11 +39,12 @@ pub finish-line-spec : {M : Type 1} → statement M
 finish-line-spec =
     tie.close
     (tie.spec
-    slice-aggregate-print
-    print-requires
+    slice-aggregate-told
+    told-requires
     returns
     settle-requires
     slice-aggregate-finish-on
     finish-on-requires
     print-finished-requires
+    answered-requires
     returns-2)
