@@ -2,7 +2,7 @@
 //!
 //! Nanoseconds a triangle, the median over many calls; buffers are reused and not cleared between calls.
 
-use compare::expected::{self, LEVEL};
+use compare::expected::{self, LEVEL, LIMITS};
 use cutborder::fast::{Packer, Unpacker};
 use cutborder::gen::{self, Model};
 use cutborder::plain::{choose_at, Trace};
@@ -108,22 +108,63 @@ fn main() {
         print!("  {:>8.1} {:>8.1} {:>6.2}", ours / t, theirs / t, ours / theirs);
         println!("  {:>6} {:>6}", most_places(LEVEL, &m), most_places(Level::BASE, &m));
     }
+    buildings(repeats);
+}
+
+/// Building calls: nanoseconds of a beginning, of an operation in the mean over a model's, and of the finish.
+fn buildings(repeats: usize) {
+    println!();
+    println!("building calls: nanoseconds a call, an operation's in the mean over the model's, medians of {} runs", (repeats / 10).max(1));
+    println!("{:<16} {:>6} {:>6} {:>10}  {:>8} {:>9} {:>8}", "model", "V", "T", "operations", "begin", "operation", "finish");
+    for (name, m) in building_models() {
+        let (ops, chosen) = expected::choose(m.v, &m.list, LIMITS).expect("a packing");
+        let counts = chosen.book.counts;
+        let mut times = [Vec::new(), Vec::new(), Vec::new()];
+        let mut builder = compare::Building::new(m.list.len(), 1_024, 0);
+        for _ in 0..(repeats / 10).max(1) {
+            let t = Instant::now();
+            builder.begin(black_box(counts)).expect("a beginning");
+            times[0].push(t.elapsed().as_nanos() as f64);
+            let t = Instant::now();
+            for &op in &ops {
+                black_box(builder.operate(black_box(op))).expect("an operation");
+            }
+            times[1].push(t.elapsed().as_nanos() as f64 / ops.len() as f64);
+            let t = Instant::now();
+            black_box(builder.finish()).expect("a finish");
+            times[2].push(t.elapsed().as_nanos() as f64);
+        }
+        let [begin, operation, finish] = times.map(|mut t| {
+            t.sort_by(f64::total_cmp);
+            t[t.len() / 2]
+        });
+        println!("{name:<16} {:>6} {:>6} {:>10}  {begin:>8.0} {operation:>9.0} {finish:>8.0}", m.v, m.list.len() / 3, ops.len());
+    }
+}
+
+/// Models that are built one operation at a time: closed ones and one with a rim, of growing size.
+fn building_models() -> Vec<(String, Model)> {
+    let mut out = Vec::new();
+    for n in [8, 16, 32] {
+        out.push((format!("torus {}", 2 * n * n), Model::of(&gen::grid(n, n, true, true, || true))));
+    }
+    out.push(("disc".into(), Model::of(&gen::grid(16, 16, false, false, || true))));
+    out
 }
 
 /// Unpacking the model's pack.
 fn unpackings(m: &Model, repeats: usize) -> (f64, f64) {
     let pack = expected::packed(m).expect("a pack");
     let (mut triangles, mut expected) = (vec![0u16; m.list.len()], vec![0u16; m.list.len()]);
-    let mut memory = [0u16; compare::MEMORY];
-    let mut places = vec![Place::default(); 1_024];
+    let (mut places, mut expected_places) = (vec![Place::default(); 1_024], vec![Place::default(); 1_024]);
     let mut unpacker = Unpacker::new();
     medians(
         repeats,
         || {
-            black_box(compare::unpack(black_box(&pack), &mut triangles, &mut memory, 1_024)).expect("an accepted pack");
+            black_box(compare::unpack(black_box(&pack), &mut triangles, &mut places)).expect("an accepted pack");
         },
         || {
-            black_box(unpacker.unpack_at(LEVEL, black_box(&pack), &mut expected, &mut places)).expect("an accepted pack");
+            black_box(unpacker.unpack_at(LEVEL, black_box(&pack), &mut expected, &mut expected_places)).expect("an accepted pack");
         },
     )
 }
@@ -133,16 +174,15 @@ fn packings(m: &Model, repeats: usize) -> (f64, f64) {
     let v = m.v as usize;
     let (mut numbering, mut expected) = (vec![0u16; v], vec![0u16; v]);
     let (mut room, mut expected_room) = (vec![0u8; 40_000], vec![0u8; 40_000]);
-    let mut memory = [0u16; compare::MEMORY];
-    let mut places = vec![Place::default(); 1_024];
+    let (mut places, mut expected_places) = (vec![Place::default(); 1_024], vec![Place::default(); 1_024]);
     let mut packer = Packer::new();
     medians(
         repeats,
         || {
-            black_box(compare::pack(v, black_box(&m.list), &mut numbering, &mut room, &mut memory, 1_024)).expect("an accepted list");
+            black_box(compare::pack(v, black_box(&m.list), &mut numbering, &mut room, &mut places)).expect("an accepted list");
         },
         || {
-            black_box(packer.pack_at(LEVEL, m.v, black_box(&m.list), &mut expected, &mut places, &mut expected_room)).expect("an accepted list");
+            black_box(packer.pack_at(LEVEL, m.v, black_box(&m.list), &mut expected, &mut expected_places, &mut expected_room)).expect("an accepted list");
         },
     )
 }

@@ -1,1 +1,3 @@
-pub mod Counted
+pub mod Numbers
+pub mod Laws
+pub mod Meaning

@@ -1,187 +1,122 @@
-// The cores of the service for tests and benchmarks in Rust: numbers and slices only, an answer as its number in the rules, 0 for
-// acceptance. The public calls over place records differ from them by the bridge of the crate places.
-mod building; // the building calls
+// The service's calls for C and Rust. Each function goes through the service's call of its name and returns 0 for acceptance or the
+// refusal's number, 1 to 21; a refusal leaves the memory for results as it was. A slice is a pointer and a count of entries. Place
+// records and builders lie in memory as C lays them out (`repr(C)`): a record is 8 bytes, its `open` a bool, so 0 or 1; a builder
+// is 213 numbers of 16 bits. What a caller's numbers cannot mean is refused by a rule: specs/Given.antt says by which. The contracts
+// cite specs/Exported.antt.
+mod answered; // answers as numbers
+mod given; // counts and operations from numbers
 
-use rules::Checked;
-use rules::Model;
-use rules::Operation;
-use rules::Packed;
-use rules::Unpacked;
-use wire::fields::PackFields;
-use wire::reader::OperationRead;
+use answered::begun;
+use answered::begun_state;
+use answered::checked;
+use answered::finished;
+use answered::packed;
+use answered::performed;
+use answered::performed_state;
+use answered::unpacked;
+use given::counts_of;
+use given::operation_of;
+use rules::Builder;
+use rules::Place;
+ghost use mathlib.Core.Path.{_≡_};
+ghost use Rattle.rules.specs.Answer.{checkedAnswer};
+ghost use Rattle.rules.specs.Check.{check};
+ghost use Rattle.capi.specs.Given.{countsOf, operationOf};
+ghost use Rattle.capi.specs.Answered.{numberOf};
+ghost use Rattle.capi.specs.Exported.{Packs, Unpacks, Begins, Operates, Finishes};
 
-// Refusals 1 to 7.
+// Checks a list of a model of v vertices: refusals 1 to 7.
 #[no_mangle]
-pub extern "C" fn core_check(v: usize, list: &[u16]) -> u32 {
-    let c = mesh::check(v, list);
-    match c {
-        Checked::Accepted => 0,
-        Checked::Refused(n) => n as u32,
-    }
+pub extern "C" fn cutborder_check(v: usize, list: &[u16]) -> u32
+    ensures { λ n. ⌜ n ≡ numberOf (checkedAnswer (check v (now (list .entry)))) ⌝ }
+{
+    checked(mesh::check(v, list))
 }
 
-// Refusals 12 and 13, or the four counts and where the operations start and end.
+// Packs a list of a model of v vertices: refusals 1 to 11, or the pack, its length in `size`, and the numbering.
 #[no_mangle]
-pub extern "C" fn core_fields(pack: &[u8], out: &mut [u32; 6]) -> u32 {
-    let f = wire::fields::fields_of(pack);
-    match f {
-        PackFields::Found(c, from, to) => {
-            out[0] = c.vertices as u32;
-            out[1] = c.triangles as u32;
-            out[2] = c.places as u32;
-            out[3] = c.loops as u32;
-            out[4] = (from % 4294967296) as u32;
-            out[5] = (to % 4294967296) as u32;
-            0
-        }
-        PackFields::Refused(n) => n as u32,
-    }
-}
-
-// An operation as its code.
-fn code_of(o: Operation) -> u32 {
-    match o {
-        Operation::New => 0,
-        Operation::Forward => 1,
-        Operation::Backward => 2,
-        Operation::Border => 3,
-        Operation::Split(_) => 4,
-        Operation::Close => 5,
-        Operation::Union(_, _) => 6,
-        Operation::Start => 7,
-    }
-}
-
-// The loop that a union names.
-fn loop_of(o: Operation) -> u32 {
-    match o {
-        Operation::Union(p, _) => p as u32,
-        _ => 0,
-    }
-}
-
-// The place that a split or a union names.
-fn place_of(o: Operation) -> u32 {
-    match o {
-        Operation::Split(i) => i as u32,
-        Operation::Union(_, j) => j as u32,
-        _ => 0,
-    }
-}
-
-// The operation with this code and these indices.
-pub(crate) fn operation_of(code: u32, p: u32, j: u32) -> Operation {
-    let loops = (p % 65536) as u16;
-    let place = (j % 65536) as u16;
-    match code {
-        0 => Operation::New,
-        1 => Operation::Forward,
-        2 => Operation::Backward,
-        3 => Operation::Border,
-        4 => Operation::Split(place),
-        5 => Operation::Close,
-        6 => Operation::Union(loops, place),
-        _ => Operation::Start,
-    }
-}
-
-// The operation at a bit position: its code, its indices, and the position after it; 15 if the bytes break off.
-#[no_mangle]
-pub extern "C" fn core_read(ops: &[u8], at: usize, out: &mut [u32; 4]) -> u32 {
-    let r = wire::reader::read_operation(ops, at);
-    match r {
-        OperationRead::Found(o, next) => {
-            out[0] = code_of(o);
-            out[1] = loop_of(o);
-            out[2] = place_of(o);
-            out[3] = (next % 4294967296) as u32;
-            0
-        }
-        OperationRead::BreaksOff => 15,
-    }
-}
-
-// The same at a bit position of a pack's operations, which are handed on as a part of the pack; 12 or 13 if it has none.
-#[no_mangle]
-pub extern "C" fn core_read_in_pack(pack: &[u8], at: usize, out: &mut [u32; 4]) -> u32 {
-    let f = wire::fields::fields_of(pack);
-    let PackFields::Found(_, from, to) = f else {
-        return refusal_of(f);
-    };
-    core_read(&pack[from..to], at, out)
-}
-
-// The number of a refusal.
-fn refusal_of(f: PackFields) -> u32 {
-    match f {
-        PackFields::Found(_, _, _) => 0,
-        PackFields::Refused(n) => n as u32,
-    }
-}
-
-// Writes an operation at a bit position: 1 if it fits, and the position after it.
-#[no_mangle]
-pub extern "C" fn core_write(
-    pack: &mut [u8],
-    at: usize,
-    code: u32,
-    p: u32,
-    j: u32,
-    out: &mut [u32; 1],
-) -> u32 {
-    let o = operation_of(code, p, j);
-    let w = wire::writer::write_operation(pack, at, o);
-    out[0] = (w.next % 4294967296) as u32;
-    if w.fits { 1 } else { 0 }
-}
-
-// An unpacking with n place records, whose numbers m holds: vertices, triangles, edges, rims, unions and the Euler number.
-#[no_mangle]
-pub extern "C" fn core_unpack(
-    pack: &[u8],
-    triangles: &mut [u16],
-    m: &mut [u16; 5320],
-    n: usize,
-    out: &mut [i32; 6],
-) -> u32 {
-    let r = unpacker::unpack_on(pack, triangles, m, n);
-    match r {
-        Unpacked::Model(model) => {
-            store_model(model, out);
-            0
-        }
-        Unpacked::Refused(k) => k as u32,
-    }
-}
-
-fn store_model(model: Model, out: &mut [i32; 6]) {
-    let totals = model.totals;
-    out[0] = model.vertices as i32;
-    out[1] = model.triangles as i32;
-    out[2] = totals.edges as i32;
-    out[3] = totals.rims as i32;
-    out[4] = totals.unions as i32;
-    let euler = totals.euler;
-    out[5] = euler;
-}
-
-// A packing with n place records, whose numbers m holds: the pack's length.
-#[no_mangle]
-pub extern "C" fn core_pack(
+pub extern "C" fn cutborder_pack(
     v: usize,
     list: &[u16],
     numbering: &mut [u16],
-    buffer: &mut [u8],
-    m: &mut [u16; 5320],
-    n: usize,
-    out: &mut [u32; 1],
-) -> u32 {
-    let r = packer::pack_on(v, list, numbering, buffer, m, n);
-    match r {
-        Packed::Length(k) => {
-            out[0] = k;
-            0
-        }
-        Packed::Refused(k) => k as u32,
-    }
+    room: &mut [u8],
+    places: &mut [Place],
+    size: &mut u32,
+) -> u32
+    ensures { λ n. ⌜ Packs v (now (list .entry)) (now (numbering .entry)) (now (room .entry)) (now (places .entry)) (now (size .entry)) n (now (numbering .exit)) (now (room .exit)) (now (places .exit)) (now (size .exit)) ⌝ }
+{
+    let r = service::pack(v, list, numbering, room, places);
+    packed(r, size)
+}
+
+// Unpacks any bytes: refusals 12 to 20, or the triangles, the numbers of vertices, triangles, edges, rims and unions in `model`,
+// and the Euler number.
+#[no_mangle]
+pub extern "C" fn cutborder_unpack(
+    pack: &[u8],
+    triangles: &mut [u16],
+    places: &mut [Place],
+    model: &mut [u16; 5],
+    euler: &mut i32,
+) -> u32
+    ensures { λ n. ⌜ Unpacks (now (pack .entry)) (now (triangles .entry)) (now (places .entry)) (now (model .entry)) (now (euler .entry)) n (now (triangles .exit)) (now (places .exit)) (now (model .exit)) (now (euler .exit)) ⌝ }
+{
+    let r = service::unpack(pack, triangles, places);
+    unpacked(r, model, euler)
+}
+
+// Begins a building with the counts v, t, most places and most loops: 13, 14, or a builder that holds nothing in `state`. A count
+// above 65,535 is 13.
+#[no_mangle]
+pub extern "C" fn cutborder_begin(
+    v: u32,
+    t: u32,
+    most_places: u32,
+    most_loops: u32,
+    triangles: &mut [u16],
+    places: &mut [Place],
+    state: &mut Builder,
+) -> u32
+    ensures { λ n. ⌜ Begins (countsOf v t «most_places» «most_loops») (now (triangles .entry)) (now (places .entry)) (now (state .entry)) n (now (triangles .exit)) (now (places .exit)) (now (state .exit)) ⌝ }
+{
+    let c = counts_of(v, t, most_places, most_loops);
+    let r = service::begin(c, triangles, places);
+    *state = begun_state(*state, r);
+    begun(r)
+}
+
+// Does the operation of a code on any state, p and j its indices (split has j alone): 21, then 16 to 18, or the state after it;
+// `built` is then 1 and the triangle that it built, or four zeros where it marked an edge. A code above 7 or an index above 65,535
+// is no operation of the table: 16.
+#[no_mangle]
+pub extern "C" fn cutborder_operation(
+    state: &mut Builder,
+    code: u32,
+    p: u32,
+    j: u32,
+    triangles: &mut [u16],
+    places: &mut [Place],
+    built: &mut [u16; 4],
+) -> u32
+    ensures { λ n. ⌜ Operates (now (state .entry)) (operationOf code p j) (now (triangles .entry)) (now (places .entry)) (now (built .entry)) n (now (state .exit)) (now (triangles .exit)) (now (places .exit)) (now (built .exit)) ⌝ }
+{
+    let o = operation_of(code, p, j);
+    let r = service::operation(*state, o, triangles, places);
+    *state = performed_state(r);
+    performed(r, built)
+}
+
+// The finish of a building: 21, then 15, 19, 20, or edges, rims and unions in `totals`, and the Euler number.
+#[no_mangle]
+pub extern "C" fn cutborder_finish(
+    state: &Builder,
+    triangles: &[u16],
+    places: &[Place],
+    totals: &mut [u16; 3],
+    euler: &mut i32,
+) -> u32
+    ensures { λ n. ⌜ Finishes (now (state .entry)) (now (triangles .entry)) (now (places .entry)) (now (totals .entry)) (now (euler .entry)) n (now (totals .exit)) (now (euler .exit)) ⌝ }
+{
+    let r = service::finish(*state, triangles, places);
+    finished(r, totals, euler)
 }

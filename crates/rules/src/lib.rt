@@ -1,4 +1,5 @@
-// The types of the service: what its calls take, hold and answer. Their meaning stands in specs/.
+// The types of the service: what its calls take, hold and answer. Their meaning stands in specs/. What callers in other languages
+// lend too, place records and builders, lies in memory as C lays it out (`repr(C)`).
 ghost use mathlib.Core.Path.{_≡_};
 ghost use Rattle.rules.specs.Build.{emptyBuilder};
 
@@ -10,6 +11,7 @@ pub struct Triangle {
 }
 
 // The counts that a pack or a beginning states.
+#[repr(C)]
 pub struct Counts {
     pub vertices: u16,
     pub triangles: u16,
@@ -31,6 +33,7 @@ pub enum Operation {
 
 // A record of the lent place list. Of a place in a live loop: its vertex, the places before and after it in the loop, and
 // whether its edge to the next place is open (else it is marked as border). A free record may hold anything.
+#[repr(C)]
 pub struct Place {
     pub vertex: u16,
     pub before: u16,
@@ -39,6 +42,7 @@ pub struct Place {
 }
 
 // The most places and the most live loops so far.
+#[repr(C)]
 pub struct Peaks {
     pub places: u16,
     pub loops: u16,
@@ -46,6 +50,7 @@ pub struct Peaks {
 
 // A model that is being built. Of the live loops the current one stands at `live - 1`, the latest waiting one before it,
 // and so on: `current` has the place where a loop's current edge starts, `sizes` how many places it has.
+#[repr(C)]
 pub struct Builder {
     pub stated: Counts,
     pub used: u16,

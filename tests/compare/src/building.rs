@@ -3,11 +3,12 @@
 use crate::{count, met, Tally};
 use compare::expected::{self, LEVEL};
 use compare::kinds::{self, Kinds};
-use compare::{Building, RECORDS};
+use compare::Building;
 use cutborder::book::Book;
 use cutborder::gen;
 use cutborder::ops::{Counts, Op};
 use cutborder::rng::Rng;
+use cutborder::Place;
 
 /// Lists of calls, the second program's and our own; a beginning begins a list.
 const LISTS: [&str; 2] = [include_str!("../../../reference/vectors/calls.txt"), include_str!("../../definitions/calls.txt")];
@@ -61,7 +62,8 @@ fn list(rng: &mut Rng, lines: &[String], tally: &mut Tally, kinds: &mut Kinds) -
                 assert_eq!(answer, expected.as_ref().map(|_| ()).map_err(|&n| n), "{line}");
                 count(tally, &answer);
                 if let Ok(x) = expected {
-                    assert!(b.m[..RECORDS].iter().all(|&x| x == 0), "records after {line}");
+                    assert!(b.places[..1_024].iter().all(|&x| x == Place::default()), "records after {line}");
+                    assert_eq!(b.places[1_024..], before.places[1_024..], "records beyond after {line}");
                     assert_eq!(b.triangles, before.triangles, "triangles after {line}");
                     book = Some(x);
                 }
@@ -86,8 +88,10 @@ fn list(rng: &mut Rng, lines: &[String], tally: &mut Tally, kinds: &mut Kinds) -
             }
         };
         if refused {
-            assert!(b.state == before.state && b.triangles == before.triangles, "changed by {line}");
-            assert_eq!(records_of(&b), records_of(&before), "records changed by {line}");
+            unchanged(&b, &before, line);
+        }
+        if rng.chance(1, 4) {
+            meaningless(rng, &mut b, book.is_some(), tally);
         }
         if let Some(x) = &book {
             // The book counts its edges anew: of a large model now and then only.
@@ -99,8 +103,32 @@ fn list(rng: &mut Rng, lines: &[String], tally: &mut Tally, kinds: &mut Kinds) -
     lines.len()
 }
 
-fn records_of(b: &Building) -> Vec<(u16, usize, usize, bool)> {
-    (0..b.records.min(1_024)).map(|i| b.record(i)).collect()
+/// A call left the state and both buffers as they were.
+fn unchanged(b: &Building, before: &Building, call: &str) {
+    assert!(b.state == before.state && b.triangles == before.triangles && b.places == before.places, "changed by {call}");
+}
+
+/// Calls that name no operation or counts of more than 16 bits: 16, or 21 before the first beginning, and 13.
+fn meaningless(rng: &mut Rng, b: &mut Building, begun: bool, tally: &mut Tally) {
+    let before = b.clone();
+    let far = |rng: &mut Rng| [65_536, 65_537, 65_538, 131_072, u32::MAX][rng.below(5)];
+    let near = rng.below(4) as u32;
+    let (code, p, j) = match rng.below(4) {
+        0 => (8 + [0, 1, 7, 65_528, 65_529, u32::MAX - 8][rng.below(6)], near, near),
+        1 => (4, near, far(rng)),
+        2 => (6, far(rng), near),
+        _ => (6, near, far(rng)),
+    };
+    let answer = b.operate_coded(code, p, j);
+    assert_eq!(answer, Err(if begun { 16 } else { 21 }), "code {code} with {p} and {j}");
+    count(tally, &answer);
+    unchanged(b, &before, "what is no operation");
+    let mut counts = [3, 1, 3, 1];
+    counts[rng.below(4)] += far(rng).min(u32::MAX - 3);
+    let answer = b.begin(Counts { v: counts[0], t: counts[1], places: counts[2], loops: counts[3] });
+    assert_eq!(answer, Err(13), "counts {counts:?}");
+    count(tally, &answer);
+    unchanged(b, &before, "counts of more than 16 bits");
 }
 
 /// How many calls, and how many lists.
@@ -134,7 +162,7 @@ fn passes_but_for_marks(b: &Building) -> bool {
     let s = |i: usize| b.state[i] as usize;
     let (v, t, places, loops) = (s(0), s(1), s(2), s(3));
     let ranges = (3..=4_096).contains(&v) && (1..=8_192).contains(&t) && (3..=1_024).contains(&places) && (1..=100).contains(&loops);
-    if !ranges || b.triangles.len() < 3 * t || b.records < 1_024 {
+    if !ranges || b.triangles.len() < 3 * t || b.places.len() < 1_024 {
         return false;
     }
     if s(4) > v || s(5) > t || s(6) > places || s(7) > loops || s(12) > loops || (8..12).any(|i| s(i) > 3 * t) {
@@ -147,15 +175,15 @@ fn passes_but_for_marks(b: &Building) -> bool {
     for l in 0..s(12) {
         let first = s(13 + l);
         let mut at = first;
-        if s(113 + l) == 0 || first >= 1_024 || !b.record(first).3 {
+        if s(113 + l) == 0 || first >= 1_024 || !b.places[first].open {
             return false;
         }
         for _ in 0..s(113 + l) {
             if at >= 1_024 || std::mem::replace(&mut met[at], true) {
                 return false;
             }
-            let (vertex, _, after, _) = b.record(at);
-            if after >= 1_024 || b.record(after).1 != at || vertex as usize >= s(4) {
+            let (vertex, after) = (b.places[at].vertex, b.places[at].after as usize);
+            if after >= 1_024 || b.places[after].before as usize != at || vertex as usize >= s(4) {
                 return false;
             }
             at = after;
@@ -189,10 +217,15 @@ fn damage(rng: &mut Rng, b: &mut Building) {
             let live = (b.state[12] as usize).clamp(1, 100);
             let mut at = b.state[13 + rng.below(live)] as usize % 1_024;
             for _ in 0..rng.below(4) {
-                at = b.record(at).2 % 1_024;
+                at = b.places[at].after as usize % 1_024;
             }
-            let field = rng.below(4);
-            b.m[4 * at + field] = if field == 3 { 1 - b.m[4 * at + 3].min(1) } else { near(rng, b.m[4 * at + field]) };
+            let place = &mut b.places[at];
+            match rng.below(4) {
+                0 => place.vertex = near(rng, place.vertex),
+                1 => place.before = near(rng, place.before),
+                2 => place.after = near(rng, place.after),
+                _ => place.open = !place.open,
+            }
         }
         _ => {
             if !b.triangles.is_empty() {
@@ -219,7 +252,7 @@ fn damaged_call(rng: &mut Rng, tally: &mut Tally) -> Fault {
     c.t = (c.t + rng.below(3) as u32).clamp(1, 8_192);
     c.places = (c.places + rng.below(3) as u32).clamp(3, 1_024);
     c.loops = (c.loops + rng.below(2) as u32).clamp(1, 100);
-    let mut b = Building::new(3 * c.t as usize, 1_024, 0);
+    let mut b = Building::new(3 * c.t as usize, 1_024 + rng.below(2), 0);
     let mut book = Book::empty_at(LEVEL, c);
     b.begin(c).expect("a beginning");
     for &o in &w.ops[..rng.below(w.ops.len() + 1)] {
@@ -264,8 +297,7 @@ fn damaged_call(rng: &mut Rng, tally: &mut Tally) -> Fault {
         count(tally, &answer);
     }
     if !passes || b.state == before.state {
-        assert!(b.state == before.state && b.triangles == before.triangles, "changed");
-        assert_eq!(records_of(&b), records_of(&before), "records changed");
+        unchanged(&b, &before, "a refused operation");
     }
     fault
 }

@@ -1,4 +1,4 @@
-//! The cores of the service as Rust sees them: each exported function behind a safe one. And what is expected of them.
+//! The service's functions as Rust sees them: each exported function behind a safe one. And what is expected of them.
 
 #[path = "../../expected.rs"]
 pub mod expected;
@@ -8,46 +8,45 @@ use cutborder::book::{Finish, Spot};
 use cutborder::ops::{Counts, Op};
 use cutborder::{Answer, Place, Refusal, MAX_INPUT};
 
-/// The plain memory of an unpacking: four numbers for each of 1,024 place records, and room to work in.
-pub const MEMORY: usize = 5_320;
-pub const RECORDS: usize = 4_096;
-
-/// A builder's state: the four counts stated, vertices, triangles, both peaks, edges, starts, unions, rims, live loops, then the
-/// loops' current places and their sizes.
+/// A builder as it lies in memory, 213 numbers: the four counts stated, vertices, triangles, both peaks, edges, starts, unions, rims,
+/// live loops, then the loops' current places and their sizes.
 pub const STATE: usize = 213;
 pub type State = [u16; STATE];
 
 extern "C" {
-    fn core_begin(
-        counts: *const [u16; 4],
+    fn cutborder_begin(
+        v: u32,
+        t: u32,
+        most_places: u32,
+        most_loops: u32,
         triangles: *mut u16,
         triangles_len: usize,
-        m: *mut [u16; MEMORY],
-        n: usize,
+        places: *mut Place,
+        places_len: usize,
         state: *mut State,
     ) -> u32;
-    fn core_check(v: usize, list: *const u16, len: usize) -> u32;
-    fn core_fields(pack: *const u8, len: usize, out: *mut [u32; 6]) -> u32;
-    fn core_finish(
+    fn cutborder_check(v: usize, list: *const u16, len: usize) -> u32;
+    fn cutborder_finish(
         state: *const State,
         triangles: *const u16,
         triangles_len: usize,
-        m: *mut [u16; MEMORY],
-        n: usize,
-        out: *mut [i32; 4],
+        places: *const Place,
+        places_len: usize,
+        totals: *mut [u16; 3],
+        euler: *mut i32,
     ) -> u32;
-    fn core_operate(
+    fn cutborder_operation(
         state: *mut State,
         code: u32,
         p: u32,
         j: u32,
         triangles: *mut u16,
         triangles_len: usize,
-        m: *mut [u16; MEMORY],
-        n: usize,
-        out: *mut [u16; 3],
+        places: *mut Place,
+        places_len: usize,
+        built: *mut [u16; 4],
     ) -> u32;
-    fn core_pack(
+    fn cutborder_pack(
         v: usize,
         list: *const u16,
         len: usize,
@@ -55,151 +54,115 @@ extern "C" {
         numbering_len: usize,
         room: *mut u8,
         room_len: usize,
-        m: *mut [u16; MEMORY],
-        n: usize,
-        out: *mut [u32; 1],
+        places: *mut Place,
+        places_len: usize,
+        size: *mut u32,
     ) -> u32;
-    fn core_read(ops: *const u8, len: usize, at: usize, out: *mut [u32; 4]) -> u32;
-    fn core_read_in_pack(pack: *const u8, len: usize, at: usize, out: *mut [u32; 4]) -> u32;
-    fn core_unpack(
+    fn cutborder_unpack(
         pack: *const u8,
         len: usize,
         triangles: *mut u16,
         triangles_len: usize,
-        m: *mut [u16; MEMORY],
-        n: usize,
-        out: *mut [i32; 6],
+        places: *mut Place,
+        places_len: usize,
+        model: *mut [u16; 5],
+        euler: *mut i32,
     ) -> u32;
-    fn core_write(pack: *mut u8, len: usize, at: usize, code: u32, p: u32, j: u32, out: *mut [u32; 1]) -> u32;
 }
 
-fn verdict(n: u32) -> Result<(), Refusal> {
+/// What the memory for results holds before a call: a refusal leaves it so.
+const BEFORE: (u16, i32) = (7_777, -7_777);
+
+/// An answer's number; the results that it came with are as they were if it is a refusal.
+fn verdict(n: u32, untouched: bool) -> Result<(), Refusal> {
     match n {
         0 => Ok(()),
-        n => Err(n as Refusal),
+        n => {
+            assert!(untouched, "refusal {n} changed the memory for results");
+            Err(u8::try_from(n).expect("a refusal's number"))
+        }
     }
 }
 
 /// Refusals 1 to 7.
 pub fn check(v: usize, list: &[u16]) -> Result<(), Refusal> {
-    verdict(unsafe { core_check(v, list.as_ptr(), list.len()) })
+    verdict(unsafe { cutborder_check(v, list.as_ptr(), list.len()) }, true)
 }
 
-/// Refusals 12 and 13, or the counts and where the operations start and end.
-pub fn fields(pack: &[u8]) -> Result<(Counts, usize, usize), Refusal> {
-    let mut out = [0u32; 6];
-    verdict(unsafe { core_fields(pack.as_ptr(), pack.len(), &mut out) })?;
-    let [v, t, places, loops, start, end] = out;
-    Ok((Counts { v, t, places, loops }, start as usize, end as usize))
+pub fn unpack(pack: &[u8], triangles: &mut [u16], places: &mut [Place]) -> Result<Answer, Refusal> {
+    let (mut model, mut euler) = ([BEFORE.0; 5], BEFORE.1);
+    let (ts, ps) = ((triangles.as_mut_ptr(), triangles.len()), (places.as_mut_ptr(), places.len()));
+    let n = unsafe { cutborder_unpack(pack.as_ptr(), pack.len(), ts.0, ts.1, ps.0, ps.1, &mut model, &mut euler) };
+    verdict(n, model == [BEFORE.0; 5] && euler == BEFORE.1)?;
+    let [v, t, edges, rims, unions] = model.map(u32::from);
+    Ok(Answer { v, t, edges, rims, unions, euler })
 }
 
-/// The operation at a bit position and the position after it, or that the bytes break off.
-pub fn read(ops: &[u8], at: usize) -> Option<(Op, usize)> {
-    let mut out = [0u32; 4];
-    let n = unsafe { core_read(ops.as_ptr(), ops.len(), at, &mut out) };
-    (n == 0).then(|| found(out))
-}
-
-/// The same at a bit position of a pack's operations; 15 if they break off.
-pub fn read_in_pack(pack: &[u8], at: usize) -> Result<(Op, usize), Refusal> {
-    let mut out = [0u32; 4];
-    verdict(unsafe { core_read_in_pack(pack.as_ptr(), pack.len(), at, &mut out) })?;
-    Ok(found(out))
-}
-
-/// An operation's code, its indices and the position after it.
-fn found(out: [u32; 4]) -> (Op, usize) {
-    let op = match out[0] {
-        0 => Op::New,
-        1 => Op::Forward,
-        2 => Op::Backward,
-        3 => Op::Border,
-        4 => Op::Split(out[2]),
-        5 => Op::Close,
-        6 => Op::Union(out[1], out[2]),
-        _ => Op::Start,
-    };
-    (op, out[3] as usize)
-}
-
-/// The loop and the place that an operation names.
-fn indices(op: Op) -> (u32, u32) {
-    match op {
-        Op::Split(i) => (0, i),
-        Op::Union(p, j) => (p, j),
-        _ => (0, 0),
-    }
-}
-
-/// Writes an operation at a bit position; whether it fits, and the position after it.
-pub fn write(pack: &mut [u8], at: usize, op: Op) -> (bool, usize) {
-    let (p, j) = indices(op);
-    let mut out = [0u32; 1];
-    let fits = unsafe { core_write(pack.as_mut_ptr(), pack.len(), at, op.code(), p, j, &mut out) };
-    (fits == 1, out[0] as usize)
-}
-
-/// An unpacking with n place records.
-pub fn unpack(pack: &[u8], triangles: &mut [u16], m: &mut [u16; MEMORY], n: usize) -> Result<Answer, Refusal> {
-    let mut out = [0i32; 6];
-    verdict(unsafe { core_unpack(pack.as_ptr(), pack.len(), triangles.as_mut_ptr(), triangles.len(), m, n, &mut out) })?;
-    let [v, t, edges, rims, unions] = [out[0], out[1], out[2], out[3], out[4]].map(|x| x as u32);
-    Ok(Answer { v, t, edges, rims, unions, euler: out[5] })
-}
-
-/// A packing with n place records: the pack's length.
-pub fn pack(v: usize, list: &[u16], numbering: &mut [u16], room: &mut [u8], m: &mut [u16; MEMORY], n: usize) -> Result<usize, Refusal> {
-    let mut out = [0u32; 1];
+/// A packing: the pack's length.
+pub fn pack(v: usize, list: &[u16], numbering: &mut [u16], room: &mut [u8], places: &mut [Place]) -> Result<usize, Refusal> {
+    let mut size = u32::from(BEFORE.0);
     let (ns, bs) = ((numbering.as_mut_ptr(), numbering.len()), (room.as_mut_ptr(), room.len()));
-    verdict(unsafe { core_pack(v, list.as_ptr(), list.len(), ns.0, ns.1, bs.0, bs.1, m, n, &mut out) })?;
-    Ok(out[0] as usize)
+    let n = unsafe {
+        cutborder_pack(v, list.as_ptr(), list.len(), ns.0, ns.1, bs.0, bs.1, places.as_mut_ptr(), places.len(), &mut size)
+    };
+    verdict(n, size == u32::from(BEFORE.0))?;
+    Ok(size as usize)
 }
 
-/// A builder with its state and its buffers: a triangle buffer, and n place records, whose numbers the memory holds.
+/// A builder with its state and its buffers: a triangle buffer and a list of place records.
 #[derive(Clone)]
 pub struct Building {
     pub state: State,
     pub triangles: Vec<u16>,
-    pub m: [u16; MEMORY],
-    pub records: usize,
+    pub places: Vec<Place>,
 }
 
 impl Building {
     /// A builder that was never begun, in buffers that hold anything.
     pub fn new(entries: usize, records: usize, filler: u16) -> Building {
-        Building { state: [0; STATE], triangles: vec![filler; entries], m: [filler; MEMORY], records }
+        let place = Place { vertex: filler, before: filler, after: filler, open: filler % 2 == 1 };
+        Building { state: [0; STATE], triangles: vec![filler; entries], places: vec![place; records] }
     }
 
     pub fn begin(&mut self, c: Counts) -> Result<(), Refusal> {
-        let counts = [c.v, c.t, c.places, c.loops].map(|x| x.min(65_535) as u16);
-        let t = &mut self.triangles;
-        verdict(unsafe { core_begin(&counts, t.as_mut_ptr(), t.len(), &mut self.m, self.records, &mut self.state) })
+        let (t, p) = (&mut self.triangles, &mut self.places);
+        let (ts, ps) = ((t.as_mut_ptr(), t.len()), (p.as_mut_ptr(), p.len()));
+        verdict(unsafe { cutborder_begin(c.v, c.t, c.places, c.loops, ts.0, ts.1, ps.0, ps.1, &mut self.state) }, true)
     }
 
     /// The triangle built, or none at border.
     pub fn operate(&mut self, op: Op) -> Result<Option<[u16; 3]>, Refusal> {
-        let (p, j) = indices(op);
-        let mut out = [0u16; 3];
-        let t = &mut self.triangles;
-        match unsafe { core_operate(&mut self.state, op.code(), p, j, t.as_mut_ptr(), t.len(), &mut self.m, self.records, &mut out) } {
-            0 => Ok(Some(out)),
-            255 => Ok(None),
-            n => Err(n as Refusal),
+        let (p, j) = match op {
+            Op::Split(i) => (0, i),
+            Op::Union(p, j) => (p, j),
+            _ => (0, 0),
+        };
+        self.operate_coded(op.code(), p, j)
+    }
+
+    /// The same for any code and indices.
+    pub fn operate_coded(&mut self, code: u32, p: u32, j: u32) -> Result<Option<[u16; 3]>, Refusal> {
+        let mut built = [BEFORE.0; 4];
+        let (t, r) = (&mut self.triangles, &mut self.places);
+        let (ts, ps) = ((t.as_mut_ptr(), t.len()), (r.as_mut_ptr(), r.len()));
+        let n = unsafe { cutborder_operation(&mut self.state, code, p, j, ts.0, ts.1, ps.0, ps.1, &mut built) };
+        verdict(n, built == [BEFORE.0; 4])?;
+        match built {
+            [1, a, b, c] => Ok(Some([a, b, c])),
+            marked => {
+                assert_eq!(marked, [0; 4]);
+                Ok(None)
+            }
         }
     }
 
-    pub fn finish(&mut self) -> Result<Finish, Refusal> {
-        let mut out = [0i32; 4];
-        let t = &self.triangles;
-        verdict(unsafe { core_finish(&self.state, t.as_ptr(), t.len(), &mut self.m, self.records, &mut out) })?;
-        let [edges, rims, unions] = [out[0], out[1], out[2]].map(|x| x as u32);
-        Ok(Finish { edges, rims, unions, euler: out[3] })
-    }
-
-    /// Record i: vertex, place before, place after, whether its edge is open.
-    pub fn record(&self, i: usize) -> (u16, usize, usize, bool) {
-        let r = &self.m[4 * i..4 * i + 4];
-        (r[0], r[1] as usize, r[2] as usize, r[3] == 1)
+    pub fn finish(&self) -> Result<Finish, Refusal> {
+        let (mut totals, mut euler) = ([BEFORE.0; 3], BEFORE.1);
+        let (t, p) = (&self.triangles, &self.places);
+        let n = unsafe { cutborder_finish(&self.state, t.as_ptr(), t.len(), p.as_ptr(), p.len(), &mut totals, &mut euler) };
+        verdict(n, totals == [BEFORE.0; 3] && euler == BEFORE.1)?;
+        let [edges, rims, unions] = totals.map(u32::from);
+        Ok(Finish { edges, rims, unions, euler })
     }
 
     /// The live loops, the current one first, each from its current edge on.
@@ -210,9 +173,9 @@ impl Building {
                 let mut at = self.state[13 + l] as usize;
                 (0..self.state[113 + l])
                     .map(|_| {
-                        let (vertex, _, after, open) = self.record(at);
-                        at = after;
-                        Spot { vertex, open }
+                        let place = self.places[at];
+                        at = place.after as usize;
+                        Spot { vertex: place.vertex, open: place.open }
                     })
                     .collect()
             })

@@ -6,10 +6,9 @@ mod building;
 
 use compare::expected::{self, LEVEL, LIMITS};
 use compare::kinds::{self, Kinds};
-use compare::{check, fields, pack, read, read_in_pack, unpack, write, MEMORY, RECORDS};
+use compare::{check, pack, unpack};
 use cutborder::fast::{Packer, Unpacker};
 use cutborder::gen::{self, Model};
-use cutborder::ops::{encode_ops, BitReader, Op};
 use cutborder::proto::unhex;
 use cutborder::rng::Rng;
 use cutborder::{plain, Place};
@@ -138,92 +137,54 @@ fn bytes(rng: &mut Rng) -> Vec<u8> {
     b
 }
 
-fn packs(rng: &mut Rng, rounds: usize) -> (usize, Tally) {
-    let mut tally = Tally::new();
+/// A number of place records: mostly enough, sometimes fewer or more.
+fn records(rng: &mut Rng) -> usize {
+    match rng.below(20) {
+        0 => rng.below(1_025),
+        1 => 1_024 + rng.below(9),
+        _ => 1_024,
+    }
+}
+
+/// Place records that hold anything.
+fn used_places(records: usize) -> Vec<Place> {
+    vec![Place { vertex: 9, before: 9, after: 9, open: true }; records]
+}
+
+/// Some bytes unpacked in buffers of some length: the answer and every buffer afterwards, and the same of the second program's fast
+/// engine.
+fn unpacking(rng: &mut Rng, b: &[u8], fast: &mut Unpacker, tally: &mut Tally, kinds: &mut Kinds) {
+    let known = expected::fields(b);
+    let t = known.map_or(1, |(c, _)| c.t as usize);
+    let room = if rng.chance(1, 16) { rng.below(3 * t + 1) } else { 3 * t + rng.below(4) };
+    let records = records(rng);
+    let (mut triangles, mut expected) = (vec![7u16; room], vec![7u16; room]);
+    let (mut places, mut expected_places) = (used_places(records), used_places(records));
+    let (mut fast_triangles, mut fast_places) = (expected.clone(), places.clone());
+    let answer = expected::unpack(b, &mut expected, &mut expected_places);
+    assert_eq!(unpack(b, &mut triangles, &mut places), answer, "pack {b:02x?}");
+    assert_eq!(triangles, expected, "triangles of pack {b:02x?}");
+    assert_eq!(places, expected_places, "places after pack {b:02x?}");
+    assert_eq!(fast.unpack_at(LEVEL, b, &mut fast_triangles, &mut fast_places), answer, "fast engine, pack {b:02x?}");
+    assert_eq!((fast_triangles, fast_places), (expected, expected_places), "fast engine, pack {b:02x?}");
+    count(tally, &answer);
+    if let Some(book) = known.ok().and_then(|(c, _)| expected::begin(c, room, records).ok()) {
+        kinds::note_all(kinds, book, &gen::read_ops(&b[14..]));
+    }
+}
+
+/// Bytes that are no pack, or hardly one.
+fn strings(rng: &mut Rng, rounds: usize) -> (usize, Tally) {
+    let (mut tally, mut kinds, mut fast) = (Tally::new(), Kinds::new(), Unpacker::new());
     for _ in 0..rounds {
         let b = bytes(rng);
-        let expected = expected::fields(&b).and_then(|(c, ops)| if c.in_range() { Ok((c, ops)) } else { Err(13) });
-        let found = fields(&b);
-        assert_eq!(found.map(|(c, from, to)| (c, &b[from..to])), expected, "pack {b:02x?}");
-        count(&mut tally, &expected);
-        let at = rng.below(40);
-        let op = expected.and_then(|(_, ops)| read(ops, at).ok_or(15));
-        assert_eq!(read_in_pack(&b, at), op, "at {at} of pack {b:02x?}");
+        unpacking(rng, &b, &mut fast, &mut tally, &mut kinds);
     }
-    met(&tally, &[0, 12, 13]);
+    met(&tally, &[0, 12, 13, 14, 15, 16, 17, 18, 19]);
     (rounds, tally)
 }
 
-fn width(o: Op) -> usize {
-    match o {
-        Op::Split(_) => 13,
-        Op::Union(..) => 20,
-        _ => 3,
-    }
-}
-
-/// All operations that bytes hold, and from any position on.
-fn reads(rng: &mut Rng, rounds: usize) -> usize {
-    let mut n = 0;
-    for _ in 0..rounds {
-        let b = bytes(rng);
-        let mut reader = BitReader::new(&b);
-        let mut at = 0;
-        loop {
-            let expected = reader.next_op().map(|o| (o, at + width(o)));
-            assert_eq!(read(&b, at), expected, "at {at} of {b:02x?}");
-            n += 1;
-            match expected {
-                Some((_, next)) => at = next,
-                None => break,
-            }
-        }
-        let beyond = 8 * b.len() + rng.below(70_000);
-        assert_eq!(read(&b, beyond), None, "beyond the end of {b:02x?}");
-    }
-    n
-}
-
-/// Operations written one after the other into buffers that held anything, too short ones too.
-fn writes(rng: &mut Rng, rounds: usize) -> usize {
-    let mut n = 0;
-    for _ in 0..rounds {
-        let ops: Vec<Op> = (0..rng.range(1, 60))
-            .map(|_| match rng.below(10) {
-                0..=1 => Op::Split(rng.below(1_024) as u32),
-                2..=3 => Op::Union(rng.below(128) as u32, rng.below(1_024) as u32),
-                4 => Op::New,
-                5 => Op::Forward,
-                6 => Op::Backward,
-                7 => Op::Border,
-                8 => Op::Close,
-                _ => Op::Start,
-            })
-            .collect();
-        let whole = encode_ops(&ops);
-        let filler = rng.below(256) as u8;
-        let mut room = vec![filler; rng.below(whole.len() + 4)];
-        let (mut at, mut fitting) = (0, 0);
-        for (i, &o) in ops.iter().enumerate() {
-            let (fits, next) = write(&mut room, at, o);
-            assert_eq!(next, at + width(o), "{ops:?}");
-            assert_eq!(fits, next <= 8 * room.len(), "{ops:?}");
-            if !fits {
-                break;
-            }
-            (at, fitting) = (next, i + 1);
-            let written = encode_ops(&ops[..fitting]);
-            assert_eq!(room[..written.len()], written, "{:?}", &ops[..fitting]);
-            assert!(room[written.len()..].iter().all(|&b| b == filler), "beyond the end: {ops:?}");
-            n += 1;
-        }
-        assert_eq!(room[..encode_ops(&ops[..fitting]).len()], encode_ops(&ops[..fitting]));
-    }
-    n
-}
-
-/// Packs of all kinds, sound and spoilt, in buffers of all lengths: the answer and every buffer afterwards, and the same of the
-/// second program's fast engine.
+/// Packs of all kinds, sound and spoilt.
 fn unpacks(rng: &mut Rng, rounds: usize, kinds: &mut Kinds) -> (usize, Tally) {
     let mut tally = Tally::new();
     let mut packs: Vec<Vec<u8>> = PACKS.lines().filter(|l| !l.starts_with('#')).map(|l| unhex(l).expect("hexadecimal")).collect();
@@ -236,25 +197,7 @@ fn unpacks(rng: &mut Rng, rounds: usize, kinds: &mut Kinds) -> (usize, Tally) {
             Some(n) if n % 4 == 1 => expected::packed(&gen::sound(rng, 200)).unwrap_or_default(),
             _ => expected::random_pack(rng, 120),
         };
-        let known = expected::fields(&b);
-        let t = known.map_or(1, |(c, _)| c.t as usize);
-        let room = if rng.chance(1, 16) { rng.below(3 * t + 1) } else { 3 * t + rng.below(4) };
-        let records = if rng.chance(1, 16) { rng.below(1_025) } else { 1_024 };
-        let (mut triangles, mut expected) = (vec![7u16; room], vec![7u16; room]);
-        let mut m = [9u16; MEMORY];
-        let mut places = vec![Place { vertex: 9, before: 9, after: 9, open: true }; records];
-        let (mut fast_triangles, mut fast_places) = (expected.clone(), places.clone());
-        let answer = expected::unpack(&b, &mut expected, &mut places);
-        assert_eq!(unpack(&b, &mut triangles, &mut m, records), answer, "pack {b:02x?}");
-        assert_eq!(triangles, expected, "triangles of pack {b:02x?}");
-        let cleared = records == 1_024 && places[0] == Place::default();
-        assert!(m[..RECORDS].iter().all(|&x| x == if cleared { 0 } else { 9 }), "memory after pack {b:02x?}");
-        assert_eq!(fast.unpack_at(LEVEL, &b, &mut fast_triangles, &mut fast_places), answer, "fast engine, pack {b:02x?}");
-        assert_eq!((fast_triangles, fast_places), (expected, places), "fast engine, pack {b:02x?}");
-        count(&mut tally, &answer);
-        if let Some(book) = known.ok().and_then(|(c, _)| expected::begin(c, room, records).ok()) {
-            kinds::note_all(kinds, book, &gen::read_ops(&b[14..]));
-        }
+        unpacking(rng, &b, &mut fast, &mut tally, kinds);
     }
     met(&tally, &[0, 12, 13, 14, 15, 16, 17, 18, 19, 20]);
     (rounds + packs.len(), tally)
@@ -312,7 +255,7 @@ fn packings(rng: &mut Rng, rounds: usize, kinds: &mut Kinds) -> (usize, Tally) {
 fn packing(rng: &mut Rng, m: &Model, fast: &mut Packer, tally: &mut Tally, kinds: &mut Kinds) {
     let v = (m.v as usize).min(5_000);
     let numbering = if rng.chance(1, 20) { rng.below(v + 1) } else { v + rng.below(3) };
-    let records = if rng.chance(1, 30) { rng.below(1_025) } else { 1_024 };
+    let records = records(rng);
     let long = expected::packed(m).map_or(20, |p| p.len());
     let room = match rng.below(8) {
         0 => rng.below(long + 1),
@@ -321,19 +264,17 @@ fn packing(rng: &mut Rng, m: &Model, fast: &mut Packer, tally: &mut Tally, kinds
     };
     let (mut ns, mut expected_ns) = (vec![7u16; numbering], vec![7u16; numbering]);
     let (mut bs, mut expected_bs) = (vec![5u8; room], vec![5u8; room]);
-    let mut memory = [9u16; MEMORY];
-    let mut places = vec![Place { vertex: 9, before: 9, after: 9, open: true }; records];
+    let (mut places, mut expected_places) = (used_places(records), used_places(records));
     let (mut fast_ns, mut fast_bs, mut fast_places) = (ns.clone(), bs.clone(), places.clone());
-    let expected = expected::pack(m.v, &m.list, &mut expected_ns, &mut places, &mut expected_bs);
-    let answer = pack(m.v as usize, &m.list, &mut ns, &mut bs, &mut memory, records);
+    let expected = expected::pack(m.v, &m.list, &mut expected_ns, &mut expected_places, &mut expected_bs);
+    let answer = pack(m.v as usize, &m.list, &mut ns, &mut bs, &mut places);
     assert_eq!(answer, expected, "model {}", m.line());
     assert_eq!(ns, expected_ns, "numbering of model {}", m.line());
     assert_eq!(bs, expected_bs, "pack of model {}", m.line());
-    let cleared = records == 1_024 && places[0] == Place::default();
-    assert!(memory[..RECORDS].iter().all(|&x| x == if cleared { 0 } else { 9 }), "memory after model {}", m.line());
+    assert_eq!(places, expected_places, "places after model {}", m.line());
     let answer = fast.pack_at(LEVEL, m.v, &m.list, &mut fast_ns, &mut fast_places, &mut fast_bs);
     assert_eq!(answer, expected, "fast engine, model {}", m.line());
-    assert!(fast_ns == expected_ns && fast_bs == expected_bs && fast_places == places, "fast engine, buffers of model {}", m.line());
+    assert!(fast_ns == expected_ns && fast_bs == expected_bs && fast_places == expected_places, "fast engine, buffers of model {}", m.line());
     count(tally, &answer);
     if matches!(expected, Ok(_) | Err(11)) {
         let (ops, chosen) = expected::choose(m.v, &m.list, LIMITS).expect("a packing");
@@ -360,10 +301,8 @@ fn main() {
     let (n, tally) = lists(&mut rng, 2_000 * scale);
     println!("lists: {n} alike, answers {tally:?}, {:.1} s", t.elapsed().as_secs_f64());
     let t = Instant::now();
-    let (n, tally) = packs(&mut rng, 5_000 * scale);
-    println!("fields: {n} byte strings alike, answers {tally:?}, {:.1} s", t.elapsed().as_secs_f64());
-    let t = Instant::now();
-    println!("reads: {} alike, {:.1} s", reads(&mut rng, 2_000 * scale), t.elapsed().as_secs_f64());
+    let (n, tally) = strings(&mut rng, 5_000 * scale);
+    println!("byte strings: {n} alike, answers {tally:?}, {:.1} s", t.elapsed().as_secs_f64());
     let t = Instant::now();
     let mut kinds = Kinds::new();
     let (n, tally) = unpacks(&mut rng, 4_000 * scale, &mut kinds);
@@ -385,6 +324,4 @@ fn main() {
         "damaged states: {n} alike, {passed} pass 21, {between} have a place between two marked edges and no other fault, answers {tally:?}, {:.1} s",
         t.elapsed().as_secs_f64()
     );
-    let t = Instant::now();
-    println!("writes: {} alike, {:.1} s", writes(&mut rng, 2_000 * scale), t.elapsed().as_secs_f64());
 }

@@ -1,0 +1,98 @@
+-- Laws of what a caller's numbers mean, and of answers as numbers, one for each way through a function.
+-- Assumes nothing.
+use Prim.Native.Nat.{ℕ, zero, suc, _<_, _≤_, _^_}
+use mathlib.Core.List.{List, [], _∷_}
+use mathlib.Core.Path.{_≡_, refl, sym, ap, _∙_}
+use lib.IntN.{ℤ}
+use lib.Signed.{mag}
+use mir.Syntax.{w32}
+use mir.Val.{hbits, ofZ, toZ}
+use mir.ValLaws.{toZ-ofZ}
+use borrow.Author.Tests.{lt-ltb, le-ltb, le-leb, lt-leb}
+use Rattle.rules.specs.declared.Counts.{Counts}
+use Rattle.rules.specs.declared.Operation.the-variants.{Split, Union}
+use Rattle.rules.specs.declared.Triangle.{Triangle}
+use Rattle.rules.specs.declared.Totals.{Totals}
+use Rattle.rules.specs.declared.Model.{Model}
+use Rattle.rules.specs.declared.Operated.{Operated}
+use Rattle.rules.specs.declared.Operated.the-variants as O
+use Rattle.rules.specs.declared.Finished.{Finished}
+use Rattle.rules.specs.declared.Finished.the-variants as F
+use Rattle.rules.specs.declared.Unpacked.{Unpacked}
+use Rattle.rules.specs.declared.Unpacked.the-variants as U
+use Rattle.rules.specs.Answer.{operatedAnswer, finishedAnswer, unpackedAnswer}
+use Rattle.capi.specs.Given.{within16, countsOf, none, splitOf, unionOf, operationOf}
+use Rattle.capi.specs.Answered.{numberOf, modelAfter, totalsAfter, eulerAfter, builtAfter}
+
+pub within-small : (n : ℕ) → n < 65536 → n ≡ within16 n
+unfolding within16
+within-small n h = rw (within16, lt-ltb n 65536 h)
+
+pub within-large : (n : ℕ) → 65536 ≤ n → 65535 ≡ within16 n
+unfolding within16
+within-large n h = rw (within16, le-ltb n 65536 h)
+
+abbrev pub counts : ℕ → ℕ → ℕ → ℕ → Counts
+counts a b c d = record { vertices = a; triangles = b; places = c; loops = d }
+
+pub counts-are : (a b c d v t p l : ℕ) → a ≡ within16 v → b ≡ within16 t → c ≡ within16 p → d ≡ within16 l → counts a b c d ≡ countsOf v t p l
+counts-are a b c d v t p l ea eb ec ed i = record { vertices = ea i; triangles = eb i; places = ec i; loops = ed i }
+
+pub split-small : (i : ℕ) → i < 65536 → Split i ≡ splitOf i
+unfolding splitOf
+split-small i h = rw (splitOf, lt-ltb i 65536 h)
+
+pub split-large : (i : ℕ) → 65536 ≤ i → none ≡ splitOf i
+unfolding splitOf
+split-large i h = rw (splitOf, le-ltb i 65536 h)
+
+pub union-large : (p j : ℕ) → 65536 ≤ p → none ≡ unionOf p j
+unfolding unionOf
+union-large p j h = rw (unionOf, le-leb 65536 p h)
+
+pub union-far : (p j : ℕ) → p < 65536 → 65536 ≤ j → none ≡ unionOf p j
+unfolding unionOf
+union-far p j h k = rw (unionOf, lt-leb 65536 p h, le-leb 65536 j k)
+
+pub union-small : (p j : ℕ) → p < 65536 → j < 65536 → Union p j ≡ unionOf p j
+unfolding unionOf
+union-small p j h k = rw (unionOf, lt-leb 65536 p h, lt-leb 65536 j k)
+
+-- a code that is one of the eight, as a number k that is known
+pub code-is : (k n p j : ℕ) → n ≡ k → operationOf k p j ≡ operationOf n p j
+code-is k n p j e = ap (λ (m : ℕ). operationOf m p j) (sym e)
+
+-- a code that is none of the eight
+pub code-rest : (n p j : ℕ) → (n ≡ 0 → ⊥) → (n ≡ 1 → ⊥) → (n ≡ 2 → ⊥) → (n ≡ 3 → ⊥) → (n ≡ 4 → ⊥) → (n ≡ 5 → ⊥) → (n ≡ 6 → ⊥) → (n ≡ 7 → ⊥) → none ≡ operationOf n p j
+unfolding operationOf
+code-rest zero p j h0 h1 h2 h3 h4 h5 h6 h7 = absurd (h0 refl)
+code-rest (suc zero) p j h0 h1 h2 h3 h4 h5 h6 h7 = absurd (h1 refl)
+code-rest (suc (suc zero)) p j h0 h1 h2 h3 h4 h5 h6 h7 = absurd (h2 refl)
+code-rest (suc (suc (suc zero))) p j h0 h1 h2 h3 h4 h5 h6 h7 = absurd (h3 refl)
+code-rest (suc (suc (suc (suc zero)))) p j h0 h1 h2 h3 h4 h5 h6 h7 = absurd (h4 refl)
+code-rest (suc (suc (suc (suc (suc zero))))) p j h0 h1 h2 h3 h4 h5 h6 h7 = absurd (h5 refl)
+code-rest (suc (suc (suc (suc (suc (suc zero)))))) p j h0 h1 h2 h3 h4 h5 h6 h7 = absurd (h6 refl)
+code-rest (suc (suc (suc (suc (suc (suc (suc zero))))))) p j h0 h1 h2 h3 h4 h5 h6 h7 = absurd (h7 refl)
+code-rest (suc (suc (suc (suc (suc (suc (suc (suc n)))))))) p j h0 h1 h2 h3 h4 h5 h6 h7 = refl
+
+pub built-is : (xs : List ℕ) (a : Operated) (t : Triangle) → a ≡ O.Built t
+    → (0 ≡ numberOf (operatedAnswer a)) × ((1 ∷ (t .p ∷ (t .q ∷ (t .r ∷ [])))) ≡ builtAfter xs (operatedAnswer a))
+built-is xs a t e = (ap (λ (x : Operated). numberOf (operatedAnswer x)) (sym e), ap (λ (x : Operated). builtAfter xs (operatedAnswer x)) (sym e))
+
+-- a signed number is stored by its bits
+stored : (z : ℤ) → mag z < 2 ^ hbits w32 → toZ w32 (ofZ w32 z) ≡ z
+stored z f = toZ-ofZ w32 z (record { sfits = f })
+
+pub totals-are : (xs : List ℕ) (z : ℤ) (a : Finished) (t : Totals) → a ≡ F.Totals t → mag (t .euler) < 2 ^ hbits w32
+    → (0 ≡ numberOf (finishedAnswer a)) × (((t .edges ∷ (t .rims ∷ (t .unions ∷ []))) ≡ totalsAfter xs (finishedAnswer a)) × (toZ w32 (ofZ w32 (t .euler)) ≡ eulerAfter z (finishedAnswer a)))
+totals-are xs z a t e f = (
+  ap (λ (x : Finished). numberOf (finishedAnswer x)) (sym e),
+  (ap (λ (x : Finished). totalsAfter xs (finishedAnswer x)) (sym e), stored (t .euler) f ∙ ap (λ (x : Finished). eulerAfter z (finishedAnswer x)) (sym e)),
+)
+
+pub model-is : (xs : List ℕ) (z : ℤ) (a : Unpacked) (m : Model) → a ≡ U.Model m → mag (m .totals .euler) < 2 ^ hbits w32
+    → (0 ≡ numberOf (unpackedAnswer a)) × (((m .vertices ∷ (m .triangles ∷ (m .totals .edges ∷ (m .totals .rims ∷ (m .totals .unions ∷ []))))) ≡ modelAfter xs (unpackedAnswer a)) × (toZ w32 (ofZ w32 (m .totals .euler)) ≡ eulerAfter z (unpackedAnswer a)))
+model-is xs z a m e f = (
+  ap (λ (x : Unpacked). numberOf (unpackedAnswer x)) (sym e),
+  (ap (λ (x : Unpacked). modelAfter xs (unpackedAnswer x)) (sym e), stored (m .totals .euler) f ∙ ap (λ (x : Unpacked). eulerAfter z (unpackedAnswer x)) (sym e)),
+)
