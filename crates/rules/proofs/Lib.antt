@@ -1,3 +1,5 @@
 pub mod Rows
+pub mod Bench
 pub mod Models
 pub mod States
+pub mod Log
