@@ -10,7 +10,7 @@ use Rattle.rules.specs.declared.Operation.the-variants.{New, Split, Star
 use Rattle.rules.specs.Triangle.{tri, trianglesOf, corners, edgesOf}
 use Rattle.rules.specs.Answer.{refusal, accepted, triangle, packed}
 use Rattle.rules.specs.Book.{begin, operate, answers}
-use Rattle.rules.specs.Pack.{PackBuffers, pack, chooseAll, indexOf, newNumbers, packChosen, packChecked}
+use Rattle.rules.specs.Pack.{PackBuffers, most, pack, chooseAll, indexOf, newNumbers, packChosen, packChecked}
 use Rattle.rules.specs.Count.{same, hit, occurs, count}
 use Rattle.rules.specs.Fan.{about, leaving, entering, turnOn, turnBack, oneRun, oneFanEach}
 use Rattle.rules.specs.Across.{inTriangle, across}
@@ -97,6 +97,10 @@ M10 =
     (begin (counts 4096 8192 1024 100) ∷ operate Start ∷ operate New ∷ operate New ∷ operate (Split 2) ∷ [])
     ≡ accepted ∷ triangle (tri 0 1 2) ∷ triangle (tri 1 0 3) ∷ triangle (tri 1 3 4) ∷ refusal 18 ∷ []
 
-pub bench : M1 × M2 × M3 × M4 × M5 × M6 × M7 × M8 × M9 × M10
+-- the limits of 9 and 10, which the bench's long fan meets: at most 1,024 places and at most 100 live loops
+abbrev pub Limits : Type 0
+Limits = most ≡ record { places = 1024; loops = 100 }
+
+pub bench : M1 × M2 × M3 × M4 × M5 × M6 × M7 × M8 × M9 × M10 × Limits
 unfolding trianglesOf corners edgesOf same hit occurs count about leaving entering turnOn turnBack oneRun oneFanEach inTriangle across allBelow allDistinct noneTwice allUsed passes checkTriangles check allOpen vertexAt lastOpen lastVertex front onward reached places loopAt without allowed inOrder atEdge atRest effect test done beginning answers bits valueOf bytesWithin operationBits operationsBits packBytes has dropTriangle turnIn turnOut edgeIn spotOf choosePlace limited taking chooseAt chooseIn cleared chooseAll indexOf newNumbers packChosen packChecked
-bench = (refl, refl, refl, refl, refl, refl, refl, refl, (λ v. refl), refl)
+bench = (refl, refl, refl, refl, refl, refl, refl, refl, (λ v. refl), refl, refl)

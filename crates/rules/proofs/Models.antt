@@ -852,7 +852,7 @@ callRows =
 unfoldable pub fieldsRows : List FieldsRow
 fieldsRows =
     -- 3 bytes of operations
-    record { stated = counts 2748 7421 803 77; ops = ((165 ∷ 165 ∷ 165 ∷ [])); bytes = ((1 ∷ 0 ∷ 8 ∷ 10 ∷ 188 ∷ 28 ∷ 253 ∷ 3 ∷ 35 ∷ 0 ∷ 77 ∷ 2 ∷ 0 ∷ 3 ∷ 165 ∷ 165 ∷ 165 ∷ [])) }
+    record { stated = counts 4096 8192 1024 100; ops = ((165 ∷ 165 ∷ 165 ∷ [])); bytes = ((1 ∷ 0 ∷ 8 ∷ 16 ∷ 0 ∷ 32 ∷ 0 ∷ 4 ∷ 0 ∷ 0 ∷ 100 ∷ 2 ∷ 0 ∷ 3 ∷ 165 ∷ 165 ∷ 165 ∷ [])) }
     ∷
     -- 300 bytes of operations
     record { stated = counts 2748 7421 803 77; ops = (replicate 300 165); bytes = ((1 ∷ 0 ∷ 8 ∷ 10 ∷ 188 ∷ 28 ∷ 253 ∷ 3 ∷ 35 ∷ 0 ∷ 77 ∷ 2 ∷ 1 ∷ 44 ∷ []) ++ replicate 300 165) }

@@ -12,6 +12,7 @@ use Rattle.rules.specs.declared.Builder.{Builder}
 use Rattle.rules.specs.declared.Operation.the-variants.{New, Forward, Backward, Border, Split, Start}
 use Rattle.rules.specs.Triangle.{tri, corners, edgesOf}
 use Rattle.rules.specs.Count.{same, hit, occurs, count}
+use Rattle.rules.specs.Fan.{about, leaving, entering, turnOn, turnBack, oneRun, oneFanEach}
 use Rattle.rules.specs.Check.{allBelow}
 use Rattle.rules.specs.Ring.{allOpen, vertexAt, lastOpen, lastVertex, front, onward, reached, places, loopAt, without}
 use Rattle.rules.specs.Table.{allowed, inOrder, atEdge, atRest, effect}
@@ -150,6 +151,14 @@ stateRows =
     row true (builder stated (parts 5 4 6 2 2 (0 ∷ 1 ∷ 0 ∷ 0 ∷ []) (1 ∷ 2 ∷ 0 ∷ 0 ∷ [])) 9 1 0 0) numbers
     (place 0 0 0 true ∷ place 1 2 2 true ∷ place 2 1 1 false ∷ replicate 1021 freePlace)
     ∷
+    -- places anywhere in the first 1,024 records
+    row true (builder stated (parts 5 4 6 2 1 (1023 ∷ 0 ∷ 0 ∷ 0 ∷ []) (3 ∷ 0 ∷ 0 ∷ 0 ∷ [])) 9 1 0 0) numbers
+    (place 0 1023 100 true ∷ replicate 99 freePlace ++ (place 1 0 1023 true ∷ replicate 922 freePlace) ++ (place 2 100 0 true ∷ []))
+    ∷
+    -- a loop that returns by its links back only
+    row false (builder stated (parts 5 4 6 2 1 (0 ∷ 0 ∷ 0 ∷ 0 ∷ []) (1 ∷ 0 ∷ 0 ∷ 0 ∷ [])) 9 1 0 0) numbers
+    (place 0 0 1 true ∷ place 1 0 0 true ∷ replicate 1022 freePlace)
+    ∷
     -- a link that disagrees; a link out of the first 1,024 records
     withPlaces false
     (place 0 2 5 true ∷ place 1 3 4 true ∷ place 2 4 0 true ∷ place 3 4 1 false ∷ place 4 1 3 true ∷ place 3 0 2 true ∷ replicate 1018 freePlace)
@@ -260,6 +269,17 @@ differRight =
     && eqb (stepNumber (operates ringed (ring 0 1 2 3) New)) 0 && eqb (stepNumber (operates ringed (ring 0 1 0 2) Forward)) 18
     && eqb (stepNumber (operates ringed (ring 0 1 2 1) Backward)) 18 && eqb (stepNumber (operates ringed (ring 0 0 1 2) New)) 18
 
+-- a complete model, two triangles that share nothing; a vertex that is in no triangle has no second fan
+abbrev pub resting : ℕ → Builder
+resting v = builder (counts v 2 3 1) (parts v 2 3 1 0 (0 ∷ 0 ∷ 0 ∷ 0 ∷ []) (0 ∷ 0 ∷ 0 ∷ 0 ∷ [])) 6 2 0 2
+
+abbrev pub apartBuilt : ℕ → Buffers
+apartBuilt v = record { triangles = v ∷ 1 ∷ 2 ∷ 3 ∷ 4 ∷ 5 ∷ []; places = memory }
+
+unfoldable pub fansRight : Bool
+fansRight =
+    eqb (stepNumber (finishes (resting 7) (apartBuilt 0))) 0 && eqb (stepNumber (finishes (resting 7) (apartBuilt 3))) 20
+
 -- what they leave: triangle n stands at 3n, and a beginning clears the place records and nothing else
 unfoldable pub callsRight : Bool
 callsRight =
@@ -269,6 +289,6 @@ callsRight =
     && equal (withTriangle 1 (tri 7 8 9) (0 ∷ 1 ∷ 2 ∷ 3 ∷ 4 ∷ 5 ∷ 6 ∷ [])) (0 ∷ 1 ∷ 2 ∷ 7 ∷ 8 ∷ 9 ∷ 6 ∷ [])
     && equal (begunBuffers whole .triangles) numbers && equalPlaces (begunBuffers whole .places) (replicate 1024 freePlace)
 
-pub calls : T (callsRight && differRight)
-unfolding differRight same hit corners edgesOf numbersOf occurs count allBelow allOpen vertexAt lastOpen lastVertex front onward reached places loopAt without allowed inOrder atEdge atRest effect test done finish follow followed placesOf nodes loopsOf trianglesBuilt view sizesOf apart placesFit loopsFit linksFit sound equal equalPlaces cleared callsRight
+pub calls : T (callsRight && differRight && fansRight)
+unfolding differRight fansRight about leaving entering turnOn turnBack oneRun oneFanEach same hit corners edgesOf numbersOf occurs count allBelow allOpen vertexAt lastOpen lastVertex front onward reached places loopAt without allowed inOrder atEdge atRest effect test done finish follow followed placesOf nodes loopsOf trianglesBuilt view sizesOf apart placesFit loopsFit linksFit sound equal equalPlaces cleared callsRight
 calls = tt

@@ -244,10 +244,15 @@ fn buildings() -> Vec<(String, String)> {
     rows
 }
 
-/// Packs from counts and operations, whole words in both bytes and a length above 255.
+/// Packs from counts and operations, with numbers in both bytes of a word and a length above 255.
 fn packs() -> Vec<(String, String)> {
-    let c = Counts { v: 0x0abc, t: 0x1cfd, places: 0x0323, loops: 0x4d };
-    [3, 300].iter().map(|&n| (format!("{n} bytes of operations"), antt::fields(c, &vec![0xa5; n]))).collect()
+    [(0x1000, 0x2000, 0x0400, 0x64, 3), (0x0abc, 0x1cfd, 0x0323, 0x4d, 300)]
+        .iter()
+        .map(|&(v, t, places, loops, n)| {
+            let row = antt::fields(Counts { v, t, places, loops }, &vec![0xa5; n]);
+            (format!("{n} bytes of operations"), row)
+        })
+        .collect()
 }
 
 /// Looks across an edge: the three edges of a triangle, one that no triangle has, and one that two have.
