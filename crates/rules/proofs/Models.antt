@@ -138,7 +138,7 @@ packRows =
     record { limits = most; vertices = 7; list = ((3 ∷ 1 ∷ 6 ∷ 5 ∷ 0 ∷ 4 ∷ 5 ∷ 1 ∷ 2 ∷ 6 ∷ 5 ∷ 3 ∷ 2 ∷ 3 ∷ 5 ∷ 0 ∷ 5 ∷ 6 ∷ 2 ∷ 1 ∷ 3 ∷ [])); lent = packLent (replicate 9 7) (replicate 1026 (place 3 1 2 true)) (replicate 60 5); answer = packed 20; left = packLent ((5 ∷ 1 ∷ 3 ∷ 0 ∷ 6 ∷ 4 ∷ 2 ∷ 7 ∷ 7 ∷ [])) (replicate 1024 (place 0 0 0 false) ++ ((place 3 1 2 true) ∷ (place 3 1 2 true) ∷ [])) ((1 ∷ 0 ∷ 8 ∷ 0 ∷ 7 ∷ 0 ∷ 7 ∷ 0 ∷ 7 ∷ 0 ∷ 2 ∷ 2 ∷ 0 ∷ 6 ∷ 224 ∷ 55 ∷ 0 ∷ 32 ∷ 27 ∷ 116 ∷ []) ++ replicate 40 5) }
     ∷
     -- union from a loop of two places, with j = 0: accepted
-    record { limits = most; vertices = 6; list = ((0 ∷ 1 ∷ 2 ∷ 2 ∷ 1 ∷ 3 ∷ 0 ∷ 2 ∷ 4 ∷ 0 ∷ 4 ∷ 3 ∷ 0 ∷ 3 ∷ 5 ∷ 3 ∷ 1 ∷ 5 ∷ 5 ∷ 1 ∷ 4 ∷ 5 ∷ 4 ∷ 2 ∷ [])); lent = packLent (replicate 8 7) (replicate 1026 (place 3 1 2 true)) (replicate 60 5); answer = packed 23; left = packLent ((0 ∷ 1 ∷ 2 ∷ 3 ∷ 4 ∷ 5 ∷ 7 ∷ 7 ∷ [])) (replicate 1024 (place 0 0 0 false) ++ ((place 3 1 2 true) ∷ (place 3 1 2 true) ∷ [])) ((1 ∷ 0 ∷ 8 ∷ 0 ∷ 6 ∷ 0 ∷ 8 ∷ 0 ∷ 7 ∷ 0 ∷ 2 ∷ 2 ∷ 0 ∷ 9 ∷ 236 ∷ 49 ∷ 0 ∷ 32 ∷ 206 ∷ 2 ∷ 0 ∷ 38 ∷ 216 ∷ []) ++ replicate 37 5) }
+    record { limits = most; vertices = 6; list = ((5 ∷ 4 ∷ 3 ∷ 3 ∷ 4 ∷ 2 ∷ 5 ∷ 3 ∷ 1 ∷ 5 ∷ 1 ∷ 2 ∷ 5 ∷ 2 ∷ 0 ∷ 2 ∷ 4 ∷ 0 ∷ 0 ∷ 4 ∷ 1 ∷ 0 ∷ 1 ∷ 3 ∷ [])); lent = packLent (replicate 8 7) (replicate 1026 (place 3 1 2 true)) (replicate 60 5); answer = packed 23; left = packLent ((5 ∷ 4 ∷ 3 ∷ 2 ∷ 1 ∷ 0 ∷ 7 ∷ 7 ∷ [])) (replicate 1024 (place 0 0 0 false) ++ ((place 3 1 2 true) ∷ (place 3 1 2 true) ∷ [])) ((1 ∷ 0 ∷ 8 ∷ 0 ∷ 6 ∷ 0 ∷ 8 ∷ 0 ∷ 7 ∷ 0 ∷ 2 ∷ 2 ∷ 0 ∷ 9 ∷ 236 ∷ 49 ∷ 0 ∷ 32 ∷ 206 ∷ 2 ∷ 0 ∷ 38 ∷ 216 ∷ []) ++ replicate 37 5) }
     ∷
     -- union and split past a link: accepted
     record { limits = most; vertices = 7; list = ((6 ∷ 5 ∷ 4 ∷ 5 ∷ 6 ∷ 2 ∷ 6 ∷ 1 ∷ 0 ∷ 2 ∷ 0 ∷ 3 ∷ 5 ∷ 2 ∷ 3 ∷ 1 ∷ 6 ∷ 4 ∷ 3 ∷ 0 ∷ 1 ∷ 1 ∷ 4 ∷ 2 ∷ 2 ∷ 4 ∷ 0 ∷ [])); lent = packLent (replicate 9 7) (replicate 1026 (place 3 1 2 true)) (replicate 60 5); answer = packed 24; left = packLent ((6 ∷ 5 ∷ 3 ∷ 4 ∷ 2 ∷ 1 ∷ 0 ∷ 7 ∷ 7 ∷ [])) (replicate 1024 (place 0 0 0 false) ++ ((place 3 1 2 true) ∷ (place 3 1 2 true) ∷ [])) ((1 ∷ 0 ∷ 8 ∷ 0 ∷ 7 ∷ 0 ∷ 9 ∷ 0 ∷ 7 ∷ 0 ∷ 2 ∷ 2 ∷ 0 ∷ 10 ∷ 224 ∷ 54 ∷ 3 ∷ 112 ∷ 3 ∷ 192 ∷ 64 ∷ 38 ∷ 89 ∷ 96 ∷ []) ++ replicate 36 5) }
@@ -160,6 +160,15 @@ packRows =
     ∷
     -- forward to c that has a later place in the loop: accepted
     record { limits = most; vertices = 7; list = ((0 ∷ 2 ∷ 1 ∷ 5 ∷ 2 ∷ 6 ∷ 4 ∷ 2 ∷ 0 ∷ 4 ∷ 5 ∷ 3 ∷ 6 ∷ 0 ∷ 5 ∷ 0 ∷ 3 ∷ 5 ∷ 0 ∷ 1 ∷ 3 ∷ 3 ∷ 2 ∷ 4 ∷ 1 ∷ 2 ∷ 5 ∷ [])); lent = packLent (replicate 9 7) (replicate 1026 (place 3 1 2 true)) (replicate 60 5); answer = packed 24; left = packLent ((0 ∷ 2 ∷ 1 ∷ 4 ∷ 3 ∷ 5 ∷ 6 ∷ 7 ∷ 7 ∷ [])) (replicate 1024 (place 0 0 0 false) ++ ((place 3 1 2 true) ∷ (place 3 1 2 true) ∷ [])) ((1 ∷ 0 ∷ 8 ∷ 0 ∷ 7 ∷ 0 ∷ 9 ∷ 0 ∷ 9 ∷ 0 ∷ 2 ∷ 2 ∷ 0 ∷ 10 ∷ 224 ∷ 48 ∷ 224 ∷ 5 ∷ 128 ∷ 128 ∷ 97 ∷ 178 ∷ 217 ∷ 96 ∷ []) ++ replicate 36 5) }
+    ∷
+    -- turning about c through more triangles than its number: accepted
+    record { limits = most; vertices = 9; list = ((6 ∷ 2 ∷ 4 ∷ 0 ∷ 2 ∷ 7 ∷ 6 ∷ 5 ∷ 8 ∷ 0 ∷ 8 ∷ 3 ∷ 4 ∷ 3 ∷ 6 ∷ 6 ∷ 8 ∷ 2 ∷ 1 ∷ 3 ∷ 7 ∷ 0 ∷ 6 ∷ 1 ∷ 0 ∷ 3 ∷ 2 ∷ 6 ∷ 3 ∷ 1 ∷ 7 ∷ 3 ∷ 8 ∷ 5 ∷ 6 ∷ 7 ∷ 8 ∷ 5 ∷ 7 ∷ 1 ∷ 7 ∷ 2 ∷ 2 ∷ 8 ∷ 1 ∷ 3 ∷ 4 ∷ 2 ∷ 8 ∷ 0 ∷ 1 ∷ [])); lent = packLent (replicate 11 7) (replicate 1026 (place 3 1 2 true)) (replicate 60 5); answer = packed 28; left = packLent ((6 ∷ 4 ∷ 1 ∷ 7 ∷ 2 ∷ 8 ∷ 0 ∷ 5 ∷ 3 ∷ 7 ∷ 7 ∷ [])) (replicate 1024 (place 0 0 0 false) ++ ((place 3 1 2 true) ∷ (place 3 1 2 true) ∷ [])) ((1 ∷ 0 ∷ 8 ∷ 0 ∷ 9 ∷ 0 ∷ 17 ∷ 0 ∷ 10 ∷ 0 ∷ 2 ∷ 2 ∷ 0 ∷ 14 ∷ 224 ∷ 0 ∷ 9 ∷ 128 ∷ 22 ∷ 2 ∷ 1 ∷ 177 ∷ 0 ∷ 84 ∷ 220 ∷ 0 ∷ 234 ∷ 160 ∷ []) ++ replicate 32 5) }
+    ∷
+    -- the last place of a loop has the vertex that is looked for, and its edge leads to another: accepted
+    record { limits = most; vertices = 9; list = ((0 ∷ 4 ∷ 2 ∷ 3 ∷ 4 ∷ 6 ∷ 6 ∷ 5 ∷ 8 ∷ 7 ∷ 1 ∷ 2 ∷ 8 ∷ 5 ∷ 7 ∷ 4 ∷ 3 ∷ 7 ∷ 8 ∷ 2 ∷ 6 ∷ 0 ∷ 5 ∷ 4 ∷ 3 ∷ 6 ∷ 1 ∷ 5 ∷ 0 ∷ 1 ∷ 2 ∷ 1 ∷ 6 ∷ 0 ∷ 3 ∷ 1 ∷ 7 ∷ 3 ∷ 8 ∷ 3 ∷ 0 ∷ 8 ∷ 6 ∷ 4 ∷ 5 ∷ 5 ∷ 1 ∷ 7 ∷ 0 ∷ 2 ∷ 8 ∷ [])); lent = packLent (replicate 11 7) (replicate 1026 (place 3 1 2 true)) (replicate 60 5); answer = packed 28; left = packLent ((0 ∷ 8 ∷ 2 ∷ 5 ∷ 1 ∷ 3 ∷ 4 ∷ 6 ∷ 7 ∷ 7 ∷ 7 ∷ [])) (replicate 1024 (place 0 0 0 false) ++ ((place 3 1 2 true) ∷ (place 3 1 2 true) ∷ [])) ((1 ∷ 0 ∷ 8 ∷ 0 ∷ 9 ∷ 0 ∷ 17 ∷ 0 ∷ 10 ∷ 0 ∷ 2 ∷ 2 ∷ 0 ∷ 14 ∷ 224 ∷ 0 ∷ 216 ∷ 128 ∷ 24 ∷ 56 ∷ 8 ∷ 5 ∷ 0 ∷ 106 ∷ 84 ∷ 0 ∷ 169 ∷ 96 ∷ []) ++ replicate 32 5) }
+    ∷
+    -- turning about c through more triangles than the loop has places: accepted
+    record { limits = most; vertices = 17; list = ((0 ∷ 1 ∷ 2 ∷ 1 ∷ 0 ∷ 3 ∷ 1 ∷ 3 ∷ 2 ∷ 2 ∷ 3 ∷ 4 ∷ 2 ∷ 4 ∷ 5 ∷ 0 ∷ 2 ∷ 6 ∷ 0 ∷ 6 ∷ 4 ∷ 0 ∷ 4 ∷ 7 ∷ 0 ∷ 7 ∷ 8 ∷ 0 ∷ 8 ∷ 9 ∷ 7 ∷ 4 ∷ 9 ∷ 7 ∷ 9 ∷ 10 ∷ 9 ∷ 8 ∷ 10 ∷ 9 ∷ 4 ∷ 11 ∷ 4 ∷ 6 ∷ 12 ∷ 4 ∷ 12 ∷ 13 ∷ 4 ∷ 13 ∷ 14 ∷ 4 ∷ 14 ∷ 15 ∷ 4 ∷ 15 ∷ 16 ∷ 4 ∷ 16 ∷ 5 ∷ 12 ∷ 6 ∷ 13 ∷ 13 ∷ 6 ∷ 14 ∷ 15 ∷ 14 ∷ 16 ∷ [])); lent = packLent (replicate 19 7) (replicate 1026 (place 3 1 2 true)) (replicate 60 5); answer = packed 30; left = packLent ((0 ∷ 1 ∷ 2 ∷ 3 ∷ 4 ∷ 5 ∷ 6 ∷ 7 ∷ 8 ∷ 9 ∷ 11 ∷ 10 ∷ 12 ∷ 13 ∷ 14 ∷ 15 ∷ 16 ∷ 7 ∷ 7 ∷ [])) (replicate 1024 (place 0 0 0 false) ++ ((place 3 1 2 true) ∷ (place 3 1 2 true) ∷ [])) ((1 ∷ 0 ∷ 8 ∷ 0 ∷ 17 ∷ 0 ∷ 23 ∷ 0 ∷ 10 ∷ 0 ∷ 3 ∷ 2 ∷ 0 ∷ 16 ∷ 224 ∷ 128 ∷ 196 ∷ 0 ∷ 128 ∷ 13 ∷ 184 ∷ 1 ∷ 6 ∷ 195 ∷ 101 ∷ 128 ∷ 0 ∷ 45 ∷ 146 ∷ 203 ∷ []) ++ replicate 30 5) }
     ∷
     -- union from a loop with a link; the peak of places is reached by it: accepted
     record { limits = most; vertices = 7; list = ((0 ∷ 1 ∷ 2 ∷ 3 ∷ 1 ∷ 4 ∷ 1 ∷ 5 ∷ 6 ∷ 5 ∷ 1 ∷ 3 ∷ 5 ∷ 0 ∷ 2 ∷ 4 ∷ 5 ∷ 2 ∷ 1 ∷ 0 ∷ 4 ∷ 6 ∷ 5 ∷ 4 ∷ 0 ∷ 6 ∷ 4 ∷ [])); lent = packLent (replicate 9 7) (replicate 1026 (place 3 1 2 true)) (replicate 60 5); answer = packed 24; left = packLent ((0 ∷ 1 ∷ 2 ∷ 4 ∷ 3 ∷ 5 ∷ 6 ∷ 7 ∷ 7 ∷ [])) (replicate 1024 (place 0 0 0 false) ++ ((place 3 1 2 true) ∷ (place 3 1 2 true) ∷ [])) ((1 ∷ 0 ∷ 8 ∷ 0 ∷ 7 ∷ 0 ∷ 9 ∷ 0 ∷ 8 ∷ 0 ∷ 2 ∷ 2 ∷ 0 ∷ 10 ∷ 224 ∷ 0 ∷ 220 ∷ 0 ∷ 240 ∷ 16 ∷ 8 ∷ 166 ∷ 219 ∷ 96 ∷ []) ++ replicate 36 5) }
@@ -513,6 +522,15 @@ unpackRows =
     -- forward to c that has a later place in the loop: accepted
     record { bytes = ((1 ∷ 0 ∷ 8 ∷ 0 ∷ 7 ∷ 0 ∷ 9 ∷ 0 ∷ 9 ∷ 0 ∷ 2 ∷ 2 ∷ 0 ∷ 10 ∷ 224 ∷ 48 ∷ 224 ∷ 5 ∷ 128 ∷ 128 ∷ 97 ∷ 178 ∷ 217 ∷ 96 ∷ [])); lent = unpackLent (replicate 28 6) (replicate 1024 (place 3 1 2 true)); answer = modelOf 7 9 (totalsOf 17 1 1 (negsuc 0)); left = unpackLent ((0 ∷ 1 ∷ 2 ∷ 1 ∷ 0 ∷ 3 ∷ 1 ∷ 3 ∷ 4 ∷ 2 ∷ 1 ∷ 5 ∷ 0 ∷ 2 ∷ 4 ∷ 0 ∷ 4 ∷ 5 ∷ 0 ∷ 5 ∷ 6 ∷ 4 ∷ 3 ∷ 5 ∷ 5 ∷ 1 ∷ 6 ∷ 6 ∷ [])) (replicate 1024 (place 0 0 0 false)) }
     ∷
+    -- turning about c through more triangles than its number: accepted
+    record { bytes = ((1 ∷ 0 ∷ 8 ∷ 0 ∷ 9 ∷ 0 ∷ 17 ∷ 0 ∷ 10 ∷ 0 ∷ 2 ∷ 2 ∷ 0 ∷ 14 ∷ 224 ∷ 0 ∷ 9 ∷ 128 ∷ 22 ∷ 2 ∷ 1 ∷ 177 ∷ 0 ∷ 84 ∷ 220 ∷ 0 ∷ 234 ∷ 160 ∷ [])); lent = unpackLent (replicate 52 6) (replicate 1024 (place 3 1 2 true)); answer = modelOf 9 17 (totalsOf 27 1 1 (negsuc 0)); left = unpackLent ((0 ∷ 1 ∷ 2 ∷ 1 ∷ 0 ∷ 3 ∷ 1 ∷ 3 ∷ 4 ∷ 1 ∷ 4 ∷ 5 ∷ 1 ∷ 5 ∷ 6 ∷ 1 ∷ 6 ∷ 7 ∷ 1 ∷ 7 ∷ 2 ∷ 2 ∷ 7 ∷ 0 ∷ 0 ∷ 7 ∷ 4 ∷ 0 ∷ 4 ∷ 6 ∷ 3 ∷ 0 ∷ 8 ∷ 3 ∷ 8 ∷ 5 ∷ 5 ∷ 8 ∷ 0 ∷ 3 ∷ 5 ∷ 7 ∷ 7 ∷ 5 ∷ 4 ∷ 3 ∷ 7 ∷ 6 ∷ 3 ∷ 6 ∷ 4 ∷ 6 ∷ [])) (replicate 1024 (place 0 0 0 false)) }
+    ∷
+    -- the last place of a loop has the vertex that is looked for, and its edge leads to another: accepted
+    record { bytes = ((1 ∷ 0 ∷ 8 ∷ 0 ∷ 9 ∷ 0 ∷ 17 ∷ 0 ∷ 10 ∷ 0 ∷ 2 ∷ 2 ∷ 0 ∷ 14 ∷ 224 ∷ 0 ∷ 216 ∷ 128 ∷ 24 ∷ 56 ∷ 8 ∷ 5 ∷ 0 ∷ 106 ∷ 84 ∷ 0 ∷ 169 ∷ 96 ∷ [])); lent = unpackLent (replicate 52 6) (replicate 1024 (place 3 1 2 true)); answer = modelOf 9 17 (totalsOf 27 1 1 (negsuc 0)); left = unpackLent ((0 ∷ 1 ∷ 2 ∷ 1 ∷ 0 ∷ 3 ∷ 1 ∷ 3 ∷ 4 ∷ 1 ∷ 4 ∷ 5 ∷ 1 ∷ 5 ∷ 6 ∷ 0 ∷ 2 ∷ 7 ∷ 0 ∷ 7 ∷ 5 ∷ 0 ∷ 5 ∷ 8 ∷ 0 ∷ 8 ∷ 3 ∷ 3 ∷ 8 ∷ 6 ∷ 3 ∷ 6 ∷ 7 ∷ 7 ∷ 6 ∷ 5 ∷ 3 ∷ 7 ∷ 4 ∷ 4 ∷ 7 ∷ 2 ∷ 4 ∷ 2 ∷ 8 ∷ 4 ∷ 8 ∷ 5 ∷ 8 ∷ 2 ∷ 6 ∷ 6 ∷ [])) (replicate 1024 (place 0 0 0 false)) }
+    ∷
+    -- turning about c through more triangles than the loop has places: accepted
+    record { bytes = ((1 ∷ 0 ∷ 8 ∷ 0 ∷ 17 ∷ 0 ∷ 23 ∷ 0 ∷ 10 ∷ 0 ∷ 3 ∷ 2 ∷ 0 ∷ 16 ∷ 224 ∷ 128 ∷ 196 ∷ 0 ∷ 128 ∷ 13 ∷ 184 ∷ 1 ∷ 6 ∷ 195 ∷ 101 ∷ 128 ∷ 0 ∷ 45 ∷ 146 ∷ 203 ∷ [])); lent = unpackLent (replicate 70 6) (replicate 1024 (place 3 1 2 true)); answer = modelOf 17 23 (totalsOf 41 3 0 (negsuc 0)); left = unpackLent ((0 ∷ 1 ∷ 2 ∷ 1 ∷ 0 ∷ 3 ∷ 1 ∷ 3 ∷ 2 ∷ 2 ∷ 3 ∷ 4 ∷ 2 ∷ 4 ∷ 5 ∷ 0 ∷ 2 ∷ 6 ∷ 0 ∷ 6 ∷ 4 ∷ 0 ∷ 4 ∷ 7 ∷ 0 ∷ 7 ∷ 8 ∷ 0 ∷ 8 ∷ 9 ∷ 7 ∷ 4 ∷ 9 ∷ 9 ∷ 4 ∷ 10 ∷ 7 ∷ 9 ∷ 11 ∷ 9 ∷ 8 ∷ 11 ∷ 4 ∷ 6 ∷ 12 ∷ 4 ∷ 12 ∷ 13 ∷ 4 ∷ 13 ∷ 14 ∷ 4 ∷ 14 ∷ 15 ∷ 4 ∷ 15 ∷ 16 ∷ 4 ∷ 16 ∷ 5 ∷ 12 ∷ 6 ∷ 13 ∷ 13 ∷ 6 ∷ 14 ∷ 15 ∷ 14 ∷ 16 ∷ 6 ∷ [])) (replicate 1024 (place 0 0 0 false)) }
+    ∷
     -- buffers just long enough: accepted
     record { bytes = ((1 ∷ 0 ∷ 8 ∷ 0 ∷ 3 ∷ 0 ∷ 1 ∷ 0 ∷ 3 ∷ 0 ∷ 1 ∷ 2 ∷ 0 ∷ 2 ∷ 237 ∷ 176 ∷ [])); lent = unpackLent ((6 ∷ 6 ∷ 6 ∷ [])) (replicate 1024 (place 3 1 2 true)); answer = modelOf 3 1 (totalsOf 3 1 0 (pos 1)); left = unpackLent ((0 ∷ 1 ∷ 2 ∷ [])) (replicate 1024 (place 0 0 0 false)) }
     ∷
@@ -720,6 +738,15 @@ callRows =
     ∷
     -- forward to c that has a later place in the loop
     record { rooms = rooms 27 1024; calls = begin (counts 7 9 9 2) ∷ operate Start ∷ operate New ∷ operate New ∷ operate Border ∷ operate New ∷ operate Border ∷ operate (Split 2) ∷ operate (Union 1 3) ∷ operate New ∷ operate Border ∷ operate Border ∷ operate Forward ∷ operate Border ∷ operate Border ∷ operate Forward ∷ operate Border ∷ end ∷ []; told = accepted ∷ triangle (tri 0 1 2) ∷ triangle (tri 1 0 3) ∷ triangle (tri 1 3 4) ∷ no-triangle ∷ triangle (tri 2 1 5) ∷ no-triangle ∷ triangle (tri 0 2 4) ∷ triangle (tri 0 4 5) ∷ triangle (tri 0 5 6) ∷ no-triangle ∷ no-triangle ∷ triangle (tri 4 3 5) ∷ no-triangle ∷ no-triangle ∷ triangle (tri 5 1 6) ∷ no-triangle ∷ numbers (totalsOf 17 1 1 (negsuc 0)) ∷ []; machine = ((7 ∷ 17 ∷ 9 ∷ 2 ∷ 1 ∷ 1 ∷ 1 ∷ 0 ∷ 1 ∷ 2 ∷ 1 ∷ 0 ∷ 3 ∷ 1 ∷ 3 ∷ 4 ∷ 2 ∷ 1 ∷ 5 ∷ 0 ∷ 2 ∷ 4 ∷ 0 ∷ 4 ∷ 5 ∷ 0 ∷ 5 ∷ 6 ∷ 4 ∷ 3 ∷ 5 ∷ 5 ∷ 1 ∷ 6 ∷ [])); borders = ((1 ∷ 6 ∷ 2 ∷ 4 ∷ 3 ∷ 5 ∷ 0 ∷ 3 ∷ 6 ∷ 0 ∷ 5 ∷ 2 ∷ 4 ∷ 1 ∷ [])) }
+    ∷
+    -- turning about c through more triangles than its number
+    record { rooms = rooms 51 1024; calls = begin (counts 9 17 10 2) ∷ operate Start ∷ operate New ∷ operate New ∷ operate New ∷ operate New ∷ operate New ∷ operate Forward ∷ operate Forward ∷ operate (Split 2) ∷ operate (Union 1 3) ∷ operate Border ∷ operate New ∷ operate (Split 5) ∷ operate Backward ∷ operate Border ∷ operate Border ∷ operate (Split 3) ∷ operate Close ∷ operate Backward ∷ operate Close ∷ end ∷ []; told = accepted ∷ triangle (tri 0 1 2) ∷ triangle (tri 1 0 3) ∷ triangle (tri 1 3 4) ∷ triangle (tri 1 4 5) ∷ triangle (tri 1 5 6) ∷ triangle (tri 1 6 7) ∷ triangle (tri 1 7 2) ∷ triangle (tri 2 7 0) ∷ triangle (tri 0 7 4) ∷ triangle (tri 0 4 6) ∷ no-triangle ∷ triangle (tri 3 0 8) ∷ triangle (tri 3 8 5) ∷ triangle (tri 5 8 0) ∷ no-triangle ∷ no-triangle ∷ triangle (tri 3 5 7) ∷ triangle (tri 7 5 4) ∷ triangle (tri 3 7 6) ∷ triangle (tri 3 6 4) ∷ numbers (totalsOf 27 1 1 (negsuc 0)) ∷ []; machine = ((9 ∷ 27 ∷ 10 ∷ 2 ∷ 1 ∷ 1 ∷ 1 ∷ 0 ∷ 1 ∷ 2 ∷ 1 ∷ 0 ∷ 3 ∷ 1 ∷ 3 ∷ 4 ∷ 1 ∷ 4 ∷ 5 ∷ 1 ∷ 5 ∷ 6 ∷ 1 ∷ 6 ∷ 7 ∷ 1 ∷ 7 ∷ 2 ∷ 2 ∷ 7 ∷ 0 ∷ 0 ∷ 7 ∷ 4 ∷ 0 ∷ 4 ∷ 6 ∷ 3 ∷ 0 ∷ 8 ∷ 3 ∷ 8 ∷ 5 ∷ 5 ∷ 8 ∷ 0 ∷ 3 ∷ 5 ∷ 7 ∷ 7 ∷ 5 ∷ 4 ∷ 3 ∷ 7 ∷ 6 ∷ 3 ∷ 6 ∷ 4 ∷ [])); borders = ((5 ∷ 6 ∷ 0 ∷ 5 ∷ 6 ∷ 0 ∷ [])) }
+    ∷
+    -- the last place of a loop has the vertex that is looked for, and its edge leads to another
+    record { rooms = rooms 51 1024; calls = begin (counts 9 17 10 2) ∷ operate Start ∷ operate New ∷ operate New ∷ operate New ∷ operate New ∷ operate Border ∷ operate Border ∷ operate New ∷ operate (Split 3) ∷ operate New ∷ operate Forward ∷ operate (Union 1 2) ∷ operate (Split 6) ∷ operate Close ∷ operate Forward ∷ operate Backward ∷ operate (Split 2) ∷ operate Close ∷ operate Forward ∷ operate Border ∷ end ∷ []; told = accepted ∷ triangle (tri 0 1 2) ∷ triangle (tri 1 0 3) ∷ triangle (tri 1 3 4) ∷ triangle (tri 1 4 5) ∷ triangle (tri 1 5 6) ∷ no-triangle ∷ no-triangle ∷ triangle (tri 0 2 7) ∷ triangle (tri 0 7 5) ∷ triangle (tri 0 5 8) ∷ triangle (tri 0 8 3) ∷ triangle (tri 3 8 6) ∷ triangle (tri 3 6 7) ∷ triangle (tri 7 6 5) ∷ triangle (tri 3 7 4) ∷ triangle (tri 4 7 2) ∷ triangle (tri 4 2 8) ∷ triangle (tri 4 8 5) ∷ triangle (tri 8 2 6) ∷ no-triangle ∷ numbers (totalsOf 27 1 1 (negsuc 0)) ∷ []; machine = ((9 ∷ 27 ∷ 10 ∷ 2 ∷ 1 ∷ 1 ∷ 1 ∷ 0 ∷ 1 ∷ 2 ∷ 1 ∷ 0 ∷ 3 ∷ 1 ∷ 3 ∷ 4 ∷ 1 ∷ 4 ∷ 5 ∷ 1 ∷ 5 ∷ 6 ∷ 0 ∷ 2 ∷ 7 ∷ 0 ∷ 7 ∷ 5 ∷ 0 ∷ 5 ∷ 8 ∷ 0 ∷ 8 ∷ 3 ∷ 3 ∷ 8 ∷ 6 ∷ 3 ∷ 6 ∷ 7 ∷ 7 ∷ 6 ∷ 5 ∷ 3 ∷ 7 ∷ 4 ∷ 4 ∷ 7 ∷ 2 ∷ 4 ∷ 2 ∷ 8 ∷ 4 ∷ 8 ∷ 5 ∷ 8 ∷ 2 ∷ 6 ∷ [])); borders = ((2 ∷ 6 ∷ 1 ∷ 2 ∷ 6 ∷ 1 ∷ [])) }
+    ∷
+    -- turning about c through more triangles than the loop has places
+    record { rooms = rooms 69 1024; calls = begin (counts 17 23 10 3) ∷ operate Start ∷ operate New ∷ operate Forward ∷ operate New ∷ operate New ∷ operate Border ∷ operate New ∷ operate (Split 2) ∷ operate New ∷ operate New ∷ operate New ∷ operate Border ∷ operate Border ∷ operate Border ∷ operate (Split 2) ∷ operate New ∷ operate Border ∷ operate Border ∷ operate New ∷ operate Border ∷ operate Border ∷ operate Forward ∷ operate Border ∷ operate New ∷ operate New ∷ operate New ∷ operate New ∷ operate New ∷ operate Forward ∷ operate Border ∷ operate Border ∷ operate Forward ∷ operate Forward ∷ operate Border ∷ operate Forward ∷ operate Border ∷ end ∷ []; told = accepted ∷ triangle (tri 0 1 2) ∷ triangle (tri 1 0 3) ∷ triangle (tri 1 3 2) ∷ triangle (tri 2 3 4) ∷ triangle (tri 2 4 5) ∷ no-triangle ∷ triangle (tri 0 2 6) ∷ triangle (tri 0 6 4) ∷ triangle (tri 0 4 7) ∷ triangle (tri 0 7 8) ∷ triangle (tri 0 8 9) ∷ no-triangle ∷ no-triangle ∷ no-triangle ∷ triangle (tri 7 4 9) ∷ triangle (tri 9 4 10) ∷ no-triangle ∷ no-triangle ∷ triangle (tri 7 9 11) ∷ no-triangle ∷ no-triangle ∷ triangle (tri 9 8 11) ∷ no-triangle ∷ triangle (tri 4 6 12) ∷ triangle (tri 4 12 13) ∷ triangle (tri 4 13 14) ∷ triangle (tri 4 14 15) ∷ triangle (tri 4 15 16) ∷ triangle (tri 4 16 5) ∷ no-triangle ∷ no-triangle ∷ triangle (tri 12 6 13) ∷ triangle (tri 13 6 14) ∷ no-triangle ∷ triangle (tri 15 14 16) ∷ no-triangle ∷ numbers (totalsOf 41 3 0 (negsuc 0)) ∷ []; machine = ((17 ∷ 41 ∷ 10 ∷ 3 ∷ 1 ∷ 0 ∷ 3 ∷ 0 ∷ 1 ∷ 2 ∷ 1 ∷ 0 ∷ 3 ∷ 1 ∷ 3 ∷ 2 ∷ 2 ∷ 3 ∷ 4 ∷ 2 ∷ 4 ∷ 5 ∷ 0 ∷ 2 ∷ 6 ∷ 0 ∷ 6 ∷ 4 ∷ 0 ∷ 4 ∷ 7 ∷ 0 ∷ 7 ∷ 8 ∷ 0 ∷ 8 ∷ 9 ∷ 7 ∷ 4 ∷ 9 ∷ 9 ∷ 4 ∷ 10 ∷ 7 ∷ 9 ∷ 11 ∷ 9 ∷ 8 ∷ 11 ∷ 4 ∷ 6 ∷ 12 ∷ 4 ∷ 12 ∷ 13 ∷ 4 ∷ 13 ∷ 14 ∷ 4 ∷ 14 ∷ 15 ∷ 4 ∷ 15 ∷ 16 ∷ 4 ∷ 16 ∷ 5 ∷ 12 ∷ 6 ∷ 13 ∷ 13 ∷ 6 ∷ 14 ∷ 15 ∷ 14 ∷ 16 ∷ [])); borders = ((14 ∷ 16 ∷ 6 ∷ 14 ∷ 2 ∷ 6 ∷ 16 ∷ 5 ∷ 8 ∷ 11 ∷ 7 ∷ 8 ∷ 11 ∷ 7 ∷ 4 ∷ 10 ∷ 10 ∷ 9 ∷ 3 ∷ 4 ∷ 0 ∷ 3 ∷ 9 ∷ 0 ∷ 5 ∷ 2 ∷ [])) }
     ∷
     -- M10
     record { rooms = rooms 24576 1024; calls = begin (counts 4096 8192 1024 100) ∷ operate Start ∷ operate New ∷ operate New ∷ operate (Split 2) ∷ []; told = accepted ∷ triangle (tri 0 1 2) ∷ triangle (tri 1 0 3) ∷ triangle (tri 1 3 4) ∷ refusal 18 ∷ []; machine = ((5 ∷ 7 ∷ 5 ∷ 1 ∷ 1 ∷ 0 ∷ 0 ∷ 0 ∷ 1 ∷ 2 ∷ 1 ∷ 0 ∷ 3 ∷ 1 ∷ 3 ∷ 4 ∷ 5 ∷ 4 ∷ 1 ∷ 1 ∷ 1 ∷ 2 ∷ 1 ∷ 0 ∷ 1 ∷ 3 ∷ 1 ∷ [])); borders = [] }

@@ -11,7 +11,7 @@ use Rattle.rules.specs.declared.Place.{Place}
 use Rattle.rules.specs.declared.Builder.{Builder}
 use Rattle.rules.specs.declared.Operation.the-variants.{New, Forward, Backward, Border, Split, Start}
 use Rattle.rules.specs.Triangle.{tri, corners, edgesOf}
-use Rattle.rules.specs.Count.{same, hit, occurs, count}
+use Rattle.rules.specs.Count.{same, hit, occurs, count, uses}
 use Rattle.rules.specs.Fan.{about, leaving, entering, turnOn, turnBack, oneRun, oneFanEach}
 use Rattle.rules.specs.Check.{allBelow}
 use Rattle.rules.specs.Ring.{allOpen, vertexAt, lastOpen, lastVertex, front, onward, reached, places, loopAt, without}
@@ -21,7 +21,7 @@ use Rattle.rules.specs.Unpack.{numbersOf}
 use Rattle.rules.specs.Book.{begin, operate, emptyBook, afterAll}
 use Rattle.rules.specs.Buffer.{freePlace, cleared, Buffers}
 use Rattle.rules.specs.Fields.{countsOf}
-use Rattle.rules.specs.Build.{operates, finishes, begunBuffers, withTriangle}
+use Rattle.rules.specs.Build.{begins, operates, finishes, begunBuffers, withTriangle}
 use Rattle.rules.specs.View.{follow, followed, placesOf, nodes, loopsOf, trianglesBuilt, view, openAmong, openAt}
 use Rattle.rules.specs.Test21.{sizesOf, apart, placesFit, loopsFit, linksFit, sound}
 use Rattle.rules.proofs.Rows.{equal, equalPlaces, place, counts, rooms, allRight, writtenRing, writtenRings, writtenMachine}
@@ -226,6 +226,8 @@ openRight =
     eqb (openAt good memory 3 2) 1 && eqb (openAt good memory 2 0) 1 && eqb (openAt good memory 0 3) 1 && eqb (openAt good memory 4 3) 1
     && eqb (openAt good memory 1 4) 1 && eqb (openAt good memory 3 1) 0 && eqb (openAt good memory 2 3) 0 && eqb (openAt good memory 4 1) 0
     && eqb (openAt doubled twice 0 1) 2 && eqb (openAt doubled twice 1 0) 1
+    -- how often the triangles use an edge
+    && eqb (uses 0 1 (tri 0 1 2 ∷ tri 3 0 1 ∷ tri 1 0 4 ∷ [])) 2 && eqb (uses 1 0 (tri 0 1 2 ∷ tri 3 0 1 ∷ tri 1 0 4 ∷ [])) 1
 
 pub states : T (allRight stateRight stateRows && viewRight && openRight)
 unfolding openAmong openRight same hit corners edgesOf numbersOf occurs count allBelow allOpen vertexAt lastOpen lastVertex front onward reached places loopAt without allowed inOrder atEdge atRest effect test done beginning afterAll follow followed nodes loopsOf trianglesBuilt view placesOf sizesOf apart placesFit loopsFit linksFit sound equal allRight stateRows writtenRing writtenRings viewRight
@@ -271,7 +273,7 @@ differRight =
 
 -- a complete model, two triangles that share nothing; a vertex that is in no triangle has no second fan
 abbrev pub resting : ℕ → Builder
-resting v = builder (counts v 2 3 1) (parts v 2 3 1 0 (0 ∷ 0 ∷ 0 ∷ 0 ∷ []) (0 ∷ 0 ∷ 0 ∷ 0 ∷ [])) 6 2 0 2
+resting v = builder (counts v 2 3 1) (parts v 2 3 1 0 (0 ∷ 0 ∷ 0 ∷ 0 ∷ []) (0 ∷ 0 ∷ 0 ∷ 0 ∷ [])) 0 2 0 2
 
 abbrev pub apartBuilt : ℕ → Buffers
 apartBuilt v = record { triangles = v ∷ 1 ∷ 2 ∷ 3 ∷ 4 ∷ 5 ∷ []; places = memory }
@@ -283,12 +285,13 @@ fansRight =
 -- what they leave: triangle n stands at 3n, and a beginning clears the place records and nothing else
 unfoldable pub callsRight : Bool
 callsRight =
-    eqb (stepNumber (operates good short (Split 9))) 21 && eqb (stepNumber (finishes good short)) 21
+    eqb (stepNumber (begins whole stated)) 0 && eqb (stepNumber (begins short (counts 2 4 6 2))) 13 && eqb (stepNumber (begins short stated)) 14
+    && eqb (stepNumber (operates good short (Split 9))) 21 && eqb (stepNumber (finishes good short)) 21
     && eqb (stepNumber (operates good whole (Split 9))) 16 && eqb (stepNumber (finishes good whole)) 15
     && eqb (stepNumber (operates pair paired Forward)) 16 && eqb (stepNumber (operates pair paired Backward)) 16
     && equal (withTriangle 1 (tri 7 8 9) (0 ∷ 1 ∷ 2 ∷ 3 ∷ 4 ∷ 5 ∷ 6 ∷ [])) (0 ∷ 1 ∷ 2 ∷ 7 ∷ 8 ∷ 9 ∷ 6 ∷ [])
     && equal (begunBuffers whole .triangles) numbers && equalPlaces (begunBuffers whole .places) (replicate 1024 freePlace)
 
 pub calls : T (callsRight && differRight && fansRight)
-unfolding differRight fansRight about leaving entering turnOn turnBack oneRun oneFanEach same hit corners edgesOf numbersOf occurs count allBelow allOpen vertexAt lastOpen lastVertex front onward reached places loopAt without allowed inOrder atEdge atRest effect test done finish follow followed placesOf nodes loopsOf trianglesBuilt view sizesOf apart placesFit loopsFit linksFit sound equal equalPlaces cleared callsRight
+unfolding differRight fansRight about leaving entering turnOn turnBack oneRun oneFanEach same hit corners edgesOf numbersOf occurs count allBelow allOpen vertexAt lastOpen lastVertex front onward reached places loopAt without allowed inOrder atEdge atRest effect test done beginning finish follow followed placesOf nodes loopsOf trianglesBuilt view sizesOf apart placesFit loopsFit linksFit sound equal equalPlaces cleared callsRight
 calls = tt
