@@ -1,5 +1,5 @@
--- The models, packs and lists of calls of the rules (M1 to M10) and rows that pin the other rules, with the answers of the
--- second program: one table, by computation. Written by tests/definitions, never by hand; the states of 21 are in States.
+-- Models, packs and lists of calls that pin the rules, with the answers of the second program: one table, by computation.
+-- Written by tests/definitions, never by hand; Bench has M1 to M10 as the rules write them, States the states of 21.
 -- Assumes nothing.
 use Prim.Native.Nat.{ℕ}
 use mathlib.Core.Bool.{Bool, true, false, _&&_}

@@ -9,7 +9,7 @@ use lib.Dec.{T, eqb}
 use Rattle.rules.specs.declared.Counts.{Counts}
 use Rattle.rules.specs.declared.Place.{Place}
 use Rattle.rules.specs.declared.Builder.{Builder}
-use Rattle.rules.specs.declared.Operation.the-variants.{New, Forward, Backward, Border, Split, Start}
+use Rattle.rules.specs.declared.Operation.the-variants.{New, Forward, Backward, Border, Split, Close, Union, Start}
 use Rattle.rules.specs.Triangle.{tri, corners, edgesOf}
 use Rattle.rules.specs.Count.{same, hit, occurs, count, uses}
 use Rattle.rules.specs.Fan.{about, leaving, entering, turnOn, turnBack, oneRun, oneFanEach}
@@ -271,6 +271,19 @@ differRight =
     && eqb (stepNumber (operates ringed (ring 0 1 2 3) New)) 0 && eqb (stepNumber (operates ringed (ring 0 1 0 2) Forward)) 18
     && eqb (stepNumber (operates ringed (ring 0 1 2 1) Backward)) 18 && eqb (stepNumber (operates ringed (ring 0 0 1 2) New)) 18
 
+-- a loop of one place goes from a to a; one of two waits
+abbrev pub lone : Builder
+lone = builder (counts 9 9 9 9) (parts 5 0 4 2 2 (1 ∷ 0 ∷ 0 ∷ 0 ∷ []) (2 ∷ 1 ∷ 0 ∷ 0 ∷ [])) 0 0 0 0
+
+abbrev pub lonely : Buffers
+lonely = record { triangles = replicate 27 0; places = paired .places }
+
+unfoldable pub loneRight : Bool
+loneRight =
+    eqb (stepNumber (operates pair paired Close)) 16 && eqb (stepNumber (operates lone lonely Close)) 16
+    && eqb (stepNumber (operates lone lonely New)) 18 && eqb (stepNumber (operates lone lonely (Union 1 0))) 18
+    && eqb (stepNumber (operates lone lonely Border)) 0
+
 -- a complete model, two triangles that share nothing; a vertex that is in no triangle has no second fan
 abbrev pub resting : ℕ → Builder
 resting v = builder (counts v 2 3 1) (parts v 2 3 1 0 (0 ∷ 0 ∷ 0 ∷ 0 ∷ []) (0 ∷ 0 ∷ 0 ∷ 0 ∷ [])) 0 2 0 2
@@ -292,6 +305,6 @@ callsRight =
     && equal (withTriangle 1 (tri 7 8 9) (0 ∷ 1 ∷ 2 ∷ 3 ∷ 4 ∷ 5 ∷ 6 ∷ [])) (0 ∷ 1 ∷ 2 ∷ 7 ∷ 8 ∷ 9 ∷ 6 ∷ [])
     && equal (begunBuffers whole .triangles) numbers && equalPlaces (begunBuffers whole .places) (replicate 1024 freePlace)
 
-pub calls : T (callsRight && differRight && fansRight)
-unfolding differRight fansRight about leaving entering turnOn turnBack oneRun oneFanEach same hit corners edgesOf numbersOf occurs count allBelow allOpen vertexAt lastOpen lastVertex front onward reached places loopAt without allowed inOrder atEdge atRest effect test done beginning finish follow followed placesOf nodes loopsOf trianglesBuilt view sizesOf apart placesFit loopsFit linksFit sound equal equalPlaces cleared callsRight
+pub calls : T (callsRight && differRight && loneRight && fansRight)
+unfolding differRight loneRight fansRight about leaving entering turnOn turnBack oneRun oneFanEach same hit corners edgesOf numbersOf occurs count allBelow allOpen vertexAt lastOpen lastVertex front onward reached places loopAt without allowed inOrder atEdge atRest effect test done beginning finish follow followed placesOf nodes loopsOf trianglesBuilt view sizesOf apart placesFit loopsFit linksFit sound equal equalPlaces cleared callsRight
 calls = tt

@@ -1,4 +1,4 @@
-//! The table of the rules: M1 to M10 and rows that pin the other rules.
+//! The table of the rules: the second program's models, packs and calls, and rows that pin the rules one by one.
 
 use crate::antt;
 use crate::expected::{self, LIMITS};
@@ -273,8 +273,8 @@ fn section(name: &str, kind: &str, rows: &[(String, String)]) -> String {
 pub fn module() -> String {
     let (uses, unfolding) = prelude(&Home::Rules);
     let mut out = String::from(
-        "-- The models, packs and lists of calls of the rules (M1 to M10) and rows that pin the other rules, with the answers of the
--- second program: one table, by computation. Written by tests/definitions, never by hand; the states of 21 are in States.
+        "-- Models, packs and lists of calls that pin the rules, with the answers of the second program: one table, by computation.
+-- Written by tests/definitions, never by hand; Bench has M1 to M10 as the rules write them, States the states of 21.
 -- Assumes nothing.
 ",
     );
