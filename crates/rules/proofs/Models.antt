@@ -874,6 +874,9 @@ callRows =
     -- a beginning alone
     record { rooms = rooms 18 1024; calls = begin (counts 5 6 7 8) ∷ []; told = accepted ∷ []; machine = ((0 ∷ 0 ∷ 0 ∷ 0 ∷ 0 ∷ 0 ∷ 0 ∷ [])); borders = [] }
     ∷
+    -- union 1 of two waiting loops
+    record { rooms = rooms 180 1024; calls = begin (counts 60 60 60 9) ∷ operate Start ∷ operate New ∷ operate Border ∷ operate New ∷ operate (Split 2) ∷ operate New ∷ operate New ∷ operate Border ∷ operate New ∷ operate (Split 3) ∷ operate New ∷ operate (Union 1 1) ∷ operate (Union 1 2) ∷ []; told = accepted ∷ triangle (tri 0 1 2) ∷ triangle (tri 1 0 3) ∷ no-triangle ∷ triangle (tri 2 1 4) ∷ triangle (tri 2 4 3) ∷ triangle (tri 2 3 5) ∷ triangle (tri 2 5 6) ∷ no-triangle ∷ triangle (tri 0 2 7) ∷ triangle (tri 0 7 6) ∷ triangle (tri 6 7 8) ∷ refusal 18 ∷ triangle (tri 6 8 3) ∷ []; machine = ((9 ∷ 21 ∷ 12 ∷ 3 ∷ 1 ∷ 1 ∷ 0 ∷ 0 ∷ 1 ∷ 2 ∷ 1 ∷ 0 ∷ 3 ∷ 2 ∷ 1 ∷ 4 ∷ 2 ∷ 4 ∷ 3 ∷ 2 ∷ 3 ∷ 5 ∷ 2 ∷ 5 ∷ 6 ∷ 0 ∷ 2 ∷ 7 ∷ 0 ∷ 7 ∷ 6 ∷ 6 ∷ 7 ∷ 8 ∷ 6 ∷ 8 ∷ 3 ∷ 9 ∷ 3 ∷ 1 ∷ 6 ∷ 0 ∷ 2 ∷ 1 ∷ 7 ∷ 1 ∷ 8 ∷ 1 ∷ 3 ∷ 1 ∷ 5 ∷ 1 ∷ 6 ∷ 1 ∷ 0 ∷ 1 ∷ 3 ∷ 4 ∷ 1 ∷ 3 ∷ 0 ∷ 1 ∷ 1 ∷ [])); borders = ((6 ∷ 2 ∷ 3 ∷ 1 ∷ [])) }
+    ∷
     []
 
 unfoldable pub fieldsRows : List FieldsRow

@@ -151,6 +151,9 @@ stateRows =
     row true (builder stated (parts 5 4 6 2 2 (0 ∷ 1 ∷ 0 ∷ 0 ∷ []) (1 ∷ 2 ∷ 0 ∷ 0 ∷ [])) 9 1 0 0) numbers
     (place 0 0 0 true ∷ place 1 2 2 true ∷ place 2 1 1 false ∷ replicate 1021 freePlace)
     ∷
+    -- arrays that hold anything past the live loops
+    withParts true (parts 5 4 6 2 2 (4 ∷ 5 ∷ 9 ∷ 1025 ∷ []) (3 ∷ 3 ∷ 9 ∷ 1025 ∷ []))
+    ∷
     -- places anywhere in the first 1,024 records
     row true (builder stated (parts 5 4 6 2 1 (1023 ∷ 0 ∷ 0 ∷ 0 ∷ []) (3 ∷ 0 ∷ 0 ∷ 0 ∷ [])) 9 1 0 0) numbers
     (place 0 1023 100 true ∷ replicate 99 freePlace ++ (place 1 0 1023 true ∷ replicate 922 freePlace) ++ (place 2 100 0 true ∷ []))
@@ -278,9 +281,20 @@ lone = builder (counts 9 9 9 9) (parts 5 0 4 2 2 (1 ∷ 0 ∷ 0 ∷ 0 ∷ []) (2
 abbrev pub lonely : Buffers
 lonely = record { triangles = replicate 27 0; places = paired .places }
 
+-- two loops of one place wait
+abbrev pub waited : Builder
+waited = builder (counts 9 9 9 9) (parts 5 0 5 3 3 (3 ∷ 4 ∷ 0 ∷ 0 ∷ []) (1 ∷ 1 ∷ 3 ∷ 0 ∷ [])) 0 0 0 0
+
+abbrev pub scattered : Buffers
+scattered = record {
+  triangles = replicate 27 0;
+  places = place 0 2 1 true ∷ place 1 0 2 true ∷ place 2 1 0 true ∷ place 3 3 3 true ∷ place 4 4 4 true ∷ replicate 1019 freePlace;
+}
+
 unfoldable pub loneRight : Bool
 loneRight =
-    eqb (stepNumber (operates pair paired Close)) 16 && eqb (stepNumber (operates lone lonely Close)) 16
+    eqb (stepNumber (operates waited scattered (Union 2 0))) 0 && eqb (stepNumber (operates waited scattered (Union 3 0))) 16
+    && eqb (stepNumber (operates pair paired Close)) 16 && eqb (stepNumber (operates lone lonely Close)) 16
     && eqb (stepNumber (operates lone lonely New)) 18 && eqb (stepNumber (operates lone lonely (Union 1 0))) 18
     && eqb (stepNumber (operates lone lonely Border)) 0
 
