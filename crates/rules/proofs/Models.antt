@@ -1,5 +1,5 @@
--- The models, packs and lists of calls of the rules (M1 to M10) and rows that pin the other rules, with the answers of the
--- second program: one table, by computation. Written by tests/definitions, never by hand; the states of 21 are in States.
+-- Models, packs and lists of calls that pin the rules, with the answers of the second program: one table, by computation.
+-- Written by tests/definitions, never by hand; Bench has M1 to M10 as the rules write them, States the states of 21.
 -- Assumes nothing.
 use Prim.Native.Nat.{ℕ}
 use mathlib.Core.Bool.{Bool, true, false, _&&_}
@@ -11,8 +11,9 @@ use Rattle.rules.specs.declared.Operation.the-variants.{New, Forward, Ba
 use Rattle.rules.specs.Triangle.{tri}
 use Rattle.rules.specs.Answer.{refusal, accepted, triangle, no-triangle, numbers, packed}
 use Rattle.rules.specs.Book.{begin, operate, finish}
-use Rattle.rules.proofs.Rows.{PackRow, UnpackRow, CallRow, place, packLent, unpackLent, lengths, counts, totalsOf, modelOf}
-use Rattle.rules.proofs.Rows.{equal, equalPlaces, equalAnswers, packRight, unpackRight, writtenRing, writtenRings, writtenEdges, callsRight, allRight}
+use Rattle.rules.specs.Pack.{most}
+use Rattle.rules.proofs.Rows.{PackRow, UnpackRow, CallRow, FieldsRow, LookRow, place, packLent, unpackLent, lengths, counts, totalsOf, modelOf}
+use Rattle.rules.proofs.Rows.{equal, equalPlaces, equalAnswers, packRight, unpackRight, writtenRing, writtenRings, writtenEdges, callsRight, fieldsRight, lookRight, allRight}
 use Rattle.rules.specs.Triangle.{trianglesOf, corners, edgesOf}
 use Rattle.rules.specs.Count.{same, hit, occurs, count, different, pairs}
 use Rattle.rules.specs.Fan.{about, leaving, entering, turnOn, turnBack, oneRun, oneFanEach}
@@ -20,6 +21,7 @@ use Rattle.rules.specs.Across.{inTriangle, across}
 use Rattle.rules.specs.Check.{allBelow, allDistinct, noneTwice, allUsed, passes, checkTriangles, check}
 use Rattle.rules.specs.Ring.{allOpen, vertexAt, lastOpen, lastVertex, front, onward, reached, places, loopAt, without}
 use Rattle.rules.specs.Table.{allowed, inOrder, atEdge, atRest, effect}
+use Rattle.rules.specs.Places.{placesAt, ringsAfter}
 use Rattle.rules.specs.Buffer.{cleared}
 use Rattle.rules.specs.Machine.{test, done, beginning, finishing}
 use Rattle.rules.specs.Calls.{answers, afterAll, logAll}
@@ -29,220 +31,235 @@ use Rattle.rules.specs.Fields.{packBytes, takeField, fieldsOf}
 use Rattle.rules.specs.Choice.{has, dropTriangle, turnIn, turnOut, edgeIn, spotOf, choosePlace, limited, taking, chooseAt, chooseIn}
 use Rattle.rules.specs.Pack.{chooseAll, indexOf, newNumbers, packChosen, packChecked}
 use Rattle.rules.specs.Unpack.{runAll, numbersOf, unpackRun, unpackFields}
-use Rattle.rules.specs.View.{follow, followed, nodes, placesOf, openAmong, loopsOf, trianglesBuilt, view}
-use Rattle.rules.specs.Test21.{sizesOf, apart, placesFit, loopsFit, linksFit, sound}
+use Rattle.rules.specs.View.{follow, followed, nodes, placesOf, openAmong, loopsOf, placeNodes, placeRings, trianglesBuilt, view}
+use Rattle.rules.specs.Test21.{sizesOf, apart, placesFit, loopsFit, linksFit, soundElse, sound}
 
 unfoldable pub packRows : List PackRow
 packRows =
     -- M1: accepted
-    record { limits = record { places = 1024; loops = 100 }; vertices = 3; list = ((0 ∷ 1 ∷ 2 ∷ [])); lent = packLent ((7 ∷ 7 ∷ 7 ∷ 7 ∷ 7 ∷ [])) (replicate 1026 (place 3 1 2 true)) (replicate 60 5); answer = packed 16; left = packLent ((0 ∷ 1 ∷ 2 ∷ 7 ∷ 7 ∷ [])) (replicate 1024 (place 0 0 0 false) ++ ((place 3 1 2 true) ∷ (place 3 1 2 true) ∷ [])) ((1 ∷ 0 ∷ 8 ∷ 0 ∷ 3 ∷ 0 ∷ 1 ∷ 0 ∷ 3 ∷ 0 ∷ 1 ∷ 2 ∷ 0 ∷ 2 ∷ 237 ∷ 176 ∷ []) ++ replicate 44 5) }
+    record { limits = most; vertices = 3; list = ((0 ∷ 1 ∷ 2 ∷ [])); lent = packLent ((7 ∷ 7 ∷ 7 ∷ 7 ∷ 7 ∷ [])) (replicate 1026 (place 3 1 2 true)) (replicate 60 5); answer = packed 16; left = packLent ((0 ∷ 1 ∷ 2 ∷ 7 ∷ 7 ∷ [])) (replicate 1024 (place 0 0 0 false) ++ ((place 3 1 2 true) ∷ (place 3 1 2 true) ∷ [])) ((1 ∷ 0 ∷ 8 ∷ 0 ∷ 3 ∷ 0 ∷ 1 ∷ 0 ∷ 3 ∷ 0 ∷ 1 ∷ 2 ∷ 0 ∷ 2 ∷ 237 ∷ 176 ∷ []) ++ replicate 44 5) }
     ∷
     -- M2: accepted
-    record { limits = record { places = 1024; loops = 100 }; vertices = 4; list = ((0 ∷ 1 ∷ 2 ∷ 1 ∷ 0 ∷ 3 ∷ 2 ∷ 1 ∷ 3 ∷ 0 ∷ 2 ∷ 3 ∷ [])); lent = packLent ((7 ∷ 7 ∷ 7 ∷ 7 ∷ 7 ∷ 7 ∷ [])) (replicate 1026 (place 3 1 2 true)) (replicate 60 5); answer = packed 16; left = packLent ((0 ∷ 1 ∷ 2 ∷ 3 ∷ 7 ∷ 7 ∷ [])) (replicate 1024 (place 0 0 0 false) ++ ((place 3 1 2 true) ∷ (place 3 1 2 true) ∷ [])) ((1 ∷ 0 ∷ 8 ∷ 0 ∷ 4 ∷ 0 ∷ 4 ∷ 0 ∷ 4 ∷ 0 ∷ 1 ∷ 2 ∷ 0 ∷ 2 ∷ 224 ∷ 208 ∷ []) ++ replicate 44 5) }
+    record { limits = most; vertices = 4; list = ((0 ∷ 1 ∷ 2 ∷ 1 ∷ 0 ∷ 3 ∷ 2 ∷ 1 ∷ 3 ∷ 0 ∷ 2 ∷ 3 ∷ [])); lent = packLent ((7 ∷ 7 ∷ 7 ∷ 7 ∷ 7 ∷ 7 ∷ [])) (replicate 1026 (place 3 1 2 true)) (replicate 60 5); answer = packed 16; left = packLent ((0 ∷ 1 ∷ 2 ∷ 3 ∷ 7 ∷ 7 ∷ [])) (replicate 1024 (place 0 0 0 false) ++ ((place 3 1 2 true) ∷ (place 3 1 2 true) ∷ [])) ((1 ∷ 0 ∷ 8 ∷ 0 ∷ 4 ∷ 0 ∷ 4 ∷ 0 ∷ 4 ∷ 0 ∷ 1 ∷ 2 ∷ 0 ∷ 2 ∷ 224 ∷ 208 ∷ []) ++ replicate 44 5) }
     ∷
     -- M3: accepted
-    record { limits = record { places = 1024; loops = 100 }; vertices = 4; list = ((0 ∷ 1 ∷ 2 ∷ 1 ∷ 0 ∷ 3 ∷ [])); lent = packLent ((7 ∷ 7 ∷ 7 ∷ 7 ∷ 7 ∷ 7 ∷ [])) (replicate 1026 (place 3 1 2 true)) (replicate 60 5); answer = packed 17; left = packLent ((0 ∷ 1 ∷ 2 ∷ 3 ∷ 7 ∷ 7 ∷ [])) (replicate 1024 (place 0 0 0 false) ++ ((place 3 1 2 true) ∷ (place 3 1 2 true) ∷ [])) ((1 ∷ 0 ∷ 8 ∷ 0 ∷ 4 ∷ 0 ∷ 2 ∷ 0 ∷ 4 ∷ 0 ∷ 1 ∷ 2 ∷ 0 ∷ 3 ∷ 225 ∷ 182 ∷ 192 ∷ []) ++ replicate 43 5) }
+    record { limits = most; vertices = 4; list = ((0 ∷ 1 ∷ 2 ∷ 1 ∷ 0 ∷ 3 ∷ [])); lent = packLent ((7 ∷ 7 ∷ 7 ∷ 7 ∷ 7 ∷ 7 ∷ [])) (replicate 1026 (place 3 1 2 true)) (replicate 60 5); answer = packed 17; left = packLent ((0 ∷ 1 ∷ 2 ∷ 3 ∷ 7 ∷ 7 ∷ [])) (replicate 1024 (place 0 0 0 false) ++ ((place 3 1 2 true) ∷ (place 3 1 2 true) ∷ [])) ((1 ∷ 0 ∷ 8 ∷ 0 ∷ 4 ∷ 0 ∷ 2 ∷ 0 ∷ 4 ∷ 0 ∷ 1 ∷ 2 ∷ 0 ∷ 3 ∷ 225 ∷ 182 ∷ 192 ∷ []) ++ replicate 43 5) }
     ∷
     -- M4: accepted
-    record { limits = record { places = 1024; loops = 100 }; vertices = 3; list = ((0 ∷ 1 ∷ 2 ∷ 1 ∷ 0 ∷ 2 ∷ [])); lent = packLent ((7 ∷ 7 ∷ 7 ∷ 7 ∷ 7 ∷ [])) (replicate 1026 (place 3 1 2 true)) (replicate 60 5); answer = packed 15; left = packLent ((0 ∷ 1 ∷ 2 ∷ 7 ∷ 7 ∷ [])) (replicate 1024 (place 0 0 0 false) ++ ((place 3 1 2 true) ∷ (place 3 1 2 true) ∷ [])) ((1 ∷ 0 ∷ 8 ∷ 0 ∷ 3 ∷ 0 ∷ 2 ∷ 0 ∷ 3 ∷ 0 ∷ 1 ∷ 2 ∷ 0 ∷ 1 ∷ 244 ∷ []) ++ replicate 45 5) }
+    record { limits = most; vertices = 3; list = ((0 ∷ 1 ∷ 2 ∷ 1 ∷ 0 ∷ 2 ∷ [])); lent = packLent ((7 ∷ 7 ∷ 7 ∷ 7 ∷ 7 ∷ [])) (replicate 1026 (place 3 1 2 true)) (replicate 60 5); answer = packed 15; left = packLent ((0 ∷ 1 ∷ 2 ∷ 7 ∷ 7 ∷ [])) (replicate 1024 (place 0 0 0 false) ++ ((place 3 1 2 true) ∷ (place 3 1 2 true) ∷ [])) ((1 ∷ 0 ∷ 8 ∷ 0 ∷ 3 ∷ 0 ∷ 2 ∷ 0 ∷ 3 ∷ 0 ∷ 1 ∷ 2 ∷ 0 ∷ 1 ∷ 244 ∷ []) ++ replicate 45 5) }
     ∷
     -- M5: accepted
-    record { limits = record { places = 1024; loops = 100 }; vertices = 6; list = ((0 ∷ 1 ∷ 2 ∷ 3 ∷ 4 ∷ 5 ∷ [])); lent = packLent (replicate 8 7) (replicate 1026 (place 3 1 2 true)) (replicate 60 5); answer = packed 17; left = packLent ((0 ∷ 1 ∷ 2 ∷ 3 ∷ 4 ∷ 5 ∷ 7 ∷ 7 ∷ [])) (replicate 1024 (place 0 0 0 false) ++ ((place 3 1 2 true) ∷ (place 3 1 2 true) ∷ [])) ((1 ∷ 0 ∷ 8 ∷ 0 ∷ 6 ∷ 0 ∷ 2 ∷ 0 ∷ 3 ∷ 0 ∷ 1 ∷ 2 ∷ 0 ∷ 3 ∷ 237 ∷ 190 ∷ 219 ∷ []) ++ replicate 43 5) }
+    record { limits = most; vertices = 6; list = ((0 ∷ 1 ∷ 2 ∷ 3 ∷ 4 ∷ 5 ∷ [])); lent = packLent (replicate 8 7) (replicate 1026 (place 3 1 2 true)) (replicate 60 5); answer = packed 17; left = packLent ((0 ∷ 1 ∷ 2 ∷ 3 ∷ 4 ∷ 5 ∷ 7 ∷ 7 ∷ [])) (replicate 1024 (place 0 0 0 false) ++ ((place 3 1 2 true) ∷ (place 3 1 2 true) ∷ [])) ((1 ∷ 0 ∷ 8 ∷ 0 ∷ 6 ∷ 0 ∷ 2 ∷ 0 ∷ 3 ∷ 0 ∷ 1 ∷ 2 ∷ 0 ∷ 3 ∷ 237 ∷ 190 ∷ 219 ∷ []) ++ replicate 43 5) }
     ∷
     -- M6: refusal 6
-    record { limits = record { places = 1024; loops = 100 }; vertices = 4; list = ((0 ∷ 1 ∷ 2 ∷ [])); lent = packLent ((7 ∷ 7 ∷ 7 ∷ 7 ∷ 7 ∷ 7 ∷ [])) (replicate 1026 (place 3 1 2 true)) (replicate 60 5); answer = refusal 6; left = packLent ((7 ∷ 7 ∷ 7 ∷ 7 ∷ 7 ∷ 7 ∷ [])) (replicate 1026 (place 3 1 2 true)) (replicate 60 5) }
+    record { limits = most; vertices = 4; list = ((0 ∷ 1 ∷ 2 ∷ [])); lent = packLent ((7 ∷ 7 ∷ 7 ∷ 7 ∷ 7 ∷ 7 ∷ [])) (replicate 1026 (place 3 1 2 true)) (replicate 60 5); answer = refusal 6; left = packLent ((7 ∷ 7 ∷ 7 ∷ 7 ∷ 7 ∷ 7 ∷ [])) (replicate 1026 (place 3 1 2 true)) (replicate 60 5) }
     ∷
     -- M7: refusal 5
-    record { limits = record { places = 1024; loops = 100 }; vertices = 4; list = ((0 ∷ 1 ∷ 2 ∷ 0 ∷ 1 ∷ 3 ∷ [])); lent = packLent ((7 ∷ 7 ∷ 7 ∷ 7 ∷ 7 ∷ 7 ∷ [])) (replicate 1026 (place 3 1 2 true)) (replicate 60 5); answer = refusal 5; left = packLent ((7 ∷ 7 ∷ 7 ∷ 7 ∷ 7 ∷ 7 ∷ [])) (replicate 1026 (place 3 1 2 true)) (replicate 60 5) }
+    record { limits = most; vertices = 4; list = ((0 ∷ 1 ∷ 2 ∷ 0 ∷ 1 ∷ 3 ∷ [])); lent = packLent ((7 ∷ 7 ∷ 7 ∷ 7 ∷ 7 ∷ 7 ∷ [])) (replicate 1026 (place 3 1 2 true)) (replicate 60 5); answer = refusal 5; left = packLent ((7 ∷ 7 ∷ 7 ∷ 7 ∷ 7 ∷ 7 ∷ [])) (replicate 1026 (place 3 1 2 true)) (replicate 60 5) }
     ∷
     -- M8: refusal 7
-    record { limits = record { places = 1024; loops = 100 }; vertices = 5; list = ((0 ∷ 1 ∷ 2 ∷ 0 ∷ 3 ∷ 4 ∷ [])); lent = packLent ((7 ∷ 7 ∷ 7 ∷ 7 ∷ 7 ∷ 7 ∷ 7 ∷ [])) (replicate 1026 (place 3 1 2 true)) (replicate 60 5); answer = refusal 7; left = packLent ((7 ∷ 7 ∷ 7 ∷ 7 ∷ 7 ∷ 7 ∷ 7 ∷ [])) (replicate 1026 (place 3 1 2 true)) (replicate 60 5) }
+    record { limits = most; vertices = 5; list = ((0 ∷ 1 ∷ 2 ∷ 0 ∷ 3 ∷ 4 ∷ [])); lent = packLent ((7 ∷ 7 ∷ 7 ∷ 7 ∷ 7 ∷ 7 ∷ 7 ∷ [])) (replicate 1026 (place 3 1 2 true)) (replicate 60 5); answer = refusal 7; left = packLent ((7 ∷ 7 ∷ 7 ∷ 7 ∷ 7 ∷ 7 ∷ 7 ∷ [])) (replicate 1026 (place 3 1 2 true)) (replicate 60 5) }
     ∷
     -- M9, any V: refusal 1
-    record { limits = record { places = 1024; loops = 100 }; vertices = 3; list = []; lent = packLent ((7 ∷ 7 ∷ 7 ∷ 7 ∷ 7 ∷ [])) (replicate 1026 (place 3 1 2 true)) (replicate 60 5); answer = refusal 1; left = packLent ((7 ∷ 7 ∷ 7 ∷ 7 ∷ 7 ∷ [])) (replicate 1026 (place 3 1 2 true)) (replicate 60 5) }
+    record { limits = most; vertices = 3; list = []; lent = packLent ((7 ∷ 7 ∷ 7 ∷ 7 ∷ 7 ∷ [])) (replicate 1026 (place 3 1 2 true)) (replicate 60 5); answer = refusal 1; left = packLent ((7 ∷ 7 ∷ 7 ∷ 7 ∷ 7 ∷ [])) (replicate 1026 (place 3 1 2 true)) (replicate 60 5) }
     ∷
     -- forward at three places; c is reached from the edge that enters its place only: accepted
-    record { limits = record { places = 1024; loops = 100 }; vertices = 4; list = ((0 ∷ 1 ∷ 2 ∷ 2 ∷ 3 ∷ 0 ∷ 0 ∷ 3 ∷ 1 ∷ [])); lent = packLent ((7 ∷ 7 ∷ 7 ∷ 7 ∷ 7 ∷ 7 ∷ [])) (replicate 1026 (place 3 1 2 true)) (replicate 60 5); answer = packed 17; left = packLent ((0 ∷ 1 ∷ 2 ∷ 3 ∷ 7 ∷ 7 ∷ [])) (replicate 1024 (place 0 0 0 false) ++ ((place 3 1 2 true) ∷ (place 3 1 2 true) ∷ [])) ((1 ∷ 0 ∷ 8 ∷ 0 ∷ 4 ∷ 0 ∷ 3 ∷ 0 ∷ 4 ∷ 0 ∷ 1 ∷ 2 ∷ 0 ∷ 3 ∷ 225 ∷ 178 ∷ 192 ∷ []) ++ replicate 43 5) }
+    record { limits = most; vertices = 4; list = ((0 ∷ 1 ∷ 2 ∷ 2 ∷ 3 ∷ 0 ∷ 0 ∷ 3 ∷ 1 ∷ [])); lent = packLent ((7 ∷ 7 ∷ 7 ∷ 7 ∷ 7 ∷ 7 ∷ [])) (replicate 1026 (place 3 1 2 true)) (replicate 60 5); answer = packed 17; left = packLent ((0 ∷ 1 ∷ 2 ∷ 3 ∷ 7 ∷ 7 ∷ [])) (replicate 1024 (place 0 0 0 false) ++ ((place 3 1 2 true) ∷ (place 3 1 2 true) ∷ [])) ((1 ∷ 0 ∷ 8 ∷ 0 ∷ 4 ∷ 0 ∷ 3 ∷ 0 ∷ 4 ∷ 0 ∷ 1 ∷ 2 ∷ 0 ∷ 3 ∷ 225 ∷ 178 ∷ 192 ∷ []) ++ replicate 43 5) }
     ∷
     -- backward at three places; c is reached from the edge that leaves its place only: accepted
-    record { limits = record { places = 1024; loops = 100 }; vertices = 5; list = ((0 ∷ 2 ∷ 1 ∷ 1 ∷ 3 ∷ 0 ∷ 3 ∷ 1 ∷ 4 ∷ 0 ∷ 4 ∷ 2 ∷ 0 ∷ 3 ∷ 4 ∷ [])); lent = packLent ((7 ∷ 7 ∷ 7 ∷ 7 ∷ 7 ∷ 7 ∷ 7 ∷ [])) (replicate 1026 (place 3 1 2 true)) (replicate 60 5); answer = packed 17; left = packLent ((0 ∷ 2 ∷ 1 ∷ 4 ∷ 3 ∷ 7 ∷ 7 ∷ [])) (replicate 1024 (place 0 0 0 false) ++ ((place 3 1 2 true) ∷ (place 3 1 2 true) ∷ [])) ((1 ∷ 0 ∷ 8 ∷ 0 ∷ 5 ∷ 0 ∷ 5 ∷ 0 ∷ 4 ∷ 0 ∷ 1 ∷ 2 ∷ 0 ∷ 3 ∷ 225 ∷ 176 ∷ 83 ∷ []) ++ replicate 43 5) }
+    record { limits = most; vertices = 5; list = ((0 ∷ 2 ∷ 1 ∷ 1 ∷ 3 ∷ 0 ∷ 3 ∷ 1 ∷ 4 ∷ 0 ∷ 4 ∷ 2 ∷ 0 ∷ 3 ∷ 4 ∷ [])); lent = packLent ((7 ∷ 7 ∷ 7 ∷ 7 ∷ 7 ∷ 7 ∷ 7 ∷ [])) (replicate 1026 (place 3 1 2 true)) (replicate 60 5); answer = packed 17; left = packLent ((0 ∷ 2 ∷ 1 ∷ 4 ∷ 3 ∷ 7 ∷ 7 ∷ [])) (replicate 1024 (place 0 0 0 false) ++ ((place 3 1 2 true) ∷ (place 3 1 2 true) ∷ [])) ((1 ∷ 0 ∷ 8 ∷ 0 ∷ 5 ∷ 0 ∷ 5 ∷ 0 ∷ 4 ∷ 0 ∷ 1 ∷ 2 ∷ 0 ∷ 3 ∷ 225 ∷ 176 ∷ 83 ∷ []) ++ replicate 43 5) }
     ∷
     -- split k - 2 across a link; the second part has fewer places, in full loops as many: accepted
-    record { limits = record { places = 1024; loops = 100 }; vertices = 5; list = ((0 ∷ 1 ∷ 2 ∷ 1 ∷ 0 ∷ 3 ∷ 0 ∷ 2 ∷ 4 ∷ 3 ∷ 4 ∷ 1 ∷ 0 ∷ 4 ∷ 3 ∷ [])); lent = packLent ((7 ∷ 7 ∷ 7 ∷ 7 ∷ 7 ∷ 7 ∷ 7 ∷ [])) (replicate 1026 (place 3 1 2 true)) (replicate 60 5); answer = packed 19; left = packLent ((0 ∷ 1 ∷ 2 ∷ 3 ∷ 4 ∷ 7 ∷ 7 ∷ [])) (replicate 1024 (place 0 0 0 false) ++ ((place 3 1 2 true) ∷ (place 3 1 2 true) ∷ [])) ((1 ∷ 0 ∷ 8 ∷ 0 ∷ 5 ∷ 0 ∷ 5 ∷ 0 ∷ 5 ∷ 0 ∷ 2 ∷ 2 ∷ 0 ∷ 5 ∷ 224 ∷ 55 ∷ 0 ∷ 39 ∷ 64 ∷ []) ++ replicate 41 5) }
+    record { limits = most; vertices = 5; list = ((0 ∷ 1 ∷ 2 ∷ 1 ∷ 0 ∷ 3 ∷ 0 ∷ 2 ∷ 4 ∷ 3 ∷ 4 ∷ 1 ∷ 0 ∷ 4 ∷ 3 ∷ [])); lent = packLent ((7 ∷ 7 ∷ 7 ∷ 7 ∷ 7 ∷ 7 ∷ 7 ∷ [])) (replicate 1026 (place 3 1 2 true)) (replicate 60 5); answer = packed 19; left = packLent ((0 ∷ 1 ∷ 2 ∷ 3 ∷ 4 ∷ 7 ∷ 7 ∷ [])) (replicate 1024 (place 0 0 0 false) ++ ((place 3 1 2 true) ∷ (place 3 1 2 true) ∷ [])) ((1 ∷ 0 ∷ 8 ∷ 0 ∷ 5 ∷ 0 ∷ 5 ∷ 0 ∷ 5 ∷ 0 ∷ 2 ∷ 2 ∷ 0 ∷ 5 ∷ 224 ∷ 55 ∷ 0 ∷ 39 ∷ 64 ∷ []) ++ replicate 41 5) }
     ∷
     -- split, the first part is smaller: accepted
-    record { limits = record { places = 1024; loops = 100 }; vertices = 6; list = ((1 ∷ 3 ∷ 2 ∷ 2 ∷ 4 ∷ 5 ∷ 2 ∷ 3 ∷ 4 ∷ 1 ∷ 0 ∷ 3 ∷ 2 ∷ 5 ∷ 0 ∷ 0 ∷ 1 ∷ 2 ∷ [])); lent = packLent (replicate 8 7) (replicate 1026 (place 3 1 2 true)) (replicate 60 5); answer = packed 19; left = packLent ((3 ∷ 0 ∷ 2 ∷ 1 ∷ 4 ∷ 5 ∷ 7 ∷ 7 ∷ [])) (replicate 1024 (place 0 0 0 false) ++ ((place 3 1 2 true) ∷ (place 3 1 2 true) ∷ [])) ((1 ∷ 0 ∷ 8 ∷ 0 ∷ 6 ∷ 0 ∷ 6 ∷ 0 ∷ 7 ∷ 0 ∷ 2 ∷ 2 ∷ 0 ∷ 5 ∷ 225 ∷ 129 ∷ 0 ∷ 42 ∷ 219 ∷ []) ++ replicate 41 5) }
+    record { limits = most; vertices = 6; list = ((1 ∷ 3 ∷ 2 ∷ 2 ∷ 4 ∷ 5 ∷ 2 ∷ 3 ∷ 4 ∷ 1 ∷ 0 ∷ 3 ∷ 2 ∷ 5 ∷ 0 ∷ 0 ∷ 1 ∷ 2 ∷ [])); lent = packLent (replicate 8 7) (replicate 1026 (place 3 1 2 true)) (replicate 60 5); answer = packed 19; left = packLent ((3 ∷ 0 ∷ 2 ∷ 1 ∷ 4 ∷ 5 ∷ 7 ∷ 7 ∷ [])) (replicate 1024 (place 0 0 0 false) ++ ((place 3 1 2 true) ∷ (place 3 1 2 true) ∷ [])) ((1 ∷ 0 ∷ 8 ∷ 0 ∷ 6 ∷ 0 ∷ 6 ∷ 0 ∷ 7 ∷ 0 ∷ 2 ∷ 2 ∷ 0 ∷ 5 ∷ 225 ∷ 129 ∷ 0 ∷ 42 ∷ 219 ∷ []) ++ replicate 41 5) }
     ∷
     -- split k - 2, the second part is smaller: accepted
-    record { limits = record { places = 1024; loops = 100 }; vertices = 6; list = ((0 ∷ 2 ∷ 1 ∷ 0 ∷ 3 ∷ 2 ∷ 1 ∷ 5 ∷ 4 ∷ 1 ∷ 2 ∷ 5 ∷ 4 ∷ 3 ∷ 0 ∷ 4 ∷ 5 ∷ 3 ∷ [])); lent = packLent (replicate 8 7) (replicate 1026 (place 3 1 2 true)) (replicate 60 5); answer = packed 20; left = packLent ((0 ∷ 2 ∷ 1 ∷ 3 ∷ 5 ∷ 4 ∷ 7 ∷ 7 ∷ [])) (replicate 1024 (place 0 0 0 false) ++ ((place 3 1 2 true) ∷ (place 3 1 2 true) ∷ [])) ((1 ∷ 0 ∷ 8 ∷ 0 ∷ 6 ∷ 0 ∷ 6 ∷ 0 ∷ 6 ∷ 0 ∷ 2 ∷ 2 ∷ 0 ∷ 6 ∷ 225 ∷ 128 ∷ 220 ∷ 0 ∷ 218 ∷ 108 ∷ []) ++ replicate 40 5) }
+    record { limits = most; vertices = 6; list = ((0 ∷ 2 ∷ 1 ∷ 0 ∷ 3 ∷ 2 ∷ 1 ∷ 5 ∷ 4 ∷ 1 ∷ 2 ∷ 5 ∷ 4 ∷ 3 ∷ 0 ∷ 4 ∷ 5 ∷ 3 ∷ [])); lent = packLent (replicate 8 7) (replicate 1026 (place 3 1 2 true)) (replicate 60 5); answer = packed 20; left = packLent ((0 ∷ 2 ∷ 1 ∷ 3 ∷ 5 ∷ 4 ∷ 7 ∷ 7 ∷ [])) (replicate 1024 (place 0 0 0 false) ++ ((place 3 1 2 true) ∷ (place 3 1 2 true) ∷ [])) ((1 ∷ 0 ∷ 8 ∷ 0 ∷ 6 ∷ 0 ∷ 6 ∷ 0 ∷ 6 ∷ 0 ∷ 2 ∷ 2 ∷ 0 ∷ 6 ∷ 225 ∷ 128 ∷ 220 ∷ 0 ∷ 218 ∷ 108 ∷ []) ++ replicate 40 5) }
     ∷
     -- smallest union found: accepted
-    record { limits = record { places = 1024; loops = 100 }; vertices = 6; list = ((5 ∷ 2 ∷ 1 ∷ 5 ∷ 4 ∷ 2 ∷ 4 ∷ 1 ∷ 3 ∷ 5 ∷ 3 ∷ 0 ∷ 4 ∷ 5 ∷ 0 ∷ 2 ∷ 4 ∷ 3 ∷ 0 ∷ 3 ∷ 1 ∷ 0 ∷ 1 ∷ 2 ∷ [])); lent = packLent (replicate 8 7) (replicate 1026 (place 3 1 2 true)) (replicate 60 5); answer = packed 23; left = packLent ((5 ∷ 2 ∷ 1 ∷ 4 ∷ 3 ∷ 0 ∷ 7 ∷ 7 ∷ [])) (replicate 1024 (place 0 0 0 false) ++ ((place 3 1 2 true) ∷ (place 3 1 2 true) ∷ [])) ((1 ∷ 0 ∷ 8 ∷ 0 ∷ 6 ∷ 0 ∷ 8 ∷ 0 ∷ 8 ∷ 0 ∷ 2 ∷ 2 ∷ 0 ∷ 9 ∷ 224 ∷ 49 ∷ 0 ∷ 60 ∷ 4 ∷ 2 ∷ 108 ∷ 178 ∷ 216 ∷ []) ++ replicate 37 5) }
+    record { limits = most; vertices = 6; list = ((5 ∷ 2 ∷ 1 ∷ 5 ∷ 4 ∷ 2 ∷ 4 ∷ 1 ∷ 3 ∷ 5 ∷ 3 ∷ 0 ∷ 4 ∷ 5 ∷ 0 ∷ 2 ∷ 4 ∷ 3 ∷ 0 ∷ 3 ∷ 1 ∷ 0 ∷ 1 ∷ 2 ∷ [])); lent = packLent (replicate 8 7) (replicate 1026 (place 3 1 2 true)) (replicate 60 5); answer = packed 23; left = packLent ((5 ∷ 2 ∷ 1 ∷ 4 ∷ 3 ∷ 0 ∷ 7 ∷ 7 ∷ [])) (replicate 1024 (place 0 0 0 false) ++ ((place 3 1 2 true) ∷ (place 3 1 2 true) ∷ [])) ((1 ∷ 0 ∷ 8 ∷ 0 ∷ 6 ∷ 0 ∷ 8 ∷ 0 ∷ 8 ∷ 0 ∷ 2 ∷ 2 ∷ 0 ∷ 9 ∷ 224 ∷ 49 ∷ 0 ∷ 60 ∷ 4 ∷ 2 ∷ 108 ∷ 178 ∷ 216 ∷ []) ++ replicate 37 5) }
     ∷
     -- union with j = 0, and two pieces more: accepted
-    record { limits = record { places = 1024; loops = 100 }; vertices = 11; list = ((0 ∷ 1 ∷ 2 ∷ 2 ∷ 3 ∷ 0 ∷ 4 ∷ 5 ∷ 6 ∷ 7 ∷ 8 ∷ 9 ∷ 0 ∷ 6 ∷ 5 ∷ 0 ∷ 3 ∷ 6 ∷ 1 ∷ 10 ∷ 2 ∷ 10 ∷ 6 ∷ 3 ∷ 5 ∷ 2 ∷ 10 ∷ 6 ∷ 10 ∷ 1 ∷ 2 ∷ 5 ∷ 4 ∷ 3 ∷ 5 ∷ 10 ∷ [])); lent = packLent (replicate 13 7) (replicate 1026 (place 3 1 2 true)) (replicate 60 5); answer = packed 26; left = packLent ((0 ∷ 1 ∷ 2 ∷ 6 ∷ 5 ∷ 4 ∷ 7 ∷ 8 ∷ 9 ∷ 10 ∷ 3 ∷ 7 ∷ 7 ∷ [])) (replicate 1024 (place 0 0 0 false) ++ ((place 3 1 2 true) ∷ (place 3 1 2 true) ∷ [])) ((1 ∷ 0 ∷ 8 ∷ 0 ∷ 11 ∷ 0 ∷ 12 ∷ 0 ∷ 9 ∷ 0 ∷ 2 ∷ 2 ∷ 0 ∷ 12 ∷ 236 ∷ 0 ∷ 192 ∷ 128 ∷ 27 ∷ 192 ∷ 64 ∷ 4 ∷ 91 ∷ 45 ∷ 246 ∷ 216 ∷ []) ++ replicate 34 5) }
+    record { limits = most; vertices = 11; list = ((0 ∷ 1 ∷ 2 ∷ 2 ∷ 3 ∷ 0 ∷ 4 ∷ 5 ∷ 6 ∷ 7 ∷ 8 ∷ 9 ∷ 0 ∷ 6 ∷ 5 ∷ 0 ∷ 3 ∷ 6 ∷ 1 ∷ 10 ∷ 2 ∷ 10 ∷ 6 ∷ 3 ∷ 5 ∷ 2 ∷ 10 ∷ 6 ∷ 10 ∷ 1 ∷ 2 ∷ 5 ∷ 4 ∷ 3 ∷ 5 ∷ 10 ∷ [])); lent = packLent (replicate 13 7) (replicate 1026 (place 3 1 2 true)) (replicate 60 5); answer = packed 26; left = packLent ((0 ∷ 1 ∷ 2 ∷ 6 ∷ 5 ∷ 4 ∷ 7 ∷ 8 ∷ 9 ∷ 10 ∷ 3 ∷ 7 ∷ 7 ∷ [])) (replicate 1024 (place 0 0 0 false) ++ ((place 3 1 2 true) ∷ (place 3 1 2 true) ∷ [])) ((1 ∷ 0 ∷ 8 ∷ 0 ∷ 11 ∷ 0 ∷ 12 ∷ 0 ∷ 9 ∷ 0 ∷ 2 ∷ 2 ∷ 0 ∷ 12 ∷ 236 ∷ 0 ∷ 192 ∷ 128 ∷ 27 ∷ 192 ∷ 64 ∷ 4 ∷ 91 ∷ 45 ∷ 246 ∷ 216 ∷ []) ++ replicate 34 5) }
     ∷
     -- the peak of places is reached by the union alone: accepted
-    record { limits = record { places = 1024; loops = 100 }; vertices = 8; list = ((2 ∷ 6 ∷ 7 ∷ 0 ∷ 4 ∷ 6 ∷ 7 ∷ 6 ∷ 3 ∷ 4 ∷ 1 ∷ 6 ∷ 3 ∷ 0 ∷ 7 ∷ 0 ∷ 5 ∷ 1 ∷ 6 ∷ 1 ∷ 3 ∷ 2 ∷ 5 ∷ 6 ∷ 6 ∷ 5 ∷ 0 ∷ 0 ∷ 1 ∷ 7 ∷ 1 ∷ 4 ∷ 7 ∷ [])); lent = packLent (replicate 10 7) (replicate 1026 (place 3 1 2 true)) (replicate 60 5); answer = packed 25; left = packLent ((4 ∷ 6 ∷ 0 ∷ 7 ∷ 5 ∷ 3 ∷ 1 ∷ 2 ∷ 7 ∷ 7 ∷ [])) (replicate 1024 (place 0 0 0 false) ++ ((place 3 1 2 true) ∷ (place 3 1 2 true) ∷ [])) ((1 ∷ 0 ∷ 8 ∷ 0 ∷ 8 ∷ 0 ∷ 11 ∷ 0 ∷ 9 ∷ 0 ∷ 2 ∷ 2 ∷ 0 ∷ 11 ∷ 224 ∷ 0 ∷ 12 ∷ 0 ∷ 240 ∷ 16 ∷ 13 ∷ 54 ∷ 203 ∷ 109 ∷ 128 ∷ []) ++ replicate 35 5) }
+    record { limits = most; vertices = 8; list = ((2 ∷ 6 ∷ 7 ∷ 0 ∷ 4 ∷ 6 ∷ 7 ∷ 6 ∷ 3 ∷ 4 ∷ 1 ∷ 6 ∷ 3 ∷ 0 ∷ 7 ∷ 0 ∷ 5 ∷ 1 ∷ 6 ∷ 1 ∷ 3 ∷ 2 ∷ 5 ∷ 6 ∷ 6 ∷ 5 ∷ 0 ∷ 0 ∷ 1 ∷ 7 ∷ 1 ∷ 4 ∷ 7 ∷ [])); lent = packLent (replicate 10 7) (replicate 1026 (place 3 1 2 true)) (replicate 60 5); answer = packed 25; left = packLent ((4 ∷ 6 ∷ 0 ∷ 7 ∷ 5 ∷ 3 ∷ 1 ∷ 2 ∷ 7 ∷ 7 ∷ [])) (replicate 1024 (place 0 0 0 false) ++ ((place 3 1 2 true) ∷ (place 3 1 2 true) ∷ [])) ((1 ∷ 0 ∷ 8 ∷ 0 ∷ 8 ∷ 0 ∷ 11 ∷ 0 ∷ 9 ∷ 0 ∷ 2 ∷ 2 ∷ 0 ∷ 11 ∷ 224 ∷ 0 ∷ 12 ∷ 0 ∷ 240 ∷ 16 ∷ 13 ∷ 54 ∷ 203 ∷ 109 ∷ 128 ∷ []) ++ replicate 35 5) }
     ∷
     -- union next to a marked edge: accepted
-    record { limits = record { places = 1024; loops = 100 }; vertices = 8; list = ((0 ∷ 1 ∷ 2 ∷ 3 ∷ 1 ∷ 0 ∷ 4 ∷ 0 ∷ 2 ∷ 4 ∷ 1 ∷ 5 ∷ 6 ∷ 5 ∷ 2 ∷ 2 ∷ 7 ∷ 6 ∷ 3 ∷ 0 ∷ 6 ∷ 0 ∷ 4 ∷ 6 ∷ 4 ∷ 5 ∷ 6 ∷ 7 ∷ 2 ∷ 1 ∷ 3 ∷ 5 ∷ 1 ∷ [])); lent = packLent (replicate 10 7) (replicate 1026 (place 3 1 2 true)) (replicate 60 5); answer = packed 26; left = packLent ((0 ∷ 1 ∷ 2 ∷ 3 ∷ 5 ∷ 4 ∷ 7 ∷ 6 ∷ 7 ∷ 7 ∷ [])) (replicate 1024 (place 0 0 0 false) ++ ((place 3 1 2 true) ∷ (place 3 1 2 true) ∷ [])) ((1 ∷ 0 ∷ 8 ∷ 0 ∷ 8 ∷ 0 ∷ 11 ∷ 0 ∷ 11 ∷ 0 ∷ 2 ∷ 2 ∷ 0 ∷ 12 ∷ 224 ∷ 6 ∷ 4 ∷ 0 ∷ 222 ∷ 2 ∷ 1 ∷ 64 ∷ 30 ∷ 150 ∷ 219 ∷ 96 ∷ []) ++ replicate 34 5) }
+    record { limits = most; vertices = 8; list = ((0 ∷ 1 ∷ 2 ∷ 3 ∷ 1 ∷ 0 ∷ 4 ∷ 0 ∷ 2 ∷ 4 ∷ 1 ∷ 5 ∷ 6 ∷ 5 ∷ 2 ∷ 2 ∷ 7 ∷ 6 ∷ 3 ∷ 0 ∷ 6 ∷ 0 ∷ 4 ∷ 6 ∷ 4 ∷ 5 ∷ 6 ∷ 7 ∷ 2 ∷ 1 ∷ 3 ∷ 5 ∷ 1 ∷ [])); lent = packLent (replicate 10 7) (replicate 1026 (place 3 1 2 true)) (replicate 60 5); answer = packed 26; left = packLent ((0 ∷ 1 ∷ 2 ∷ 3 ∷ 5 ∷ 4 ∷ 7 ∷ 6 ∷ 7 ∷ 7 ∷ [])) (replicate 1024 (place 0 0 0 false) ++ ((place 3 1 2 true) ∷ (place 3 1 2 true) ∷ [])) ((1 ∷ 0 ∷ 8 ∷ 0 ∷ 8 ∷ 0 ∷ 11 ∷ 0 ∷ 11 ∷ 0 ∷ 2 ∷ 2 ∷ 0 ∷ 12 ∷ 224 ∷ 6 ∷ 4 ∷ 0 ∷ 222 ∷ 2 ∷ 1 ∷ 64 ∷ 30 ∷ 150 ∷ 219 ∷ 96 ∷ []) ++ replicate 34 5) }
     ∷
     -- union 2 of two waiting loops; 1 counted from the oldest: accepted
-    record { limits = record { places = 1024; loops = 100 }; vertices = 11; list = ((0 ∷ 1 ∷ 2 ∷ 1 ∷ 0 ∷ 3 ∷ 1 ∷ 3 ∷ 4 ∷ 1 ∷ 4 ∷ 5 ∷ 1 ∷ 5 ∷ 6 ∷ 1 ∷ 6 ∷ 7 ∷ 1 ∷ 7 ∷ 2 ∷ 2 ∷ 7 ∷ 4 ∷ 2 ∷ 4 ∷ 8 ∷ 2 ∷ 8 ∷ 3 ∷ 2 ∷ 3 ∷ 9 ∷ 2 ∷ 9 ∷ 6 ∷ 2 ∷ 6 ∷ 10 ∷ 3 ∷ 8 ∷ 4 ∷ 6 ∷ 5 ∷ 10 ∷ [])); lent = packLent (replicate 13 7) (replicate 1026 (place 3 1 2 true)) (replicate 60 5); answer = packed 28; left = packLent ((0 ∷ 1 ∷ 2 ∷ 3 ∷ 4 ∷ 5 ∷ 6 ∷ 7 ∷ 8 ∷ 9 ∷ 10 ∷ 7 ∷ 7 ∷ [])) (replicate 1024 (place 0 0 0 false) ++ ((place 3 1 2 true) ∷ (place 3 1 2 true) ∷ [])) ((1 ∷ 0 ∷ 8 ∷ 0 ∷ 11 ∷ 0 ∷ 15 ∷ 0 ∷ 13 ∷ 0 ∷ 3 ∷ 2 ∷ 0 ∷ 14 ∷ 224 ∷ 0 ∷ 12 ∷ 0 ∷ 196 ∷ 0 ∷ 134 ∷ 4 ∷ 1 ∷ 134 ∷ 219 ∷ 109 ∷ 178 ∷ 232 ∷ []) ++ replicate 32 5) }
+    record { limits = most; vertices = 11; list = ((0 ∷ 1 ∷ 2 ∷ 1 ∷ 0 ∷ 3 ∷ 1 ∷ 3 ∷ 4 ∷ 1 ∷ 4 ∷ 5 ∷ 1 ∷ 5 ∷ 6 ∷ 1 ∷ 6 ∷ 7 ∷ 1 ∷ 7 ∷ 2 ∷ 2 ∷ 7 ∷ 4 ∷ 2 ∷ 4 ∷ 8 ∷ 2 ∷ 8 ∷ 3 ∷ 2 ∷ 3 ∷ 9 ∷ 2 ∷ 9 ∷ 6 ∷ 2 ∷ 6 ∷ 10 ∷ 3 ∷ 8 ∷ 4 ∷ 6 ∷ 5 ∷ 10 ∷ [])); lent = packLent (replicate 13 7) (replicate 1026 (place 3 1 2 true)) (replicate 60 5); answer = packed 28; left = packLent ((0 ∷ 1 ∷ 2 ∷ 3 ∷ 4 ∷ 5 ∷ 6 ∷ 7 ∷ 8 ∷ 9 ∷ 10 ∷ 7 ∷ 7 ∷ [])) (replicate 1024 (place 0 0 0 false) ++ ((place 3 1 2 true) ∷ (place 3 1 2 true) ∷ [])) ((1 ∷ 0 ∷ 8 ∷ 0 ∷ 11 ∷ 0 ∷ 15 ∷ 0 ∷ 13 ∷ 0 ∷ 3 ∷ 2 ∷ 0 ∷ 14 ∷ 224 ∷ 0 ∷ 12 ∷ 0 ∷ 196 ∷ 0 ∷ 134 ∷ 4 ∷ 1 ∷ 134 ∷ 219 ∷ 109 ∷ 178 ∷ 232 ∷ []) ++ replicate 32 5) }
     ∷
     -- split to c that has a place in a waiting loop too: accepted
-    record { limits = record { places = 1024; loops = 100 }; vertices = 10; list = ((0 ∷ 1 ∷ 2 ∷ 3 ∷ 1 ∷ 4 ∷ 3 ∷ 0 ∷ 5 ∷ 6 ∷ 7 ∷ 0 ∷ 0 ∷ 8 ∷ 5 ∷ 0 ∷ 2 ∷ 8 ∷ 5 ∷ 8 ∷ 2 ∷ 6 ∷ 9 ∷ 3 ∷ 0 ∷ 7 ∷ 1 ∷ 1 ∷ 7 ∷ 4 ∷ 9 ∷ 0 ∷ 3 ∷ 9 ∷ 6 ∷ 0 ∷ 3 ∷ 4 ∷ 7 ∷ 3 ∷ 7 ∷ 6 ∷ [])); lent = packLent (replicate 12 7) (replicate 1026 (place 3 1 2 true)) (replicate 60 5); answer = packed 24; left = packLent ((0 ∷ 1 ∷ 2 ∷ 5 ∷ 4 ∷ 7 ∷ 9 ∷ 3 ∷ 6 ∷ 8 ∷ 7 ∷ 7 ∷ [])) (replicate 1024 (place 0 0 0 false) ++ ((place 3 1 2 true) ∷ (place 3 1 2 true) ∷ [])) ((1 ∷ 0 ∷ 8 ∷ 0 ∷ 10 ∷ 0 ∷ 14 ∷ 0 ∷ 10 ∷ 0 ∷ 3 ∷ 2 ∷ 0 ∷ 10 ∷ 224 ∷ 6 ∷ 192 ∷ 128 ∷ 24 ∷ 6 ∷ 0 ∷ 86 ∷ 178 ∷ 192 ∷ []) ++ replicate 36 5) }
+    record { limits = most; vertices = 10; list = ((0 ∷ 1 ∷ 2 ∷ 3 ∷ 1 ∷ 4 ∷ 3 ∷ 0 ∷ 5 ∷ 6 ∷ 7 ∷ 0 ∷ 0 ∷ 8 ∷ 5 ∷ 0 ∷ 2 ∷ 8 ∷ 5 ∷ 8 ∷ 2 ∷ 6 ∷ 9 ∷ 3 ∷ 0 ∷ 7 ∷ 1 ∷ 1 ∷ 7 ∷ 4 ∷ 9 ∷ 0 ∷ 3 ∷ 9 ∷ 6 ∷ 0 ∷ 3 ∷ 4 ∷ 7 ∷ 3 ∷ 7 ∷ 6 ∷ [])); lent = packLent (replicate 12 7) (replicate 1026 (place 3 1 2 true)) (replicate 60 5); answer = packed 24; left = packLent ((0 ∷ 1 ∷ 2 ∷ 5 ∷ 4 ∷ 7 ∷ 9 ∷ 3 ∷ 6 ∷ 8 ∷ 7 ∷ 7 ∷ [])) (replicate 1024 (place 0 0 0 false) ++ ((place 3 1 2 true) ∷ (place 3 1 2 true) ∷ [])) ((1 ∷ 0 ∷ 8 ∷ 0 ∷ 10 ∷ 0 ∷ 14 ∷ 0 ∷ 10 ∷ 0 ∷ 3 ∷ 2 ∷ 0 ∷ 10 ∷ 224 ∷ 6 ∷ 192 ∷ 128 ∷ 24 ∷ 6 ∷ 0 ∷ 86 ∷ 178 ∷ 192 ∷ []) ++ replicate 36 5) }
     ∷
     -- union from a loop of two places: accepted
-    record { limits = record { places = 1024; loops = 100 }; vertices = 10; list = ((0 ∷ 1 ∷ 2 ∷ 3 ∷ 4 ∷ 5 ∷ 1 ∷ 6 ∷ 7 ∷ 1 ∷ 7 ∷ 4 ∷ 1 ∷ 4 ∷ 2 ∷ 2 ∷ 4 ∷ 6 ∷ 2 ∷ 6 ∷ 8 ∷ 2 ∷ 8 ∷ 7 ∷ 7 ∷ 8 ∷ 9 ∷ 7 ∷ 9 ∷ 4 ∷ 6 ∷ 4 ∷ 3 ∷ 6 ∷ 3 ∷ 5 ∷ 6 ∷ 5 ∷ 7 ∷ [])); lent = packLent (replicate 12 7) (replicate 1026 (place 3 1 2 true)) (replicate 60 5); answer = packed 26; left = packLent ((0 ∷ 1 ∷ 2 ∷ 9 ∷ 3 ∷ 7 ∷ 4 ∷ 6 ∷ 5 ∷ 8 ∷ 7 ∷ 7 ∷ [])) (replicate 1024 (place 0 0 0 false) ++ ((place 3 1 2 true) ∷ (place 3 1 2 true) ∷ [])) ((1 ∷ 0 ∷ 8 ∷ 0 ∷ 10 ∷ 0 ∷ 13 ∷ 0 ∷ 8 ∷ 0 ∷ 2 ∷ 2 ∷ 0 ∷ 12 ∷ 236 ∷ 0 ∷ 27 ∷ 128 ∷ 30 ∷ 2 ∷ 1 ∷ 6 ∷ 216 ∷ 44 ∷ 20 ∷ 216 ∷ []) ++ replicate 34 5) }
+    record { limits = most; vertices = 10; list = ((0 ∷ 1 ∷ 2 ∷ 3 ∷ 4 ∷ 5 ∷ 1 ∷ 6 ∷ 7 ∷ 1 ∷ 7 ∷ 4 ∷ 1 ∷ 4 ∷ 2 ∷ 2 ∷ 4 ∷ 6 ∷ 2 ∷ 6 ∷ 8 ∷ 2 ∷ 8 ∷ 7 ∷ 7 ∷ 8 ∷ 9 ∷ 7 ∷ 9 ∷ 4 ∷ 6 ∷ 4 ∷ 3 ∷ 6 ∷ 3 ∷ 5 ∷ 6 ∷ 5 ∷ 7 ∷ [])); lent = packLent (replicate 12 7) (replicate 1026 (place 3 1 2 true)) (replicate 60 5); answer = packed 26; left = packLent ((0 ∷ 1 ∷ 2 ∷ 9 ∷ 3 ∷ 7 ∷ 4 ∷ 6 ∷ 5 ∷ 8 ∷ 7 ∷ 7 ∷ [])) (replicate 1024 (place 0 0 0 false) ++ ((place 3 1 2 true) ∷ (place 3 1 2 true) ∷ [])) ((1 ∷ 0 ∷ 8 ∷ 0 ∷ 10 ∷ 0 ∷ 13 ∷ 0 ∷ 8 ∷ 0 ∷ 2 ∷ 2 ∷ 0 ∷ 12 ∷ 236 ∷ 0 ∷ 27 ∷ 128 ∷ 30 ∷ 2 ∷ 1 ∷ 6 ∷ 216 ∷ 44 ∷ 20 ∷ 216 ∷ []) ++ replicate 34 5) }
     ∷
     -- union from a loop of two places, then a split past links: accepted
-    record { limits = record { places = 1024; loops = 100 }; vertices = 12; list = ((0 ∷ 1 ∷ 2 ∷ 1 ∷ 3 ∷ 2 ∷ 4 ∷ 5 ∷ 6 ∷ 7 ∷ 2 ∷ 8 ∷ 7 ∷ 0 ∷ 2 ∷ 3 ∷ 0 ∷ 7 ∷ 3 ∷ 9 ∷ 0 ∷ 1 ∷ 0 ∷ 9 ∷ 10 ∷ 1 ∷ 9 ∷ 3 ∷ 1 ∷ 10 ∷ 3 ∷ 10 ∷ 11 ∷ 11 ∷ 9 ∷ 3 ∷ 8 ∷ 9 ∷ 11 ∷ 8 ∷ 11 ∷ 7 ∷ [])); lent = packLent (replicate 14 7) (replicate 1026 (place 3 1 2 true)) (replicate 60 5); answer = packed 28; left = packLent ((0 ∷ 1 ∷ 2 ∷ 5 ∷ 9 ∷ 10 ∷ 11 ∷ 6 ∷ 7 ∷ 3 ∷ 4 ∷ 8 ∷ 7 ∷ 7 ∷ [])) (replicate 1024 (place 0 0 0 false) ++ ((place 3 1 2 true) ∷ (place 3 1 2 true) ∷ [])) ((1 ∷ 0 ∷ 8 ∷ 0 ∷ 12 ∷ 0 ∷ 14 ∷ 0 ∷ 8 ∷ 0 ∷ 2 ∷ 2 ∷ 0 ∷ 14 ∷ 224 ∷ 2 ∷ 196 ∷ 0 ∷ 216 ∷ 13 ∷ 224 ∷ 32 ∷ 20 ∷ 1 ∷ 42 ∷ 109 ∷ 246 ∷ 216 ∷ []) ++ replicate 32 5) }
+    record { limits = most; vertices = 12; list = ((0 ∷ 1 ∷ 2 ∷ 1 ∷ 3 ∷ 2 ∷ 4 ∷ 5 ∷ 6 ∷ 7 ∷ 2 ∷ 8 ∷ 7 ∷ 0 ∷ 2 ∷ 3 ∷ 0 ∷ 7 ∷ 3 ∷ 9 ∷ 0 ∷ 1 ∷ 0 ∷ 9 ∷ 10 ∷ 1 ∷ 9 ∷ 3 ∷ 1 ∷ 10 ∷ 3 ∷ 10 ∷ 11 ∷ 11 ∷ 9 ∷ 3 ∷ 8 ∷ 9 ∷ 11 ∷ 8 ∷ 11 ∷ 7 ∷ [])); lent = packLent (replicate 14 7) (replicate 1026 (place 3 1 2 true)) (replicate 60 5); answer = packed 28; left = packLent ((0 ∷ 1 ∷ 2 ∷ 5 ∷ 9 ∷ 10 ∷ 11 ∷ 6 ∷ 7 ∷ 3 ∷ 4 ∷ 8 ∷ 7 ∷ 7 ∷ [])) (replicate 1024 (place 0 0 0 false) ++ ((place 3 1 2 true) ∷ (place 3 1 2 true) ∷ [])) ((1 ∷ 0 ∷ 8 ∷ 0 ∷ 12 ∷ 0 ∷ 14 ∷ 0 ∷ 8 ∷ 0 ∷ 2 ∷ 2 ∷ 0 ∷ 14 ∷ 224 ∷ 2 ∷ 196 ∷ 0 ∷ 216 ∷ 13 ∷ 224 ∷ 32 ∷ 20 ∷ 1 ∷ 42 ∷ 109 ∷ 246 ∷ 216 ∷ []) ++ replicate 32 5) }
     ∷
     -- union to c that has two places in the waiting loop: accepted
-    record { limits = record { places = 1024; loops = 100 }; vertices = 15; list = ((0 ∷ 1 ∷ 2 ∷ 1 ∷ 0 ∷ 3 ∷ 4 ∷ 5 ∷ 6 ∷ 7 ∷ 1 ∷ 3 ∷ 6 ∷ 8 ∷ 7 ∷ 4 ∷ 9 ∷ 5 ∷ 10 ∷ 3 ∷ 8 ∷ 5 ∷ 7 ∷ 8 ∷ 11 ∷ 5 ∷ 8 ∷ 12 ∷ 8 ∷ 1 ∷ 10 ∷ 8 ∷ 2 ∷ 1 ∷ 7 ∷ 12 ∷ 8 ∷ 6 ∷ 1 ∷ 13 ∷ 12 ∷ 4 ∷ 11 ∷ 8 ∷ 0 ∷ 12 ∷ 7 ∷ 5 ∷ 1 ∷ 6 ∷ 5 ∷ 12 ∷ 9 ∷ 4 ∷ 5 ∷ 9 ∷ 12 ∷ 0 ∷ 8 ∷ 3 ∷ 14 ∷ 10 ∷ 2 ∷ 1 ∷ 14 ∷ 2 ∷ [])); lent = packLent (replicate 17 7) (replicate 1026 (place 3 1 2 true)) (replicate 60 5); answer = packed 35; left = packLent ((0 ∷ 1 ∷ 2 ∷ 3 ∷ 12 ∷ 8 ∷ 7 ∷ 4 ∷ 6 ∷ 13 ∷ 10 ∷ 11 ∷ 5 ∷ 14 ∷ 9 ∷ 7 ∷ 7 ∷ [])) (replicate 1024 (place 0 0 0 false) ++ ((place 3 1 2 true) ∷ (place 3 1 2 true) ∷ [])) ((1 ∷ 0 ∷ 8 ∷ 0 ∷ 15 ∷ 0 ∷ 22 ∷ 0 ∷ 13 ∷ 0 ∷ 2 ∷ 2 ∷ 0 ∷ 21 ∷ 224 ∷ 0 ∷ 3 ∷ 2 ∷ 0 ∷ 173 ∷ 224 ∷ 32 ∷ 10 ∷ 110 ∷ 0 ∷ 184 ∷ 8 ∷ 8 ∷ 27 ∷ 101 ∷ 128 ∷ 80 ∷ 108 ∷ 182 ∷ 192 ∷ []) ++ replicate 25 5) }
+    record { limits = most; vertices = 15; list = ((0 ∷ 1 ∷ 2 ∷ 1 ∷ 0 ∷ 3 ∷ 4 ∷ 5 ∷ 6 ∷ 7 ∷ 1 ∷ 3 ∷ 6 ∷ 8 ∷ 7 ∷ 4 ∷ 9 ∷ 5 ∷ 10 ∷ 3 ∷ 8 ∷ 5 ∷ 7 ∷ 8 ∷ 11 ∷ 5 ∷ 8 ∷ 12 ∷ 8 ∷ 1 ∷ 10 ∷ 8 ∷ 2 ∷ 1 ∷ 7 ∷ 12 ∷ 8 ∷ 6 ∷ 1 ∷ 13 ∷ 12 ∷ 4 ∷ 11 ∷ 8 ∷ 0 ∷ 12 ∷ 7 ∷ 5 ∷ 1 ∷ 6 ∷ 5 ∷ 12 ∷ 9 ∷ 4 ∷ 5 ∷ 9 ∷ 12 ∷ 0 ∷ 8 ∷ 3 ∷ 14 ∷ 10 ∷ 2 ∷ 1 ∷ 14 ∷ 2 ∷ [])); lent = packLent (replicate 17 7) (replicate 1026 (place 3 1 2 true)) (replicate 60 5); answer = packed 35; left = packLent ((0 ∷ 1 ∷ 2 ∷ 3 ∷ 12 ∷ 8 ∷ 7 ∷ 4 ∷ 6 ∷ 13 ∷ 10 ∷ 11 ∷ 5 ∷ 14 ∷ 9 ∷ 7 ∷ 7 ∷ [])) (replicate 1024 (place 0 0 0 false) ++ ((place 3 1 2 true) ∷ (place 3 1 2 true) ∷ [])) ((1 ∷ 0 ∷ 8 ∷ 0 ∷ 15 ∷ 0 ∷ 22 ∷ 0 ∷ 13 ∷ 0 ∷ 2 ∷ 2 ∷ 0 ∷ 21 ∷ 224 ∷ 0 ∷ 3 ∷ 2 ∷ 0 ∷ 173 ∷ 224 ∷ 32 ∷ 10 ∷ 110 ∷ 0 ∷ 184 ∷ 8 ∷ 8 ∷ 27 ∷ 101 ∷ 128 ∷ 80 ∷ 108 ∷ 182 ∷ 192 ∷ []) ++ replicate 25 5) }
     ∷
     -- torus of seven vertices: accepted
-    record { limits = record { places = 1024; loops = 100 }; vertices = 7; list = ((0 ∷ 1 ∷ 3 ∷ 1 ∷ 2 ∷ 4 ∷ 2 ∷ 3 ∷ 5 ∷ 3 ∷ 4 ∷ 6 ∷ 4 ∷ 5 ∷ 0 ∷ 5 ∷ 6 ∷ 1 ∷ 6 ∷ 0 ∷ 2 ∷ 1 ∷ 0 ∷ 5 ∷ 2 ∷ 1 ∷ 6 ∷ 3 ∷ 2 ∷ 0 ∷ 4 ∷ 3 ∷ 1 ∷ 5 ∷ 4 ∷ 2 ∷ 6 ∷ 5 ∷ 3 ∷ 0 ∷ 6 ∷ 4 ∷ [])); lent = packLent (replicate 9 7) (replicate 1026 (place 3 1 2 true)) (replicate 60 5); answer = packed 24; left = packLent ((0 ∷ 1 ∷ 5 ∷ 2 ∷ 6 ∷ 3 ∷ 4 ∷ 7 ∷ 7 ∷ [])) (replicate 1024 (place 0 0 0 false) ++ ((place 3 1 2 true) ∷ (place 3 1 2 true) ∷ [])) ((1 ∷ 0 ∷ 8 ∷ 0 ∷ 7 ∷ 0 ∷ 14 ∷ 0 ∷ 8 ∷ 0 ∷ 2 ∷ 2 ∷ 0 ∷ 10 ∷ 224 ∷ 0 ∷ 96 ∷ 7 ∷ 128 ∷ 128 ∷ 69 ∷ 64 ∷ 14 ∷ 154 ∷ []) ++ replicate 36 5) }
+    record { limits = most; vertices = 7; list = ((0 ∷ 1 ∷ 3 ∷ 1 ∷ 2 ∷ 4 ∷ 2 ∷ 3 ∷ 5 ∷ 3 ∷ 4 ∷ 6 ∷ 4 ∷ 5 ∷ 0 ∷ 5 ∷ 6 ∷ 1 ∷ 6 ∷ 0 ∷ 2 ∷ 1 ∷ 0 ∷ 5 ∷ 2 ∷ 1 ∷ 6 ∷ 3 ∷ 2 ∷ 0 ∷ 4 ∷ 3 ∷ 1 ∷ 5 ∷ 4 ∷ 2 ∷ 6 ∷ 5 ∷ 3 ∷ 0 ∷ 6 ∷ 4 ∷ [])); lent = packLent (replicate 9 7) (replicate 1026 (place 3 1 2 true)) (replicate 60 5); answer = packed 24; left = packLent ((0 ∷ 1 ∷ 5 ∷ 2 ∷ 6 ∷ 3 ∷ 4 ∷ 7 ∷ 7 ∷ [])) (replicate 1024 (place 0 0 0 false) ++ ((place 3 1 2 true) ∷ (place 3 1 2 true) ∷ [])) ((1 ∷ 0 ∷ 8 ∷ 0 ∷ 7 ∷ 0 ∷ 14 ∷ 0 ∷ 8 ∷ 0 ∷ 2 ∷ 2 ∷ 0 ∷ 10 ∷ 224 ∷ 0 ∷ 96 ∷ 7 ∷ 128 ∷ 128 ∷ 69 ∷ 64 ∷ 14 ∷ 154 ∷ []) ++ replicate 36 5) }
     ∷
     -- a loop of two places, which new makes longer; f leaves; three places are the peak, in full loops four: accepted
-    record { limits = record { places = 1024; loops = 100 }; vertices = 4; list = ((0 ∷ 2 ∷ 1 ∷ 1 ∷ 3 ∷ 0 ∷ [])); lent = packLent ((7 ∷ 7 ∷ 7 ∷ 7 ∷ 7 ∷ 7 ∷ [])) (replicate 1026 (place 3 1 2 true)) (replicate 60 5); answer = packed 17; left = packLent ((0 ∷ 2 ∷ 1 ∷ 3 ∷ 7 ∷ 7 ∷ [])) (replicate 1024 (place 0 0 0 false) ++ ((place 3 1 2 true) ∷ (place 3 1 2 true) ∷ [])) ((1 ∷ 0 ∷ 8 ∷ 0 ∷ 4 ∷ 0 ∷ 2 ∷ 0 ∷ 3 ∷ 0 ∷ 1 ∷ 2 ∷ 0 ∷ 3 ∷ 237 ∷ 134 ∷ 192 ∷ []) ++ replicate 43 5) }
+    record { limits = most; vertices = 4; list = ((0 ∷ 2 ∷ 1 ∷ 1 ∷ 3 ∷ 0 ∷ [])); lent = packLent ((7 ∷ 7 ∷ 7 ∷ 7 ∷ 7 ∷ 7 ∷ [])) (replicate 1026 (place 3 1 2 true)) (replicate 60 5); answer = packed 17; left = packLent ((0 ∷ 2 ∷ 1 ∷ 3 ∷ 7 ∷ 7 ∷ [])) (replicate 1024 (place 0 0 0 false) ++ ((place 3 1 2 true) ∷ (place 3 1 2 true) ∷ [])) ((1 ∷ 0 ∷ 8 ∷ 0 ∷ 4 ∷ 0 ∷ 2 ∷ 0 ∷ 3 ∷ 0 ∷ 1 ∷ 2 ∷ 0 ∷ 3 ∷ 237 ∷ 134 ∷ 192 ∷ []) ++ replicate 43 5) }
     ∷
     -- both places of an edge leave: accepted
-    record { limits = record { places = 1024; loops = 100 }; vertices = 4; list = ((0 ∷ 1 ∷ 2 ∷ 2 ∷ 1 ∷ 3 ∷ [])); lent = packLent ((7 ∷ 7 ∷ 7 ∷ 7 ∷ 7 ∷ 7 ∷ [])) (replicate 1026 (place 3 1 2 true)) (replicate 60 5); answer = packed 17; left = packLent ((0 ∷ 1 ∷ 2 ∷ 3 ∷ 7 ∷ 7 ∷ [])) (replicate 1024 (place 0 0 0 false) ++ ((place 3 1 2 true) ∷ (place 3 1 2 true) ∷ [])) ((1 ∷ 0 ∷ 8 ∷ 0 ∷ 4 ∷ 0 ∷ 2 ∷ 0 ∷ 4 ∷ 0 ∷ 1 ∷ 2 ∷ 0 ∷ 3 ∷ 236 ∷ 54 ∷ 192 ∷ []) ++ replicate 43 5) }
+    record { limits = most; vertices = 4; list = ((0 ∷ 1 ∷ 2 ∷ 2 ∷ 1 ∷ 3 ∷ [])); lent = packLent ((7 ∷ 7 ∷ 7 ∷ 7 ∷ 7 ∷ 7 ∷ [])) (replicate 1026 (place 3 1 2 true)) (replicate 60 5); answer = packed 17; left = packLent ((0 ∷ 1 ∷ 2 ∷ 3 ∷ 7 ∷ 7 ∷ [])) (replicate 1024 (place 0 0 0 false) ++ ((place 3 1 2 true) ∷ (place 3 1 2 true) ∷ [])) ((1 ∷ 0 ∷ 8 ∷ 0 ∷ 4 ∷ 0 ∷ 2 ∷ 0 ∷ 4 ∷ 0 ∷ 1 ∷ 2 ∷ 0 ∷ 3 ∷ 236 ∷ 54 ∷ 192 ∷ []) ++ replicate 43 5) }
     ∷
     -- split 1 across a link: accepted
-    record { limits = record { places = 1024; loops = 100 }; vertices = 6; list = ((2 ∷ 5 ∷ 3 ∷ 2 ∷ 3 ∷ 0 ∷ 2 ∷ 1 ∷ 5 ∷ 3 ∷ 1 ∷ 4 ∷ 4 ∷ 1 ∷ 2 ∷ 3 ∷ 4 ∷ 0 ∷ [])); lent = packLent (replicate 8 7) (replicate 1026 (place 3 1 2 true)) (replicate 60 5); answer = packed 20; left = packLent ((4 ∷ 3 ∷ 0 ∷ 2 ∷ 5 ∷ 1 ∷ 7 ∷ 7 ∷ [])) (replicate 1024 (place 0 0 0 false) ++ ((place 3 1 2 true) ∷ (place 3 1 2 true) ∷ [])) ((1 ∷ 0 ∷ 8 ∷ 0 ∷ 6 ∷ 0 ∷ 6 ∷ 0 ∷ 6 ∷ 0 ∷ 2 ∷ 2 ∷ 0 ∷ 6 ∷ 225 ∷ 176 ∷ 196 ∷ 0 ∷ 89 ∷ 108 ∷ []) ++ replicate 40 5) }
+    record { limits = most; vertices = 6; list = ((2 ∷ 5 ∷ 3 ∷ 2 ∷ 3 ∷ 0 ∷ 2 ∷ 1 ∷ 5 ∷ 3 ∷ 1 ∷ 4 ∷ 4 ∷ 1 ∷ 2 ∷ 3 ∷ 4 ∷ 0 ∷ [])); lent = packLent (replicate 8 7) (replicate 1026 (place 3 1 2 true)) (replicate 60 5); answer = packed 20; left = packLent ((4 ∷ 3 ∷ 0 ∷ 2 ∷ 5 ∷ 1 ∷ 7 ∷ 7 ∷ [])) (replicate 1024 (place 0 0 0 false) ++ ((place 3 1 2 true) ∷ (place 3 1 2 true) ∷ [])) ((1 ∷ 0 ∷ 8 ∷ 0 ∷ 6 ∷ 0 ∷ 6 ∷ 0 ∷ 6 ∷ 0 ∷ 2 ∷ 2 ∷ 0 ∷ 6 ∷ 225 ∷ 176 ∷ 196 ∷ 0 ∷ 89 ∷ 108 ∷ []) ++ replicate 40 5) }
     ∷
     -- split of equal halves, next to a marked edge: accepted
-    record { limits = record { places = 1024; loops = 100 }; vertices = 5; list = ((2 ∷ 0 ∷ 1 ∷ 1 ∷ 4 ∷ 2 ∷ 2 ∷ 4 ∷ 0 ∷ 3 ∷ 4 ∷ 1 ∷ 1 ∷ 0 ∷ 3 ∷ [])); lent = packLent ((7 ∷ 7 ∷ 7 ∷ 7 ∷ 7 ∷ 7 ∷ 7 ∷ [])) (replicate 1026 (place 3 1 2 true)) (replicate 60 5); answer = packed 19; left = packLent ((1 ∷ 2 ∷ 0 ∷ 4 ∷ 3 ∷ 7 ∷ 7 ∷ [])) (replicate 1024 (place 0 0 0 false) ++ ((place 3 1 2 true) ∷ (place 3 1 2 true) ∷ [])) ((1 ∷ 0 ∷ 8 ∷ 0 ∷ 5 ∷ 0 ∷ 5 ∷ 0 ∷ 6 ∷ 0 ∷ 2 ∷ 2 ∷ 0 ∷ 5 ∷ 225 ∷ 136 ∷ 1 ∷ 86 ∷ 192 ∷ []) ++ replicate 41 5) }
+    record { limits = most; vertices = 5; list = ((2 ∷ 0 ∷ 1 ∷ 1 ∷ 4 ∷ 2 ∷ 2 ∷ 4 ∷ 0 ∷ 3 ∷ 4 ∷ 1 ∷ 1 ∷ 0 ∷ 3 ∷ [])); lent = packLent ((7 ∷ 7 ∷ 7 ∷ 7 ∷ 7 ∷ 7 ∷ 7 ∷ [])) (replicate 1026 (place 3 1 2 true)) (replicate 60 5); answer = packed 19; left = packLent ((1 ∷ 2 ∷ 0 ∷ 4 ∷ 3 ∷ 7 ∷ 7 ∷ [])) (replicate 1024 (place 0 0 0 false) ++ ((place 3 1 2 true) ∷ (place 3 1 2 true) ∷ [])) ((1 ∷ 0 ∷ 8 ∷ 0 ∷ 5 ∷ 0 ∷ 5 ∷ 0 ∷ 6 ∷ 0 ∷ 2 ∷ 2 ∷ 0 ∷ 5 ∷ 225 ∷ 136 ∷ 1 ∷ 86 ∷ 192 ∷ []) ++ replicate 41 5) }
     ∷
     -- split 2 past a link; of halves equal in places the first goes on, in full loops the second would: accepted
-    record { limits = record { places = 1024; loops = 100 }; vertices = 6; list = ((2 ∷ 0 ∷ 1 ∷ 1 ∷ 3 ∷ 2 ∷ 3 ∷ 1 ∷ 4 ∷ 3 ∷ 4 ∷ 5 ∷ 4 ∷ 0 ∷ 2 ∷ 5 ∷ 4 ∷ 2 ∷ [])); lent = packLent (replicate 8 7) (replicate 1026 (place 3 1 2 true)) (replicate 60 5); answer = packed 20; left = packLent ((1 ∷ 2 ∷ 0 ∷ 4 ∷ 3 ∷ 5 ∷ 7 ∷ 7 ∷ [])) (replicate 1024 (place 0 0 0 false) ++ ((place 3 1 2 true) ∷ (place 3 1 2 true) ∷ [])) ((1 ∷ 0 ∷ 8 ∷ 0 ∷ 6 ∷ 0 ∷ 6 ∷ 0 ∷ 6 ∷ 0 ∷ 2 ∷ 2 ∷ 0 ∷ 6 ∷ 225 ∷ 176 ∷ 196 ∷ 0 ∷ 147 ∷ 108 ∷ []) ++ replicate 40 5) }
+    record { limits = most; vertices = 6; list = ((2 ∷ 0 ∷ 1 ∷ 1 ∷ 3 ∷ 2 ∷ 3 ∷ 1 ∷ 4 ∷ 3 ∷ 4 ∷ 5 ∷ 4 ∷ 0 ∷ 2 ∷ 5 ∷ 4 ∷ 2 ∷ [])); lent = packLent (replicate 8 7) (replicate 1026 (place 3 1 2 true)) (replicate 60 5); answer = packed 20; left = packLent ((1 ∷ 2 ∷ 0 ∷ 4 ∷ 3 ∷ 5 ∷ 7 ∷ 7 ∷ [])) (replicate 1024 (place 0 0 0 false) ++ ((place 3 1 2 true) ∷ (place 3 1 2 true) ∷ [])) ((1 ∷ 0 ∷ 8 ∷ 0 ∷ 6 ∷ 0 ∷ 6 ∷ 0 ∷ 6 ∷ 0 ∷ 2 ∷ 2 ∷ 0 ∷ 6 ∷ 225 ∷ 176 ∷ 196 ∷ 0 ∷ 147 ∷ 108 ∷ []) ++ replicate 40 5) }
     ∷
     -- split 1; the first part has fewer places, in full loops as many: accepted
-    record { limits = record { places = 1024; loops = 100 }; vertices = 6; list = ((2 ∷ 5 ∷ 0 ∷ 1 ∷ 2 ∷ 0 ∷ 0 ∷ 3 ∷ 1 ∷ 3 ∷ 2 ∷ 1 ∷ 2 ∷ 4 ∷ 5 ∷ 0 ∷ 4 ∷ 3 ∷ 3 ∷ 4 ∷ 2 ∷ [])); lent = packLent (replicate 8 7) (replicate 1026 (place 3 1 2 true)) (replicate 60 5); answer = packed 19; left = packLent ((2 ∷ 4 ∷ 0 ∷ 5 ∷ 3 ∷ 1 ∷ 7 ∷ 7 ∷ [])) (replicate 1024 (place 0 0 0 false) ++ ((place 3 1 2 true) ∷ (place 3 1 2 true) ∷ [])) ((1 ∷ 0 ∷ 8 ∷ 0 ∷ 6 ∷ 0 ∷ 7 ∷ 0 ∷ 5 ∷ 0 ∷ 2 ∷ 2 ∷ 0 ∷ 5 ∷ 225 ∷ 176 ∷ 12 ∷ 0 ∷ 93 ∷ []) ++ replicate 41 5) }
+    record { limits = most; vertices = 6; list = ((2 ∷ 5 ∷ 0 ∷ 1 ∷ 2 ∷ 0 ∷ 0 ∷ 3 ∷ 1 ∷ 3 ∷ 2 ∷ 1 ∷ 2 ∷ 4 ∷ 5 ∷ 0 ∷ 4 ∷ 3 ∷ 3 ∷ 4 ∷ 2 ∷ [])); lent = packLent (replicate 8 7) (replicate 1026 (place 3 1 2 true)) (replicate 60 5); answer = packed 19; left = packLent ((2 ∷ 4 ∷ 0 ∷ 5 ∷ 3 ∷ 1 ∷ 7 ∷ 7 ∷ [])) (replicate 1024 (place 0 0 0 false) ++ ((place 3 1 2 true) ∷ (place 3 1 2 true) ∷ [])) ((1 ∷ 0 ∷ 8 ∷ 0 ∷ 6 ∷ 0 ∷ 7 ∷ 0 ∷ 5 ∷ 0 ∷ 2 ∷ 2 ∷ 0 ∷ 5 ∷ 225 ∷ 176 ∷ 12 ∷ 0 ∷ 93 ∷ []) ++ replicate 41 5) }
     ∷
     -- split 1; the first part has fewer places, in full loops more: accepted
-    record { limits = record { places = 1024; loops = 100 }; vertices = 7; list = ((3 ∷ 5 ∷ 6 ∷ 0 ∷ 5 ∷ 3 ∷ 0 ∷ 2 ∷ 5 ∷ 2 ∷ 4 ∷ 3 ∷ 1 ∷ 4 ∷ 2 ∷ 1 ∷ 3 ∷ 4 ∷ 1 ∷ 0 ∷ 3 ∷ 0 ∷ 1 ∷ 2 ∷ [])); lent = packLent (replicate 9 7) (replicate 1026 (place 3 1 2 true)) (replicate 60 5); answer = packed 20; left = packLent ((3 ∷ 5 ∷ 4 ∷ 0 ∷ 6 ∷ 1 ∷ 2 ∷ 7 ∷ 7 ∷ [])) (replicate 1024 (place 0 0 0 false) ++ ((place 3 1 2 true) ∷ (place 3 1 2 true) ∷ [])) ((1 ∷ 0 ∷ 8 ∷ 0 ∷ 7 ∷ 0 ∷ 8 ∷ 0 ∷ 5 ∷ 0 ∷ 2 ∷ 2 ∷ 0 ∷ 6 ∷ 224 ∷ 54 ∷ 193 ∷ 16 ∷ 1 ∷ 116 ∷ []) ++ replicate 40 5) }
+    record { limits = most; vertices = 7; list = ((3 ∷ 5 ∷ 6 ∷ 0 ∷ 5 ∷ 3 ∷ 0 ∷ 2 ∷ 5 ∷ 2 ∷ 4 ∷ 3 ∷ 1 ∷ 4 ∷ 2 ∷ 1 ∷ 3 ∷ 4 ∷ 1 ∷ 0 ∷ 3 ∷ 0 ∷ 1 ∷ 2 ∷ [])); lent = packLent (replicate 9 7) (replicate 1026 (place 3 1 2 true)) (replicate 60 5); answer = packed 20; left = packLent ((3 ∷ 5 ∷ 4 ∷ 0 ∷ 6 ∷ 1 ∷ 2 ∷ 7 ∷ 7 ∷ [])) (replicate 1024 (place 0 0 0 false) ++ ((place 3 1 2 true) ∷ (place 3 1 2 true) ∷ [])) ((1 ∷ 0 ∷ 8 ∷ 0 ∷ 7 ∷ 0 ∷ 8 ∷ 0 ∷ 5 ∷ 0 ∷ 2 ∷ 2 ∷ 0 ∷ 6 ∷ 224 ∷ 54 ∷ 193 ∷ 16 ∷ 1 ∷ 116 ∷ []) ++ replicate 40 5) }
     ∷
     -- split 2 where the edge after f is marked: accepted
-    record { limits = record { places = 1024; loops = 100 }; vertices = 6; list = ((2 ∷ 1 ∷ 5 ∷ 0 ∷ 5 ∷ 4 ∷ 2 ∷ 3 ∷ 4 ∷ 2 ∷ 5 ∷ 3 ∷ 1 ∷ 4 ∷ 5 ∷ 0 ∷ 4 ∷ 3 ∷ [])); lent = packLent (replicate 8 7) (replicate 1026 (place 3 1 2 true)) (replicate 60 5); answer = packed 20; left = packLent ((4 ∷ 1 ∷ 0 ∷ 5 ∷ 3 ∷ 2 ∷ 7 ∷ 7 ∷ [])) (replicate 1024 (place 0 0 0 false) ++ ((place 3 1 2 true) ∷ (place 3 1 2 true) ∷ [])) ((1 ∷ 0 ∷ 8 ∷ 0 ∷ 6 ∷ 0 ∷ 6 ∷ 0 ∷ 7 ∷ 0 ∷ 2 ∷ 2 ∷ 0 ∷ 6 ∷ 236 ∷ 6 ∷ 32 ∷ 4 ∷ 217 ∷ 108 ∷ []) ++ replicate 40 5) }
+    record { limits = most; vertices = 6; list = ((2 ∷ 1 ∷ 5 ∷ 0 ∷ 5 ∷ 4 ∷ 2 ∷ 3 ∷ 4 ∷ 2 ∷ 5 ∷ 3 ∷ 1 ∷ 4 ∷ 5 ∷ 0 ∷ 4 ∷ 3 ∷ [])); lent = packLent (replicate 8 7) (replicate 1026 (place 3 1 2 true)) (replicate 60 5); answer = packed 20; left = packLent ((4 ∷ 1 ∷ 0 ∷ 5 ∷ 3 ∷ 2 ∷ 7 ∷ 7 ∷ [])) (replicate 1024 (place 0 0 0 false) ++ ((place 3 1 2 true) ∷ (place 3 1 2 true) ∷ [])) ((1 ∷ 0 ∷ 8 ∷ 0 ∷ 6 ∷ 0 ∷ 6 ∷ 0 ∷ 7 ∷ 0 ∷ 2 ∷ 2 ∷ 0 ∷ 6 ∷ 236 ∷ 6 ∷ 32 ∷ 4 ∷ 217 ∷ 108 ∷ []) ++ replicate 40 5) }
     ∷
     -- split k - 3 where the edge into e is marked: accepted
-    record { limits = record { places = 1024; loops = 100 }; vertices = 6; list = ((0 ∷ 1 ∷ 2 ∷ 3 ∷ 1 ∷ 0 ∷ 4 ∷ 0 ∷ 2 ∷ 4 ∷ 3 ∷ 0 ∷ 4 ∷ 1 ∷ 3 ∷ 4 ∷ 5 ∷ 1 ∷ [])); lent = packLent (replicate 8 7) (replicate 1026 (place 3 1 2 true)) (replicate 60 5); answer = packed 19; left = packLent ((0 ∷ 1 ∷ 2 ∷ 3 ∷ 4 ∷ 5 ∷ 7 ∷ 7 ∷ [])) (replicate 1024 (place 0 0 0 false) ++ ((place 3 1 2 true) ∷ (place 3 1 2 true) ∷ [])) ((1 ∷ 0 ∷ 8 ∷ 0 ∷ 6 ∷ 0 ∷ 6 ∷ 0 ∷ 6 ∷ 0 ∷ 2 ∷ 2 ∷ 0 ∷ 5 ∷ 224 ∷ 6 ∷ 224 ∷ 5 ∷ 91 ∷ []) ++ replicate 41 5) }
+    record { limits = most; vertices = 6; list = ((0 ∷ 1 ∷ 2 ∷ 3 ∷ 1 ∷ 0 ∷ 4 ∷ 0 ∷ 2 ∷ 4 ∷ 3 ∷ 0 ∷ 4 ∷ 1 ∷ 3 ∷ 4 ∷ 5 ∷ 1 ∷ [])); lent = packLent (replicate 8 7) (replicate 1026 (place 3 1 2 true)) (replicate 60 5); answer = packed 19; left = packLent ((0 ∷ 1 ∷ 2 ∷ 3 ∷ 4 ∷ 5 ∷ 7 ∷ 7 ∷ [])) (replicate 1024 (place 0 0 0 false) ++ ((place 3 1 2 true) ∷ (place 3 1 2 true) ∷ [])) ((1 ∷ 0 ∷ 8 ∷ 0 ∷ 6 ∷ 0 ∷ 6 ∷ 0 ∷ 6 ∷ 0 ∷ 2 ∷ 2 ∷ 0 ∷ 5 ∷ 224 ∷ 6 ∷ 224 ∷ 5 ∷ 91 ∷ []) ++ replicate 41 5) }
     ∷
     -- seven places, in full loops six: the other half of the split goes on: accepted
-    record { limits = record { places = 1024; loops = 100 }; vertices = 7; list = ((3 ∷ 1 ∷ 6 ∷ 5 ∷ 0 ∷ 4 ∷ 5 ∷ 1 ∷ 2 ∷ 6 ∷ 5 ∷ 3 ∷ 2 ∷ 3 ∷ 5 ∷ 0 ∷ 5 ∷ 6 ∷ 2 ∷ 1 ∷ 3 ∷ [])); lent = packLent (replicate 9 7) (replicate 1026 (place 3 1 2 true)) (replicate 60 5); answer = packed 20; left = packLent ((5 ∷ 1 ∷ 3 ∷ 0 ∷ 6 ∷ 4 ∷ 2 ∷ 7 ∷ 7 ∷ [])) (replicate 1024 (place 0 0 0 false) ++ ((place 3 1 2 true) ∷ (place 3 1 2 true) ∷ [])) ((1 ∷ 0 ∷ 8 ∷ 0 ∷ 7 ∷ 0 ∷ 7 ∷ 0 ∷ 7 ∷ 0 ∷ 2 ∷ 2 ∷ 0 ∷ 6 ∷ 224 ∷ 55 ∷ 0 ∷ 32 ∷ 27 ∷ 116 ∷ []) ++ replicate 40 5) }
+    record { limits = most; vertices = 7; list = ((3 ∷ 1 ∷ 6 ∷ 5 ∷ 0 ∷ 4 ∷ 5 ∷ 1 ∷ 2 ∷ 6 ∷ 5 ∷ 3 ∷ 2 ∷ 3 ∷ 5 ∷ 0 ∷ 5 ∷ 6 ∷ 2 ∷ 1 ∷ 3 ∷ [])); lent = packLent (replicate 9 7) (replicate 1026 (place 3 1 2 true)) (replicate 60 5); answer = packed 20; left = packLent ((5 ∷ 1 ∷ 3 ∷ 0 ∷ 6 ∷ 4 ∷ 2 ∷ 7 ∷ 7 ∷ [])) (replicate 1024 (place 0 0 0 false) ++ ((place 3 1 2 true) ∷ (place 3 1 2 true) ∷ [])) ((1 ∷ 0 ∷ 8 ∷ 0 ∷ 7 ∷ 0 ∷ 7 ∷ 0 ∷ 7 ∷ 0 ∷ 2 ∷ 2 ∷ 0 ∷ 6 ∷ 224 ∷ 55 ∷ 0 ∷ 32 ∷ 27 ∷ 116 ∷ []) ++ replicate 40 5) }
     ∷
     -- union from a loop of two places, with j = 0: accepted
-    record { limits = record { places = 1024; loops = 100 }; vertices = 6; list = ((0 ∷ 1 ∷ 2 ∷ 2 ∷ 1 ∷ 3 ∷ 0 ∷ 2 ∷ 4 ∷ 0 ∷ 4 ∷ 3 ∷ 0 ∷ 3 ∷ 5 ∷ 3 ∷ 1 ∷ 5 ∷ 5 ∷ 1 ∷ 4 ∷ 5 ∷ 4 ∷ 2 ∷ [])); lent = packLent (replicate 8 7) (replicate 1026 (place 3 1 2 true)) (replicate 60 5); answer = packed 23; left = packLent ((0 ∷ 1 ∷ 2 ∷ 3 ∷ 4 ∷ 5 ∷ 7 ∷ 7 ∷ [])) (replicate 1024 (place 0 0 0 false) ++ ((place 3 1 2 true) ∷ (place 3 1 2 true) ∷ [])) ((1 ∷ 0 ∷ 8 ∷ 0 ∷ 6 ∷ 0 ∷ 8 ∷ 0 ∷ 7 ∷ 0 ∷ 2 ∷ 2 ∷ 0 ∷ 9 ∷ 236 ∷ 49 ∷ 0 ∷ 32 ∷ 206 ∷ 2 ∷ 0 ∷ 38 ∷ 216 ∷ []) ++ replicate 37 5) }
+    record { limits = most; vertices = 6; list = ((5 ∷ 4 ∷ 3 ∷ 3 ∷ 4 ∷ 2 ∷ 5 ∷ 3 ∷ 1 ∷ 5 ∷ 1 ∷ 2 ∷ 5 ∷ 2 ∷ 0 ∷ 2 ∷ 4 ∷ 0 ∷ 0 ∷ 4 ∷ 1 ∷ 0 ∷ 1 ∷ 3 ∷ [])); lent = packLent (replicate 8 7) (replicate 1026 (place 3 1 2 true)) (replicate 60 5); answer = packed 23; left = packLent ((5 ∷ 4 ∷ 3 ∷ 2 ∷ 1 ∷ 0 ∷ 7 ∷ 7 ∷ [])) (replicate 1024 (place 0 0 0 false) ++ ((place 3 1 2 true) ∷ (place 3 1 2 true) ∷ [])) ((1 ∷ 0 ∷ 8 ∷ 0 ∷ 6 ∷ 0 ∷ 8 ∷ 0 ∷ 7 ∷ 0 ∷ 2 ∷ 2 ∷ 0 ∷ 9 ∷ 236 ∷ 49 ∷ 0 ∷ 32 ∷ 206 ∷ 2 ∷ 0 ∷ 38 ∷ 216 ∷ []) ++ replicate 37 5) }
     ∷
     -- union and split past a link: accepted
-    record { limits = record { places = 1024; loops = 100 }; vertices = 7; list = ((6 ∷ 5 ∷ 4 ∷ 5 ∷ 6 ∷ 2 ∷ 6 ∷ 1 ∷ 0 ∷ 2 ∷ 0 ∷ 3 ∷ 5 ∷ 2 ∷ 3 ∷ 1 ∷ 6 ∷ 4 ∷ 3 ∷ 0 ∷ 1 ∷ 1 ∷ 4 ∷ 2 ∷ 2 ∷ 4 ∷ 0 ∷ [])); lent = packLent (replicate 9 7) (replicate 1026 (place 3 1 2 true)) (replicate 60 5); answer = packed 24; left = packLent ((6 ∷ 5 ∷ 3 ∷ 4 ∷ 2 ∷ 1 ∷ 0 ∷ 7 ∷ 7 ∷ [])) (replicate 1024 (place 0 0 0 false) ++ ((place 3 1 2 true) ∷ (place 3 1 2 true) ∷ [])) ((1 ∷ 0 ∷ 8 ∷ 0 ∷ 7 ∷ 0 ∷ 9 ∷ 0 ∷ 7 ∷ 0 ∷ 2 ∷ 2 ∷ 0 ∷ 10 ∷ 224 ∷ 54 ∷ 3 ∷ 112 ∷ 3 ∷ 192 ∷ 64 ∷ 38 ∷ 89 ∷ 96 ∷ []) ++ replicate 36 5) }
+    record { limits = most; vertices = 7; list = ((6 ∷ 5 ∷ 4 ∷ 5 ∷ 6 ∷ 2 ∷ 6 ∷ 1 ∷ 0 ∷ 2 ∷ 0 ∷ 3 ∷ 5 ∷ 2 ∷ 3 ∷ 1 ∷ 6 ∷ 4 ∷ 3 ∷ 0 ∷ 1 ∷ 1 ∷ 4 ∷ 2 ∷ 2 ∷ 4 ∷ 0 ∷ [])); lent = packLent (replicate 9 7) (replicate 1026 (place 3 1 2 true)) (replicate 60 5); answer = packed 24; left = packLent ((6 ∷ 5 ∷ 3 ∷ 4 ∷ 2 ∷ 1 ∷ 0 ∷ 7 ∷ 7 ∷ [])) (replicate 1024 (place 0 0 0 false) ++ ((place 3 1 2 true) ∷ (place 3 1 2 true) ∷ [])) ((1 ∷ 0 ∷ 8 ∷ 0 ∷ 7 ∷ 0 ∷ 9 ∷ 0 ∷ 7 ∷ 0 ∷ 2 ∷ 2 ∷ 0 ∷ 10 ∷ 224 ∷ 54 ∷ 3 ∷ 112 ∷ 3 ∷ 192 ∷ 64 ∷ 38 ∷ 89 ∷ 96 ∷ []) ++ replicate 36 5) }
     ∷
     -- union 2 of two waiting loops, in shortened loops: accepted
-    record { limits = record { places = 1024; loops = 100 }; vertices = 8; list = ((6 ∷ 2 ∷ 5 ∷ 7 ∷ 4 ∷ 0 ∷ 5 ∷ 4 ∷ 3 ∷ 3 ∷ 4 ∷ 2 ∷ 2 ∷ 7 ∷ 5 ∷ 7 ∷ 2 ∷ 4 ∷ 1 ∷ 7 ∷ 6 ∷ 4 ∷ 6 ∷ 0 ∷ 3 ∷ 6 ∷ 5 ∷ 3 ∷ 1 ∷ 6 ∷ 0 ∷ 6 ∷ 7 ∷ [])); lent = packLent (replicate 10 7) (replicate 1026 (place 3 1 2 true)) (replicate 60 5); answer = packed 26; left = packLent ((6 ∷ 5 ∷ 1 ∷ 4 ∷ 7 ∷ 2 ∷ 0 ∷ 3 ∷ 7 ∷ 7 ∷ [])) (replicate 1024 (place 0 0 0 false) ++ ((place 3 1 2 true) ∷ (place 3 1 2 true) ∷ [])) ((1 ∷ 0 ∷ 8 ∷ 0 ∷ 8 ∷ 0 ∷ 11 ∷ 0 ∷ 10 ∷ 0 ∷ 3 ∷ 2 ∷ 0 ∷ 12 ∷ 236 ∷ 48 ∷ 32 ∷ 4 ∷ 3 ∷ 128 ∷ 22 ∷ 4 ∷ 1 ∷ 166 ∷ 219 ∷ 160 ∷ []) ++ replicate 34 5) }
+    record { limits = most; vertices = 8; list = ((6 ∷ 2 ∷ 5 ∷ 7 ∷ 4 ∷ 0 ∷ 5 ∷ 4 ∷ 3 ∷ 3 ∷ 4 ∷ 2 ∷ 2 ∷ 7 ∷ 5 ∷ 7 ∷ 2 ∷ 4 ∷ 1 ∷ 7 ∷ 6 ∷ 4 ∷ 6 ∷ 0 ∷ 3 ∷ 6 ∷ 5 ∷ 3 ∷ 1 ∷ 6 ∷ 0 ∷ 6 ∷ 7 ∷ [])); lent = packLent (replicate 10 7) (replicate 1026 (place 3 1 2 true)) (replicate 60 5); answer = packed 26; left = packLent ((6 ∷ 5 ∷ 1 ∷ 4 ∷ 7 ∷ 2 ∷ 0 ∷ 3 ∷ 7 ∷ 7 ∷ [])) (replicate 1024 (place 0 0 0 false) ++ ((place 3 1 2 true) ∷ (place 3 1 2 true) ∷ [])) ((1 ∷ 0 ∷ 8 ∷ 0 ∷ 8 ∷ 0 ∷ 11 ∷ 0 ∷ 10 ∷ 0 ∷ 3 ∷ 2 ∷ 0 ∷ 12 ∷ 236 ∷ 48 ∷ 32 ∷ 4 ∷ 3 ∷ 128 ∷ 22 ∷ 4 ∷ 1 ∷ 166 ∷ 219 ∷ 160 ∷ []) ++ replicate 34 5) }
     ∷
     -- union to c that has a place in the current loop too, before it: accepted
-    record { limits = record { places = 1024; loops = 100 }; vertices = 8; list = ((0 ∷ 1 ∷ 2 ∷ 1 ∷ 0 ∷ 3 ∷ 2 ∷ 4 ∷ 0 ∷ 1 ∷ 5 ∷ 6 ∷ 5 ∷ 7 ∷ 0 ∷ 4 ∷ 5 ∷ 0 ∷ 5 ∷ 1 ∷ 3 ∷ 7 ∷ 5 ∷ 2 ∷ 7 ∷ 2 ∷ 1 ∷ 4 ∷ 6 ∷ 5 ∷ [])); lent = packLent (replicate 10 7) (replicate 1026 (place 3 1 2 true)) (replicate 60 5); answer = packed 25; left = packLent ((0 ∷ 1 ∷ 2 ∷ 3 ∷ 7 ∷ 4 ∷ 5 ∷ 6 ∷ 7 ∷ 7 ∷ [])) (replicate 1024 (place 0 0 0 false) ++ ((place 3 1 2 true) ∷ (place 3 1 2 true) ∷ [])) ((1 ∷ 0 ∷ 8 ∷ 0 ∷ 8 ∷ 0 ∷ 10 ∷ 0 ∷ 10 ∷ 0 ∷ 2 ∷ 2 ∷ 0 ∷ 11 ∷ 224 ∷ 6 ∷ 32 ∷ 6 ∷ 198 ∷ 2 ∷ 0 ∷ 166 ∷ 219 ∷ 45 ∷ 128 ∷ []) ++ replicate 35 5) }
+    record { limits = most; vertices = 8; list = ((0 ∷ 1 ∷ 2 ∷ 1 ∷ 0 ∷ 3 ∷ 2 ∷ 4 ∷ 0 ∷ 1 ∷ 5 ∷ 6 ∷ 5 ∷ 7 ∷ 0 ∷ 4 ∷ 5 ∷ 0 ∷ 5 ∷ 1 ∷ 3 ∷ 7 ∷ 5 ∷ 2 ∷ 7 ∷ 2 ∷ 1 ∷ 4 ∷ 6 ∷ 5 ∷ [])); lent = packLent (replicate 10 7) (replicate 1026 (place 3 1 2 true)) (replicate 60 5); answer = packed 25; left = packLent ((0 ∷ 1 ∷ 2 ∷ 3 ∷ 7 ∷ 4 ∷ 5 ∷ 6 ∷ 7 ∷ 7 ∷ [])) (replicate 1024 (place 0 0 0 false) ++ ((place 3 1 2 true) ∷ (place 3 1 2 true) ∷ [])) ((1 ∷ 0 ∷ 8 ∷ 0 ∷ 8 ∷ 0 ∷ 10 ∷ 0 ∷ 10 ∷ 0 ∷ 2 ∷ 2 ∷ 0 ∷ 11 ∷ 224 ∷ 6 ∷ 32 ∷ 6 ∷ 198 ∷ 2 ∷ 0 ∷ 166 ∷ 219 ∷ 45 ∷ 128 ∷ []) ++ replicate 35 5) }
     ∷
     -- split to c that has an earlier place in the loop: the first place that has c does not do: accepted
-    record { limits = record { places = 1024; loops = 100 }; vertices = 8; list = ((0 ∷ 1 ∷ 2 ∷ 3 ∷ 0 ∷ 2 ∷ 4 ∷ 3 ∷ 5 ∷ 4 ∷ 5 ∷ 0 ∷ 6 ∷ 4 ∷ 1 ∷ 5 ∷ 3 ∷ 2 ∷ 1 ∷ 3 ∷ 6 ∷ 1 ∷ 0 ∷ 5 ∷ 3 ∷ 4 ∷ 6 ∷ 1 ∷ 7 ∷ 3 ∷ 5 ∷ 7 ∷ 1 ∷ [])); lent = packLent (replicate 10 7) (replicate 1026 (place 3 1 2 true)) (replicate 60 5); answer = packed 26; left = packLent ((0 ∷ 1 ∷ 2 ∷ 5 ∷ 7 ∷ 3 ∷ 6 ∷ 4 ∷ 7 ∷ 7 ∷ [])) (replicate 1024 (place 0 0 0 false) ++ ((place 3 1 2 true) ∷ (place 3 1 2 true) ∷ [])) ((1 ∷ 0 ∷ 8 ∷ 0 ∷ 8 ∷ 0 ∷ 11 ∷ 0 ∷ 10 ∷ 0 ∷ 2 ∷ 2 ∷ 0 ∷ 12 ∷ 224 ∷ 0 ∷ 27 ∷ 128 ∷ 27 ∷ 192 ∷ 64 ∷ 56 ∷ 3 ∷ 84 ∷ 219 ∷ 96 ∷ []) ++ replicate 34 5) }
+    record { limits = most; vertices = 8; list = ((0 ∷ 1 ∷ 2 ∷ 3 ∷ 0 ∷ 2 ∷ 4 ∷ 3 ∷ 5 ∷ 4 ∷ 5 ∷ 0 ∷ 6 ∷ 4 ∷ 1 ∷ 5 ∷ 3 ∷ 2 ∷ 1 ∷ 3 ∷ 6 ∷ 1 ∷ 0 ∷ 5 ∷ 3 ∷ 4 ∷ 6 ∷ 1 ∷ 7 ∷ 3 ∷ 5 ∷ 7 ∷ 1 ∷ [])); lent = packLent (replicate 10 7) (replicate 1026 (place 3 1 2 true)) (replicate 60 5); answer = packed 26; left = packLent ((0 ∷ 1 ∷ 2 ∷ 5 ∷ 7 ∷ 3 ∷ 6 ∷ 4 ∷ 7 ∷ 7 ∷ [])) (replicate 1024 (place 0 0 0 false) ++ ((place 3 1 2 true) ∷ (place 3 1 2 true) ∷ [])) ((1 ∷ 0 ∷ 8 ∷ 0 ∷ 8 ∷ 0 ∷ 11 ∷ 0 ∷ 10 ∷ 0 ∷ 2 ∷ 2 ∷ 0 ∷ 12 ∷ 224 ∷ 0 ∷ 27 ∷ 128 ∷ 27 ∷ 192 ∷ 64 ∷ 56 ∷ 3 ∷ 84 ∷ 219 ∷ 96 ∷ []) ++ replicate 34 5) }
     ∷
     -- split to c that has a later place in the loop: accepted
-    record { limits = record { places = 1024; loops = 100 }; vertices = 9; list = ((0 ∷ 1 ∷ 2 ∷ 0 ∷ 3 ∷ 1 ∷ 4 ∷ 5 ∷ 1 ∷ 3 ∷ 4 ∷ 1 ∷ 0 ∷ 6 ∷ 3 ∷ 0 ∷ 2 ∷ 5 ∷ 5 ∷ 7 ∷ 1 ∷ 8 ∷ 7 ∷ 6 ∷ 5 ∷ 2 ∷ 3 ∷ 3 ∷ 6 ∷ 5 ∷ 5 ∷ 6 ∷ 7 ∷ 3 ∷ 2 ∷ 7 ∷ 7 ∷ 8 ∷ 3 ∷ [])); lent = packLent (replicate 11 7) (replicate 1026 (place 3 1 2 true)) (replicate 60 5); answer = packed 27; left = packLent ((0 ∷ 1 ∷ 2 ∷ 3 ∷ 4 ∷ 5 ∷ 7 ∷ 6 ∷ 8 ∷ 7 ∷ 7 ∷ [])) (replicate 1024 (place 0 0 0 false) ++ ((place 3 1 2 true) ∷ (place 3 1 2 true) ∷ [])) ((1 ∷ 0 ∷ 8 ∷ 0 ∷ 9 ∷ 0 ∷ 13 ∷ 0 ∷ 10 ∷ 0 ∷ 2 ∷ 2 ∷ 0 ∷ 13 ∷ 224 ∷ 0 ∷ 220 ∷ 0 ∷ 240 ∷ 16 ∷ 8 ∷ 17 ∷ 0 ∷ 36 ∷ 219 ∷ 108 ∷ 182 ∷ []) ++ replicate 33 5) }
+    record { limits = most; vertices = 9; list = ((0 ∷ 1 ∷ 2 ∷ 0 ∷ 3 ∷ 1 ∷ 4 ∷ 5 ∷ 1 ∷ 3 ∷ 4 ∷ 1 ∷ 0 ∷ 6 ∷ 3 ∷ 0 ∷ 2 ∷ 5 ∷ 5 ∷ 7 ∷ 1 ∷ 8 ∷ 7 ∷ 6 ∷ 5 ∷ 2 ∷ 3 ∷ 3 ∷ 6 ∷ 5 ∷ 5 ∷ 6 ∷ 7 ∷ 3 ∷ 2 ∷ 7 ∷ 7 ∷ 8 ∷ 3 ∷ [])); lent = packLent (replicate 11 7) (replicate 1026 (place 3 1 2 true)) (replicate 60 5); answer = packed 27; left = packLent ((0 ∷ 1 ∷ 2 ∷ 3 ∷ 4 ∷ 5 ∷ 7 ∷ 6 ∷ 8 ∷ 7 ∷ 7 ∷ [])) (replicate 1024 (place 0 0 0 false) ++ ((place 3 1 2 true) ∷ (place 3 1 2 true) ∷ [])) ((1 ∷ 0 ∷ 8 ∷ 0 ∷ 9 ∷ 0 ∷ 13 ∷ 0 ∷ 10 ∷ 0 ∷ 2 ∷ 2 ∷ 0 ∷ 13 ∷ 224 ∷ 0 ∷ 220 ∷ 0 ∷ 240 ∷ 16 ∷ 8 ∷ 17 ∷ 0 ∷ 36 ∷ 219 ∷ 108 ∷ 182 ∷ []) ++ replicate 33 5) }
     ∷
     -- backward to c that has an earlier place in the loop: accepted
-    record { limits = record { places = 1024; loops = 100 }; vertices = 8; list = ((0 ∷ 1 ∷ 2 ∷ 1 ∷ 3 ∷ 2 ∷ 2 ∷ 3 ∷ 4 ∷ 1 ∷ 4 ∷ 5 ∷ 0 ∷ 2 ∷ 5 ∷ 0 ∷ 6 ∷ 1 ∷ 7 ∷ 4 ∷ 3 ∷ 1 ∷ 6 ∷ 4 ∷ 5 ∷ 4 ∷ 0 ∷ 4 ∷ 7 ∷ 0 ∷ [])); lent = packLent (replicate 10 7) (replicate 1026 (place 3 1 2 true)) (replicate 60 5); answer = packed 25; left = packLent ((0 ∷ 1 ∷ 2 ∷ 6 ∷ 4 ∷ 5 ∷ 3 ∷ 7 ∷ 7 ∷ 7 ∷ [])) (replicate 1024 (place 0 0 0 false) ++ ((place 3 1 2 true) ∷ (place 3 1 2 true) ∷ [])) ((1 ∷ 0 ∷ 8 ∷ 0 ∷ 8 ∷ 0 ∷ 10 ∷ 0 ∷ 9 ∷ 0 ∷ 2 ∷ 2 ∷ 0 ∷ 11 ∷ 224 ∷ 6 ∷ 32 ∷ 6 ∷ 240 ∷ 16 ∷ 9 ∷ 6 ∷ 219 ∷ 101 ∷ 128 ∷ []) ++ replicate 35 5) }
+    record { limits = most; vertices = 8; list = ((0 ∷ 1 ∷ 2 ∷ 1 ∷ 3 ∷ 2 ∷ 2 ∷ 3 ∷ 4 ∷ 1 ∷ 4 ∷ 5 ∷ 0 ∷ 2 ∷ 5 ∷ 0 ∷ 6 ∷ 1 ∷ 7 ∷ 4 ∷ 3 ∷ 1 ∷ 6 ∷ 4 ∷ 5 ∷ 4 ∷ 0 ∷ 4 ∷ 7 ∷ 0 ∷ [])); lent = packLent (replicate 10 7) (replicate 1026 (place 3 1 2 true)) (replicate 60 5); answer = packed 25; left = packLent ((0 ∷ 1 ∷ 2 ∷ 6 ∷ 4 ∷ 5 ∷ 3 ∷ 7 ∷ 7 ∷ 7 ∷ [])) (replicate 1024 (place 0 0 0 false) ++ ((place 3 1 2 true) ∷ (place 3 1 2 true) ∷ [])) ((1 ∷ 0 ∷ 8 ∷ 0 ∷ 8 ∷ 0 ∷ 10 ∷ 0 ∷ 9 ∷ 0 ∷ 2 ∷ 2 ∷ 0 ∷ 11 ∷ 224 ∷ 6 ∷ 32 ∷ 6 ∷ 240 ∷ 16 ∷ 9 ∷ 6 ∷ 219 ∷ 101 ∷ 128 ∷ []) ++ replicate 35 5) }
     ∷
     -- forward to c that has a later place in the loop: accepted
-    record { limits = record { places = 1024; loops = 100 }; vertices = 7; list = ((0 ∷ 2 ∷ 1 ∷ 5 ∷ 2 ∷ 6 ∷ 4 ∷ 2 ∷ 0 ∷ 4 ∷ 5 ∷ 3 ∷ 6 ∷ 0 ∷ 5 ∷ 0 ∷ 3 ∷ 5 ∷ 0 ∷ 1 ∷ 3 ∷ 3 ∷ 2 ∷ 4 ∷ 1 ∷ 2 ∷ 5 ∷ [])); lent = packLent (replicate 9 7) (replicate 1026 (place 3 1 2 true)) (replicate 60 5); answer = packed 24; left = packLent ((0 ∷ 2 ∷ 1 ∷ 4 ∷ 3 ∷ 5 ∷ 6 ∷ 7 ∷ 7 ∷ [])) (replicate 1024 (place 0 0 0 false) ++ ((place 3 1 2 true) ∷ (place 3 1 2 true) ∷ [])) ((1 ∷ 0 ∷ 8 ∷ 0 ∷ 7 ∷ 0 ∷ 9 ∷ 0 ∷ 9 ∷ 0 ∷ 2 ∷ 2 ∷ 0 ∷ 10 ∷ 224 ∷ 48 ∷ 224 ∷ 5 ∷ 128 ∷ 128 ∷ 97 ∷ 178 ∷ 217 ∷ 96 ∷ []) ++ replicate 36 5) }
+    record { limits = most; vertices = 7; list = ((0 ∷ 2 ∷ 1 ∷ 5 ∷ 2 ∷ 6 ∷ 4 ∷ 2 ∷ 0 ∷ 4 ∷ 5 ∷ 3 ∷ 6 ∷ 0 ∷ 5 ∷ 0 ∷ 3 ∷ 5 ∷ 0 ∷ 1 ∷ 3 ∷ 3 ∷ 2 ∷ 4 ∷ 1 ∷ 2 ∷ 5 ∷ [])); lent = packLent (replicate 9 7) (replicate 1026 (place 3 1 2 true)) (replicate 60 5); answer = packed 24; left = packLent ((0 ∷ 2 ∷ 1 ∷ 4 ∷ 3 ∷ 5 ∷ 6 ∷ 7 ∷ 7 ∷ [])) (replicate 1024 (place 0 0 0 false) ++ ((place 3 1 2 true) ∷ (place 3 1 2 true) ∷ [])) ((1 ∷ 0 ∷ 8 ∷ 0 ∷ 7 ∷ 0 ∷ 9 ∷ 0 ∷ 9 ∷ 0 ∷ 2 ∷ 2 ∷ 0 ∷ 10 ∷ 224 ∷ 48 ∷ 224 ∷ 5 ∷ 128 ∷ 128 ∷ 97 ∷ 178 ∷ 217 ∷ 96 ∷ []) ++ replicate 36 5) }
+    ∷
+    -- turning about c through more triangles than its number: accepted
+    record { limits = most; vertices = 9; list = ((6 ∷ 2 ∷ 4 ∷ 0 ∷ 2 ∷ 7 ∷ 6 ∷ 5 ∷ 8 ∷ 0 ∷ 8 ∷ 3 ∷ 4 ∷ 3 ∷ 6 ∷ 6 ∷ 8 ∷ 2 ∷ 1 ∷ 3 ∷ 7 ∷ 0 ∷ 6 ∷ 1 ∷ 0 ∷ 3 ∷ 2 ∷ 6 ∷ 3 ∷ 1 ∷ 7 ∷ 3 ∷ 8 ∷ 5 ∷ 6 ∷ 7 ∷ 8 ∷ 5 ∷ 7 ∷ 1 ∷ 7 ∷ 2 ∷ 2 ∷ 8 ∷ 1 ∷ 3 ∷ 4 ∷ 2 ∷ 8 ∷ 0 ∷ 1 ∷ [])); lent = packLent (replicate 11 7) (replicate 1026 (place 3 1 2 true)) (replicate 60 5); answer = packed 28; left = packLent ((6 ∷ 4 ∷ 1 ∷ 7 ∷ 2 ∷ 8 ∷ 0 ∷ 5 ∷ 3 ∷ 7 ∷ 7 ∷ [])) (replicate 1024 (place 0 0 0 false) ++ ((place 3 1 2 true) ∷ (place 3 1 2 true) ∷ [])) ((1 ∷ 0 ∷ 8 ∷ 0 ∷ 9 ∷ 0 ∷ 17 ∷ 0 ∷ 10 ∷ 0 ∷ 2 ∷ 2 ∷ 0 ∷ 14 ∷ 224 ∷ 0 ∷ 9 ∷ 128 ∷ 22 ∷ 2 ∷ 1 ∷ 177 ∷ 0 ∷ 84 ∷ 220 ∷ 0 ∷ 234 ∷ 160 ∷ []) ++ replicate 32 5) }
+    ∷
+    -- the last place of a loop has the vertex that is looked for, and its edge leads to another: accepted
+    record { limits = most; vertices = 9; list = ((0 ∷ 4 ∷ 2 ∷ 3 ∷ 4 ∷ 6 ∷ 6 ∷ 5 ∷ 8 ∷ 7 ∷ 1 ∷ 2 ∷ 8 ∷ 5 ∷ 7 ∷ 4 ∷ 3 ∷ 7 ∷ 8 ∷ 2 ∷ 6 ∷ 0 ∷ 5 ∷ 4 ∷ 3 ∷ 6 ∷ 1 ∷ 5 ∷ 0 ∷ 1 ∷ 2 ∷ 1 ∷ 6 ∷ 0 ∷ 3 ∷ 1 ∷ 7 ∷ 3 ∷ 8 ∷ 3 ∷ 0 ∷ 8 ∷ 6 ∷ 4 ∷ 5 ∷ 5 ∷ 1 ∷ 7 ∷ 0 ∷ 2 ∷ 8 ∷ [])); lent = packLent (replicate 11 7) (replicate 1026 (place 3 1 2 true)) (replicate 60 5); answer = packed 28; left = packLent ((0 ∷ 8 ∷ 2 ∷ 5 ∷ 1 ∷ 3 ∷ 4 ∷ 6 ∷ 7 ∷ 7 ∷ 7 ∷ [])) (replicate 1024 (place 0 0 0 false) ++ ((place 3 1 2 true) ∷ (place 3 1 2 true) ∷ [])) ((1 ∷ 0 ∷ 8 ∷ 0 ∷ 9 ∷ 0 ∷ 17 ∷ 0 ∷ 10 ∷ 0 ∷ 2 ∷ 2 ∷ 0 ∷ 14 ∷ 224 ∷ 0 ∷ 216 ∷ 128 ∷ 24 ∷ 56 ∷ 8 ∷ 5 ∷ 0 ∷ 106 ∷ 84 ∷ 0 ∷ 169 ∷ 96 ∷ []) ++ replicate 32 5) }
+    ∷
+    -- turning about c through more triangles than the loop has places: accepted
+    record { limits = most; vertices = 17; list = ((0 ∷ 1 ∷ 2 ∷ 1 ∷ 0 ∷ 3 ∷ 1 ∷ 3 ∷ 2 ∷ 2 ∷ 3 ∷ 4 ∷ 2 ∷ 4 ∷ 5 ∷ 0 ∷ 2 ∷ 6 ∷ 0 ∷ 6 ∷ 4 ∷ 0 ∷ 4 ∷ 7 ∷ 0 ∷ 7 ∷ 8 ∷ 0 ∷ 8 ∷ 9 ∷ 7 ∷ 4 ∷ 9 ∷ 7 ∷ 9 ∷ 10 ∷ 9 ∷ 8 ∷ 10 ∷ 9 ∷ 4 ∷ 11 ∷ 4 ∷ 6 ∷ 12 ∷ 4 ∷ 12 ∷ 13 ∷ 4 ∷ 13 ∷ 14 ∷ 4 ∷ 14 ∷ 15 ∷ 4 ∷ 15 ∷ 16 ∷ 4 ∷ 16 ∷ 5 ∷ 12 ∷ 6 ∷ 13 ∷ 13 ∷ 6 ∷ 14 ∷ 15 ∷ 14 ∷ 16 ∷ [])); lent = packLent (replicate 19 7) (replicate 1026 (place 3 1 2 true)) (replicate 60 5); answer = packed 30; left = packLent ((0 ∷ 1 ∷ 2 ∷ 3 ∷ 4 ∷ 5 ∷ 6 ∷ 7 ∷ 8 ∷ 9 ∷ 11 ∷ 10 ∷ 12 ∷ 13 ∷ 14 ∷ 15 ∷ 16 ∷ 7 ∷ 7 ∷ [])) (replicate 1024 (place 0 0 0 false) ++ ((place 3 1 2 true) ∷ (place 3 1 2 true) ∷ [])) ((1 ∷ 0 ∷ 8 ∷ 0 ∷ 17 ∷ 0 ∷ 23 ∷ 0 ∷ 10 ∷ 0 ∷ 3 ∷ 2 ∷ 0 ∷ 16 ∷ 224 ∷ 128 ∷ 196 ∷ 0 ∷ 128 ∷ 13 ∷ 184 ∷ 1 ∷ 6 ∷ 195 ∷ 101 ∷ 128 ∷ 0 ∷ 45 ∷ 146 ∷ 203 ∷ []) ++ replicate 30 5) }
     ∷
     -- union from a loop with a link; the peak of places is reached by it: accepted
-    record { limits = record { places = 1024; loops = 100 }; vertices = 7; list = ((0 ∷ 1 ∷ 2 ∷ 3 ∷ 1 ∷ 4 ∷ 1 ∷ 5 ∷ 6 ∷ 5 ∷ 1 ∷ 3 ∷ 5 ∷ 0 ∷ 2 ∷ 4 ∷ 5 ∷ 2 ∷ 1 ∷ 0 ∷ 4 ∷ 6 ∷ 5 ∷ 4 ∷ 0 ∷ 6 ∷ 4 ∷ [])); lent = packLent (replicate 9 7) (replicate 1026 (place 3 1 2 true)) (replicate 60 5); answer = packed 24; left = packLent ((0 ∷ 1 ∷ 2 ∷ 4 ∷ 3 ∷ 5 ∷ 6 ∷ 7 ∷ 7 ∷ [])) (replicate 1024 (place 0 0 0 false) ++ ((place 3 1 2 true) ∷ (place 3 1 2 true) ∷ [])) ((1 ∷ 0 ∷ 8 ∷ 0 ∷ 7 ∷ 0 ∷ 9 ∷ 0 ∷ 8 ∷ 0 ∷ 2 ∷ 2 ∷ 0 ∷ 10 ∷ 224 ∷ 0 ∷ 220 ∷ 0 ∷ 240 ∷ 16 ∷ 8 ∷ 166 ∷ 219 ∷ 96 ∷ []) ++ replicate 36 5) }
+    record { limits = most; vertices = 7; list = ((0 ∷ 1 ∷ 2 ∷ 3 ∷ 1 ∷ 4 ∷ 1 ∷ 5 ∷ 6 ∷ 5 ∷ 1 ∷ 3 ∷ 5 ∷ 0 ∷ 2 ∷ 4 ∷ 5 ∷ 2 ∷ 1 ∷ 0 ∷ 4 ∷ 6 ∷ 5 ∷ 4 ∷ 0 ∷ 6 ∷ 4 ∷ [])); lent = packLent (replicate 9 7) (replicate 1026 (place 3 1 2 true)) (replicate 60 5); answer = packed 24; left = packLent ((0 ∷ 1 ∷ 2 ∷ 4 ∷ 3 ∷ 5 ∷ 6 ∷ 7 ∷ 7 ∷ [])) (replicate 1024 (place 0 0 0 false) ++ ((place 3 1 2 true) ∷ (place 3 1 2 true) ∷ [])) ((1 ∷ 0 ∷ 8 ∷ 0 ∷ 7 ∷ 0 ∷ 9 ∷ 0 ∷ 8 ∷ 0 ∷ 2 ∷ 2 ∷ 0 ∷ 10 ∷ 224 ∷ 0 ∷ 220 ∷ 0 ∷ 240 ∷ 16 ∷ 8 ∷ 166 ∷ 219 ∷ 96 ∷ []) ++ replicate 36 5) }
     ∷
     -- 1: four numbers: refusal 1
-    record { limits = record { places = 1024; loops = 100 }; vertices = 4; list = ((0 ∷ 1 ∷ 2 ∷ 3 ∷ [])); lent = packLent ((7 ∷ 7 ∷ 7 ∷ 7 ∷ 7 ∷ 7 ∷ [])) (replicate 1026 (place 3 1 2 true)) (replicate 60 5); answer = refusal 1; left = packLent ((7 ∷ 7 ∷ 7 ∷ 7 ∷ 7 ∷ 7 ∷ [])) (replicate 1026 (place 3 1 2 true)) (replicate 60 5) }
+    record { limits = most; vertices = 4; list = ((0 ∷ 1 ∷ 2 ∷ 3 ∷ [])); lent = packLent ((7 ∷ 7 ∷ 7 ∷ 7 ∷ 7 ∷ 7 ∷ [])) (replicate 1026 (place 3 1 2 true)) (replicate 60 5); answer = refusal 1; left = packLent ((7 ∷ 7 ∷ 7 ∷ 7 ∷ 7 ∷ 7 ∷ [])) (replicate 1026 (place 3 1 2 true)) (replicate 60 5) }
     ∷
     -- 1 before 2: refusal 1
-    record { limits = record { places = 1024; loops = 100 }; vertices = 2; list = []; lent = packLent ((7 ∷ 7 ∷ 7 ∷ 7 ∷ [])) (replicate 1026 (place 3 1 2 true)) (replicate 60 5); answer = refusal 1; left = packLent ((7 ∷ 7 ∷ 7 ∷ 7 ∷ [])) (replicate 1026 (place 3 1 2 true)) (replicate 60 5) }
+    record { limits = most; vertices = 2; list = []; lent = packLent ((7 ∷ 7 ∷ 7 ∷ 7 ∷ [])) (replicate 1026 (place 3 1 2 true)) (replicate 60 5); answer = refusal 1; left = packLent ((7 ∷ 7 ∷ 7 ∷ 7 ∷ [])) (replicate 1026 (place 3 1 2 true)) (replicate 60 5) }
     ∷
     -- 2: V 2: refusal 2
-    record { limits = record { places = 1024; loops = 100 }; vertices = 2; list = ((0 ∷ 1 ∷ 0 ∷ [])); lent = packLent ((7 ∷ 7 ∷ 7 ∷ 7 ∷ [])) (replicate 1026 (place 3 1 2 true)) (replicate 60 5); answer = refusal 2; left = packLent ((7 ∷ 7 ∷ 7 ∷ 7 ∷ [])) (replicate 1026 (place 3 1 2 true)) (replicate 60 5) }
+    record { limits = most; vertices = 2; list = ((0 ∷ 1 ∷ 0 ∷ [])); lent = packLent ((7 ∷ 7 ∷ 7 ∷ 7 ∷ [])) (replicate 1026 (place 3 1 2 true)) (replicate 60 5); answer = refusal 2; left = packLent ((7 ∷ 7 ∷ 7 ∷ 7 ∷ [])) (replicate 1026 (place 3 1 2 true)) (replicate 60 5) }
     ∷
     -- 2: V 4,097: refusal 2
-    record { limits = record { places = 1024; loops = 100 }; vertices = 4097; list = ((0 ∷ 1 ∷ 2 ∷ [])); lent = packLent (replicate 4099 7) (replicate 1026 (place 3 1 2 true)) (replicate 60 5); answer = refusal 2; left = packLent (replicate 4099 7) (replicate 1026 (place 3 1 2 true)) (replicate 60 5) }
+    record { limits = most; vertices = 4097; list = ((0 ∷ 1 ∷ 2 ∷ [])); lent = packLent (replicate 4099 7) (replicate 1026 (place 3 1 2 true)) (replicate 60 5); answer = refusal 2; left = packLent (replicate 4099 7) (replicate 1026 (place 3 1 2 true)) (replicate 60 5) }
     ∷
     -- V 4,096: refusal 6
-    record { limits = record { places = 1024; loops = 100 }; vertices = 4096; list = ((0 ∷ 1 ∷ 2 ∷ [])); lent = packLent (replicate 4098 7) (replicate 1026 (place 3 1 2 true)) (replicate 60 5); answer = refusal 6; left = packLent (replicate 4098 7) (replicate 1026 (place 3 1 2 true)) (replicate 60 5) }
+    record { limits = most; vertices = 4096; list = ((0 ∷ 1 ∷ 2 ∷ [])); lent = packLent (replicate 4098 7) (replicate 1026 (place 3 1 2 true)) (replicate 60 5); answer = refusal 6; left = packLent (replicate 4098 7) (replicate 1026 (place 3 1 2 true)) (replicate 60 5) }
     ∷
     -- 2 before 3: refusal 2
-    record { limits = record { places = 1024; loops = 100 }; vertices = 2; list = ((0 ∷ 1 ∷ 2 ∷ [])); lent = packLent ((7 ∷ 7 ∷ 7 ∷ 7 ∷ [])) (replicate 1026 (place 3 1 2 true)) (replicate 60 5); answer = refusal 2; left = packLent ((7 ∷ 7 ∷ 7 ∷ 7 ∷ [])) (replicate 1026 (place 3 1 2 true)) (replicate 60 5) }
+    record { limits = most; vertices = 2; list = ((0 ∷ 1 ∷ 2 ∷ [])); lent = packLent ((7 ∷ 7 ∷ 7 ∷ 7 ∷ [])) (replicate 1026 (place 3 1 2 true)) (replicate 60 5); answer = refusal 2; left = packLent ((7 ∷ 7 ∷ 7 ∷ 7 ∷ [])) (replicate 1026 (place 3 1 2 true)) (replicate 60 5) }
     ∷
     -- 3: a number is V: refusal 3
-    record { limits = record { places = 1024; loops = 100 }; vertices = 3; list = ((0 ∷ 1 ∷ 3 ∷ [])); lent = packLent ((7 ∷ 7 ∷ 7 ∷ 7 ∷ 7 ∷ [])) (replicate 1026 (place 3 1 2 true)) (replicate 60 5); answer = refusal 3; left = packLent ((7 ∷ 7 ∷ 7 ∷ 7 ∷ 7 ∷ [])) (replicate 1026 (place 3 1 2 true)) (replicate 60 5) }
+    record { limits = most; vertices = 3; list = ((0 ∷ 1 ∷ 3 ∷ [])); lent = packLent ((7 ∷ 7 ∷ 7 ∷ 7 ∷ 7 ∷ [])) (replicate 1026 (place 3 1 2 true)) (replicate 60 5); answer = refusal 3; left = packLent ((7 ∷ 7 ∷ 7 ∷ 7 ∷ 7 ∷ [])) (replicate 1026 (place 3 1 2 true)) (replicate 60 5) }
     ∷
     -- 3 before 4: refusal 3
-    record { limits = record { places = 1024; loops = 100 }; vertices = 3; list = ((0 ∷ 3 ∷ 3 ∷ [])); lent = packLent ((7 ∷ 7 ∷ 7 ∷ 7 ∷ 7 ∷ [])) (replicate 1026 (place 3 1 2 true)) (replicate 60 5); answer = refusal 3; left = packLent ((7 ∷ 7 ∷ 7 ∷ 7 ∷ 7 ∷ [])) (replicate 1026 (place 3 1 2 true)) (replicate 60 5) }
+    record { limits = most; vertices = 3; list = ((0 ∷ 3 ∷ 3 ∷ [])); lent = packLent ((7 ∷ 7 ∷ 7 ∷ 7 ∷ 7 ∷ [])) (replicate 1026 (place 3 1 2 true)) (replicate 60 5); answer = refusal 3; left = packLent ((7 ∷ 7 ∷ 7 ∷ 7 ∷ 7 ∷ [])) (replicate 1026 (place 3 1 2 true)) (replicate 60 5) }
     ∷
     -- 4: first and second corner: refusal 4
-    record { limits = record { places = 1024; loops = 100 }; vertices = 3; list = ((0 ∷ 0 ∷ 1 ∷ 0 ∷ 1 ∷ 2 ∷ [])); lent = packLent ((7 ∷ 7 ∷ 7 ∷ 7 ∷ 7 ∷ [])) (replicate 1026 (place 3 1 2 true)) (replicate 60 5); answer = refusal 4; left = packLent ((7 ∷ 7 ∷ 7 ∷ 7 ∷ 7 ∷ [])) (replicate 1026 (place 3 1 2 true)) (replicate 60 5) }
+    record { limits = most; vertices = 3; list = ((0 ∷ 0 ∷ 1 ∷ 0 ∷ 1 ∷ 2 ∷ [])); lent = packLent ((7 ∷ 7 ∷ 7 ∷ 7 ∷ 7 ∷ [])) (replicate 1026 (place 3 1 2 true)) (replicate 60 5); answer = refusal 4; left = packLent ((7 ∷ 7 ∷ 7 ∷ 7 ∷ 7 ∷ [])) (replicate 1026 (place 3 1 2 true)) (replicate 60 5) }
     ∷
     -- 4: second and third corner: refusal 4
-    record { limits = record { places = 1024; loops = 100 }; vertices = 3; list = ((0 ∷ 1 ∷ 2 ∷ 0 ∷ 1 ∷ 1 ∷ [])); lent = packLent ((7 ∷ 7 ∷ 7 ∷ 7 ∷ 7 ∷ [])) (replicate 1026 (place 3 1 2 true)) (replicate 60 5); answer = refusal 4; left = packLent ((7 ∷ 7 ∷ 7 ∷ 7 ∷ 7 ∷ [])) (replicate 1026 (place 3 1 2 true)) (replicate 60 5) }
+    record { limits = most; vertices = 3; list = ((0 ∷ 1 ∷ 2 ∷ 0 ∷ 1 ∷ 1 ∷ [])); lent = packLent ((7 ∷ 7 ∷ 7 ∷ 7 ∷ 7 ∷ [])) (replicate 1026 (place 3 1 2 true)) (replicate 60 5); answer = refusal 4; left = packLent ((7 ∷ 7 ∷ 7 ∷ 7 ∷ 7 ∷ [])) (replicate 1026 (place 3 1 2 true)) (replicate 60 5) }
     ∷
     -- 4: third and first corner: refusal 4
-    record { limits = record { places = 1024; loops = 100 }; vertices = 3; list = ((0 ∷ 1 ∷ 2 ∷ 2 ∷ 0 ∷ 2 ∷ [])); lent = packLent ((7 ∷ 7 ∷ 7 ∷ 7 ∷ 7 ∷ [])) (replicate 1026 (place 3 1 2 true)) (replicate 60 5); answer = refusal 4; left = packLent ((7 ∷ 7 ∷ 7 ∷ 7 ∷ 7 ∷ [])) (replicate 1026 (place 3 1 2 true)) (replicate 60 5) }
+    record { limits = most; vertices = 3; list = ((0 ∷ 1 ∷ 2 ∷ 2 ∷ 0 ∷ 2 ∷ [])); lent = packLent ((7 ∷ 7 ∷ 7 ∷ 7 ∷ 7 ∷ [])) (replicate 1026 (place 3 1 2 true)) (replicate 60 5); answer = refusal 4; left = packLent ((7 ∷ 7 ∷ 7 ∷ 7 ∷ 7 ∷ [])) (replicate 1026 (place 3 1 2 true)) (replicate 60 5) }
     ∷
     -- 4 before 5: refusal 4
-    record { limits = record { places = 1024; loops = 100 }; vertices = 4; list = ((0 ∷ 1 ∷ 2 ∷ 0 ∷ 1 ∷ 3 ∷ 3 ∷ 3 ∷ 0 ∷ [])); lent = packLent ((7 ∷ 7 ∷ 7 ∷ 7 ∷ 7 ∷ 7 ∷ [])) (replicate 1026 (place 3 1 2 true)) (replicate 60 5); answer = refusal 4; left = packLent ((7 ∷ 7 ∷ 7 ∷ 7 ∷ 7 ∷ 7 ∷ [])) (replicate 1026 (place 3 1 2 true)) (replicate 60 5) }
+    record { limits = most; vertices = 4; list = ((0 ∷ 1 ∷ 2 ∷ 0 ∷ 1 ∷ 3 ∷ 3 ∷ 3 ∷ 0 ∷ [])); lent = packLent ((7 ∷ 7 ∷ 7 ∷ 7 ∷ 7 ∷ 7 ∷ [])) (replicate 1026 (place 3 1 2 true)) (replicate 60 5); answer = refusal 4; left = packLent ((7 ∷ 7 ∷ 7 ∷ 7 ∷ 7 ∷ 7 ∷ [])) (replicate 1026 (place 3 1 2 true)) (replicate 60 5) }
     ∷
     -- 5: second edges: refusal 5
-    record { limits = record { places = 1024; loops = 100 }; vertices = 5; list = ((0 ∷ 1 ∷ 2 ∷ 3 ∷ 1 ∷ 2 ∷ 0 ∷ 4 ∷ 3 ∷ [])); lent = packLent ((7 ∷ 7 ∷ 7 ∷ 7 ∷ 7 ∷ 7 ∷ 7 ∷ [])) (replicate 1026 (place 3 1 2 true)) (replicate 60 5); answer = refusal 5; left = packLent ((7 ∷ 7 ∷ 7 ∷ 7 ∷ 7 ∷ 7 ∷ 7 ∷ [])) (replicate 1026 (place 3 1 2 true)) (replicate 60 5) }
+    record { limits = most; vertices = 5; list = ((0 ∷ 1 ∷ 2 ∷ 3 ∷ 1 ∷ 2 ∷ 0 ∷ 4 ∷ 3 ∷ [])); lent = packLent ((7 ∷ 7 ∷ 7 ∷ 7 ∷ 7 ∷ 7 ∷ 7 ∷ [])) (replicate 1026 (place 3 1 2 true)) (replicate 60 5); answer = refusal 5; left = packLent ((7 ∷ 7 ∷ 7 ∷ 7 ∷ 7 ∷ 7 ∷ 7 ∷ [])) (replicate 1026 (place 3 1 2 true)) (replicate 60 5) }
     ∷
     -- 5: a first and a third edge: refusal 5
-    record { limits = record { places = 1024; loops = 100 }; vertices = 4; list = ((0 ∷ 1 ∷ 2 ∷ 1 ∷ 3 ∷ 0 ∷ 2 ∷ 3 ∷ 1 ∷ [])); lent = packLent ((7 ∷ 7 ∷ 7 ∷ 7 ∷ 7 ∷ 7 ∷ [])) (replicate 1026 (place 3 1 2 true)) (replicate 60 5); answer = refusal 5; left = packLent ((7 ∷ 7 ∷ 7 ∷ 7 ∷ 7 ∷ 7 ∷ [])) (replicate 1026 (place 3 1 2 true)) (replicate 60 5) }
+    record { limits = most; vertices = 4; list = ((0 ∷ 1 ∷ 2 ∷ 1 ∷ 3 ∷ 0 ∷ 2 ∷ 3 ∷ 1 ∷ [])); lent = packLent ((7 ∷ 7 ∷ 7 ∷ 7 ∷ 7 ∷ 7 ∷ [])) (replicate 1026 (place 3 1 2 true)) (replicate 60 5); answer = refusal 5; left = packLent ((7 ∷ 7 ∷ 7 ∷ 7 ∷ 7 ∷ 7 ∷ [])) (replicate 1026 (place 3 1 2 true)) (replicate 60 5) }
     ∷
     -- 5 before 6: refusal 5
-    record { limits = record { places = 1024; loops = 100 }; vertices = 5; list = ((0 ∷ 1 ∷ 2 ∷ 0 ∷ 1 ∷ 3 ∷ [])); lent = packLent ((7 ∷ 7 ∷ 7 ∷ 7 ∷ 7 ∷ 7 ∷ 7 ∷ [])) (replicate 1026 (place 3 1 2 true)) (replicate 60 5); answer = refusal 5; left = packLent ((7 ∷ 7 ∷ 7 ∷ 7 ∷ 7 ∷ 7 ∷ 7 ∷ [])) (replicate 1026 (place 3 1 2 true)) (replicate 60 5) }
+    record { limits = most; vertices = 5; list = ((0 ∷ 1 ∷ 2 ∷ 0 ∷ 1 ∷ 3 ∷ [])); lent = packLent ((7 ∷ 7 ∷ 7 ∷ 7 ∷ 7 ∷ 7 ∷ 7 ∷ [])) (replicate 1026 (place 3 1 2 true)) (replicate 60 5); answer = refusal 5; left = packLent ((7 ∷ 7 ∷ 7 ∷ 7 ∷ 7 ∷ 7 ∷ 7 ∷ [])) (replicate 1026 (place 3 1 2 true)) (replicate 60 5) }
     ∷
     -- 6 before 7: refusal 6
-    record { limits = record { places = 1024; loops = 100 }; vertices = 6; list = ((0 ∷ 1 ∷ 2 ∷ 0 ∷ 3 ∷ 4 ∷ [])); lent = packLent (replicate 8 7) (replicate 1026 (place 3 1 2 true)) (replicate 60 5); answer = refusal 6; left = packLent (replicate 8 7) (replicate 1026 (place 3 1 2 true)) (replicate 60 5) }
+    record { limits = most; vertices = 6; list = ((0 ∷ 1 ∷ 2 ∷ 0 ∷ 3 ∷ 4 ∷ [])); lent = packLent (replicate 8 7) (replicate 1026 (place 3 1 2 true)) (replicate 60 5); answer = refusal 6; left = packLent (replicate 8 7) (replicate 1026 (place 3 1 2 true)) (replicate 60 5) }
     ∷
     -- 6: vertex 0: refusal 6
-    record { limits = record { places = 1024; loops = 100 }; vertices = 4; list = ((1 ∷ 2 ∷ 3 ∷ [])); lent = packLent ((7 ∷ 7 ∷ 7 ∷ 7 ∷ 7 ∷ 7 ∷ [])) (replicate 1026 (place 3 1 2 true)) (replicate 60 5); answer = refusal 6; left = packLent ((7 ∷ 7 ∷ 7 ∷ 7 ∷ 7 ∷ 7 ∷ [])) (replicate 1026 (place 3 1 2 true)) (replicate 60 5) }
+    record { limits = most; vertices = 4; list = ((1 ∷ 2 ∷ 3 ∷ [])); lent = packLent ((7 ∷ 7 ∷ 7 ∷ 7 ∷ 7 ∷ 7 ∷ [])) (replicate 1026 (place 3 1 2 true)) (replicate 60 5); answer = refusal 6; left = packLent ((7 ∷ 7 ∷ 7 ∷ 7 ∷ 7 ∷ 7 ∷ [])) (replicate 1026 (place 3 1 2 true)) (replicate 60 5) }
     ∷
     -- 7: a closed fan and an open one: refusal 7
-    record { limits = record { places = 1024; loops = 100 }; vertices = 6; list = ((0 ∷ 1 ∷ 2 ∷ 0 ∷ 2 ∷ 3 ∷ 0 ∷ 3 ∷ 1 ∷ 0 ∷ 4 ∷ 5 ∷ [])); lent = packLent (replicate 8 7) (replicate 1026 (place 3 1 2 true)) (replicate 60 5); answer = refusal 7; left = packLent (replicate 8 7) (replicate 1026 (place 3 1 2 true)) (replicate 60 5) }
+    record { limits = most; vertices = 6; list = ((0 ∷ 1 ∷ 2 ∷ 0 ∷ 2 ∷ 3 ∷ 0 ∷ 3 ∷ 1 ∷ 0 ∷ 4 ∷ 5 ∷ [])); lent = packLent (replicate 8 7) (replicate 1026 (place 3 1 2 true)) (replicate 60 5); answer = refusal 7; left = packLent (replicate 8 7) (replicate 1026 (place 3 1 2 true)) (replicate 60 5) }
     ∷
     -- 7: two closed fans: refusal 7
-    record { limits = record { places = 1024; loops = 100 }; vertices = 7; list = ((0 ∷ 1 ∷ 2 ∷ 0 ∷ 2 ∷ 3 ∷ 0 ∷ 3 ∷ 1 ∷ 0 ∷ 4 ∷ 5 ∷ 0 ∷ 5 ∷ 6 ∷ 0 ∷ 6 ∷ 4 ∷ [])); lent = packLent (replicate 9 7) (replicate 1026 (place 3 1 2 true)) (replicate 60 5); answer = refusal 7; left = packLent (replicate 9 7) (replicate 1026 (place 3 1 2 true)) (replicate 60 5) }
+    record { limits = most; vertices = 7; list = ((0 ∷ 1 ∷ 2 ∷ 0 ∷ 2 ∷ 3 ∷ 0 ∷ 3 ∷ 1 ∷ 0 ∷ 4 ∷ 5 ∷ 0 ∷ 5 ∷ 6 ∷ 0 ∷ 6 ∷ 4 ∷ [])); lent = packLent (replicate 9 7) (replicate 1026 (place 3 1 2 true)) (replicate 60 5); answer = refusal 7; left = packLent (replicate 9 7) (replicate 1026 (place 3 1 2 true)) (replicate 60 5) }
+    ∷
+    -- 7: vertex 1: refusal 7
+    record { limits = most; vertices = 5; list = ((1 ∷ 0 ∷ 2 ∷ 1 ∷ 3 ∷ 4 ∷ [])); lent = packLent ((7 ∷ 7 ∷ 7 ∷ 7 ∷ 7 ∷ 7 ∷ 7 ∷ [])) (replicate 1026 (place 3 1 2 true)) (replicate 60 5); answer = refusal 7; left = packLent ((7 ∷ 7 ∷ 7 ∷ 7 ∷ 7 ∷ 7 ∷ 7 ∷ [])) (replicate 1026 (place 3 1 2 true)) (replicate 60 5) }
+    ∷
+    -- 7: the last vertex: refusal 7
+    record { limits = most; vertices = 5; list = ((4 ∷ 0 ∷ 1 ∷ 4 ∷ 2 ∷ 3 ∷ [])); lent = packLent ((7 ∷ 7 ∷ 7 ∷ 7 ∷ 7 ∷ 7 ∷ 7 ∷ [])) (replicate 1026 (place 3 1 2 true)) (replicate 60 5); answer = refusal 7; left = packLent ((7 ∷ 7 ∷ 7 ∷ 7 ∷ 7 ∷ 7 ∷ 7 ∷ [])) (replicate 1026 (place 3 1 2 true)) (replicate 60 5) }
     ∷
     -- one fan, listed from its middle: accepted
-    record { limits = record { places = 1024; loops = 100 }; vertices = 5; list = ((0 ∷ 2 ∷ 3 ∷ 0 ∷ 1 ∷ 2 ∷ 0 ∷ 3 ∷ 4 ∷ [])); lent = packLent ((7 ∷ 7 ∷ 7 ∷ 7 ∷ 7 ∷ 7 ∷ 7 ∷ [])) (replicate 1026 (place 3 1 2 true)) (replicate 60 5); answer = packed 17; left = packLent ((0 ∷ 3 ∷ 1 ∷ 2 ∷ 4 ∷ 7 ∷ 7 ∷ [])) (replicate 1024 (place 0 0 0 false) ++ ((place 3 1 2 true) ∷ (place 3 1 2 true) ∷ [])) ((1 ∷ 0 ∷ 8 ∷ 0 ∷ 5 ∷ 0 ∷ 3 ∷ 0 ∷ 4 ∷ 0 ∷ 1 ∷ 2 ∷ 0 ∷ 3 ∷ 225 ∷ 176 ∷ 219 ∷ []) ++ replicate 43 5) }
+    record { limits = most; vertices = 5; list = ((0 ∷ 2 ∷ 3 ∷ 0 ∷ 1 ∷ 2 ∷ 0 ∷ 3 ∷ 4 ∷ [])); lent = packLent ((7 ∷ 7 ∷ 7 ∷ 7 ∷ 7 ∷ 7 ∷ 7 ∷ [])) (replicate 1026 (place 3 1 2 true)) (replicate 60 5); answer = packed 17; left = packLent ((0 ∷ 3 ∷ 1 ∷ 2 ∷ 4 ∷ 7 ∷ 7 ∷ [])) (replicate 1024 (place 0 0 0 false) ++ ((place 3 1 2 true) ∷ (place 3 1 2 true) ∷ [])) ((1 ∷ 0 ∷ 8 ∷ 0 ∷ 5 ∷ 0 ∷ 3 ∷ 0 ∷ 4 ∷ 0 ∷ 1 ∷ 2 ∷ 0 ∷ 3 ∷ 225 ∷ 176 ∷ 219 ∷ []) ++ replicate 43 5) }
     ∷
     -- 24,576 numbers: refusal 4
-    record { limits = record { places = 1024; loops = 100 }; vertices = 3; list = (replicate 24576 0); lent = packLent ((7 ∷ 7 ∷ 7 ∷ 7 ∷ 7 ∷ [])) (replicate 1026 (place 3 1 2 true)) (replicate 60 5); answer = refusal 4; left = packLent ((7 ∷ 7 ∷ 7 ∷ 7 ∷ 7 ∷ [])) (replicate 1026 (place 3 1 2 true)) (replicate 60 5) }
+    record { limits = most; vertices = 3; list = (replicate 24576 0); lent = packLent ((7 ∷ 7 ∷ 7 ∷ 7 ∷ 7 ∷ [])) (replicate 1026 (place 3 1 2 true)) (replicate 60 5); answer = refusal 4; left = packLent ((7 ∷ 7 ∷ 7 ∷ 7 ∷ 7 ∷ [])) (replicate 1026 (place 3 1 2 true)) (replicate 60 5) }
     ∷
     -- 1: 24,579 numbers: refusal 1
-    record { limits = record { places = 1024; loops = 100 }; vertices = 3; list = (replicate 24579 0); lent = packLent ((7 ∷ 7 ∷ 7 ∷ 7 ∷ 7 ∷ [])) (replicate 1026 (place 3 1 2 true)) (replicate 60 5); answer = refusal 1; left = packLent ((7 ∷ 7 ∷ 7 ∷ 7 ∷ 7 ∷ [])) (replicate 1026 (place 3 1 2 true)) (replicate 60 5) }
+    record { limits = most; vertices = 3; list = (replicate 24579 0); lent = packLent ((7 ∷ 7 ∷ 7 ∷ 7 ∷ 7 ∷ [])) (replicate 1026 (place 3 1 2 true)) (replicate 60 5); answer = refusal 1; left = packLent ((7 ∷ 7 ∷ 7 ∷ 7 ∷ 7 ∷ [])) (replicate 1026 (place 3 1 2 true)) (replicate 60 5) }
     ∷
     -- 7 before 8: refusal 7
-    record { limits = record { places = 1024; loops = 100 }; vertices = 5; list = ((0 ∷ 1 ∷ 2 ∷ 0 ∷ 3 ∷ 4 ∷ [])); lent = packLent [] (replicate 1026 (place 3 1 2 true)) (replicate 60 5); answer = refusal 7; left = packLent [] (replicate 1026 (place 3 1 2 true)) (replicate 60 5) }
+    record { limits = most; vertices = 5; list = ((0 ∷ 1 ∷ 2 ∷ 0 ∷ 3 ∷ 4 ∷ [])); lent = packLent [] (replicate 1026 (place 3 1 2 true)) (replicate 60 5); answer = refusal 7; left = packLent [] (replicate 1026 (place 3 1 2 true)) (replicate 60 5) }
     ∷
     -- 8: numbering: refusal 8
-    record { limits = record { places = 1024; loops = 100 }; vertices = 3; list = ((0 ∷ 1 ∷ 2 ∷ [])); lent = packLent ((7 ∷ 7 ∷ [])) (replicate 1026 (place 3 1 2 true)) (replicate 60 5); answer = refusal 8; left = packLent ((7 ∷ 7 ∷ [])) (replicate 1026 (place 3 1 2 true)) (replicate 60 5) }
+    record { limits = most; vertices = 3; list = ((0 ∷ 1 ∷ 2 ∷ [])); lent = packLent ((7 ∷ 7 ∷ [])) (replicate 1026 (place 3 1 2 true)) (replicate 60 5); answer = refusal 8; left = packLent ((7 ∷ 7 ∷ [])) (replicate 1026 (place 3 1 2 true)) (replicate 60 5) }
     ∷
     -- 8: places: refusal 8
-    record { limits = record { places = 1024; loops = 100 }; vertices = 3; list = ((0 ∷ 1 ∷ 2 ∷ [])); lent = packLent ((7 ∷ 7 ∷ 7 ∷ 7 ∷ 7 ∷ [])) (replicate 1023 (place 3 1 2 true)) (replicate 60 5); answer = refusal 8; left = packLent ((7 ∷ 7 ∷ 7 ∷ 7 ∷ 7 ∷ [])) (replicate 1023 (place 3 1 2 true)) (replicate 60 5) }
+    record { limits = most; vertices = 3; list = ((0 ∷ 1 ∷ 2 ∷ [])); lent = packLent ((7 ∷ 7 ∷ 7 ∷ 7 ∷ 7 ∷ [])) (replicate 1023 (place 3 1 2 true)) (replicate 60 5); answer = refusal 8; left = packLent ((7 ∷ 7 ∷ 7 ∷ 7 ∷ 7 ∷ [])) (replicate 1023 (place 3 1 2 true)) (replicate 60 5) }
     ∷
     -- 8 before 9: refusal 8
     record { limits = record { places = 3; loops = 1 }; vertices = 4; list = ((0 ∷ 1 ∷ 2 ∷ 1 ∷ 0 ∷ 3 ∷ [])); lent = packLent [] (replicate 1026 (place 3 1 2 true)) (replicate 60 5); answer = refusal 8; left = packLent [] (replicate 1026 (place 3 1 2 true)) (replicate 60 5) }
     ∷
     -- buffers just long enough: accepted
-    record { limits = record { places = 1024; loops = 100 }; vertices = 3; list = ((0 ∷ 1 ∷ 2 ∷ [])); lent = packLent ((7 ∷ 7 ∷ 7 ∷ [])) (replicate 1024 (place 3 1 2 true)) (replicate 16 5); answer = packed 16; left = packLent ((0 ∷ 1 ∷ 2 ∷ [])) (replicate 1024 (place 0 0 0 false)) ((1 ∷ 0 ∷ 8 ∷ 0 ∷ 3 ∷ 0 ∷ 1 ∷ 0 ∷ 3 ∷ 0 ∷ 1 ∷ 2 ∷ 0 ∷ 2 ∷ 237 ∷ 176 ∷ [])) }
+    record { limits = most; vertices = 3; list = ((0 ∷ 1 ∷ 2 ∷ [])); lent = packLent ((7 ∷ 7 ∷ 7 ∷ [])) (replicate 1024 (place 3 1 2 true)) (replicate 16 5); answer = packed 16; left = packLent ((0 ∷ 1 ∷ 2 ∷ [])) (replicate 1024 (place 0 0 0 false)) ((1 ∷ 0 ∷ 8 ∷ 0 ∷ 3 ∷ 0 ∷ 1 ∷ 0 ∷ 3 ∷ 0 ∷ 1 ∷ 2 ∷ 0 ∷ 2 ∷ 237 ∷ 176 ∷ [])) }
     ∷
     -- 9: refusal 9
     record { limits = record { places = 3; loops = 1 }; vertices = 4; list = ((0 ∷ 1 ∷ 2 ∷ 1 ∷ 0 ∷ 3 ∷ [])); lent = packLent ((7 ∷ 7 ∷ 7 ∷ 7 ∷ 7 ∷ 7 ∷ [])) (replicate 1026 (place 3 1 2 true)) (replicate 60 5); answer = refusal 9; left = packLent ((0 ∷ 0 ∷ 0 ∷ 0 ∷ 7 ∷ 7 ∷ [])) (replicate 1024 (place 0 0 0 false) ++ ((place 3 1 2 true) ∷ (place 3 1 2 true) ∷ [])) (replicate 60 0) }
@@ -272,7 +289,7 @@ packRows =
     record { limits = record { places = 1024; loops = 1 }; vertices = 6; list = ((1 ∷ 3 ∷ 2 ∷ 2 ∷ 4 ∷ 5 ∷ 2 ∷ 3 ∷ 4 ∷ 1 ∷ 0 ∷ 3 ∷ 2 ∷ 5 ∷ 0 ∷ 0 ∷ 1 ∷ 2 ∷ [])); lent = packLent (replicate 8 7) (replicate 1026 (place 3 1 2 true)) []; answer = refusal 10; left = packLent ((0 ∷ 0 ∷ 0 ∷ 0 ∷ 0 ∷ 0 ∷ 7 ∷ 7 ∷ [])) (replicate 1024 (place 0 0 0 false) ++ ((place 3 1 2 true) ∷ (place 3 1 2 true) ∷ [])) [] }
     ∷
     -- 11: refusal 11
-    record { limits = record { places = 1024; loops = 100 }; vertices = 3; list = ((0 ∷ 1 ∷ 2 ∷ [])); lent = packLent ((7 ∷ 7 ∷ 7 ∷ 7 ∷ 7 ∷ [])) (replicate 1026 (place 3 1 2 true)) (replicate 15 5); answer = refusal 11; left = packLent ((0 ∷ 0 ∷ 0 ∷ 7 ∷ 7 ∷ [])) (replicate 1024 (place 0 0 0 false) ++ ((place 3 1 2 true) ∷ (place 3 1 2 true) ∷ [])) (replicate 15 0) }
+    record { limits = most; vertices = 3; list = ((0 ∷ 1 ∷ 2 ∷ [])); lent = packLent ((7 ∷ 7 ∷ 7 ∷ 7 ∷ 7 ∷ [])) (replicate 1026 (place 3 1 2 true)) (replicate 15 5); answer = refusal 11; left = packLent ((0 ∷ 0 ∷ 0 ∷ 7 ∷ 7 ∷ [])) (replicate 1024 (place 0 0 0 false) ++ ((place 3 1 2 true) ∷ (place 3 1 2 true) ∷ [])) (replicate 15 0) }
     ∷
     []
 
@@ -506,6 +523,15 @@ unpackRows =
     -- forward to c that has a later place in the loop: accepted
     record { bytes = ((1 ∷ 0 ∷ 8 ∷ 0 ∷ 7 ∷ 0 ∷ 9 ∷ 0 ∷ 9 ∷ 0 ∷ 2 ∷ 2 ∷ 0 ∷ 10 ∷ 224 ∷ 48 ∷ 224 ∷ 5 ∷ 128 ∷ 128 ∷ 97 ∷ 178 ∷ 217 ∷ 96 ∷ [])); lent = unpackLent (replicate 28 6) (replicate 1024 (place 3 1 2 true)); answer = modelOf 7 9 (totalsOf 17 1 1 (negsuc 0)); left = unpackLent ((0 ∷ 1 ∷ 2 ∷ 1 ∷ 0 ∷ 3 ∷ 1 ∷ 3 ∷ 4 ∷ 2 ∷ 1 ∷ 5 ∷ 0 ∷ 2 ∷ 4 ∷ 0 ∷ 4 ∷ 5 ∷ 0 ∷ 5 ∷ 6 ∷ 4 ∷ 3 ∷ 5 ∷ 5 ∷ 1 ∷ 6 ∷ 6 ∷ [])) (replicate 1024 (place 0 0 0 false)) }
     ∷
+    -- turning about c through more triangles than its number: accepted
+    record { bytes = ((1 ∷ 0 ∷ 8 ∷ 0 ∷ 9 ∷ 0 ∷ 17 ∷ 0 ∷ 10 ∷ 0 ∷ 2 ∷ 2 ∷ 0 ∷ 14 ∷ 224 ∷ 0 ∷ 9 ∷ 128 ∷ 22 ∷ 2 ∷ 1 ∷ 177 ∷ 0 ∷ 84 ∷ 220 ∷ 0 ∷ 234 ∷ 160 ∷ [])); lent = unpackLent (replicate 52 6) (replicate 1024 (place 3 1 2 true)); answer = modelOf 9 17 (totalsOf 27 1 1 (negsuc 0)); left = unpackLent ((0 ∷ 1 ∷ 2 ∷ 1 ∷ 0 ∷ 3 ∷ 1 ∷ 3 ∷ 4 ∷ 1 ∷ 4 ∷ 5 ∷ 1 ∷ 5 ∷ 6 ∷ 1 ∷ 6 ∷ 7 ∷ 1 ∷ 7 ∷ 2 ∷ 2 ∷ 7 ∷ 0 ∷ 0 ∷ 7 ∷ 4 ∷ 0 ∷ 4 ∷ 6 ∷ 3 ∷ 0 ∷ 8 ∷ 3 ∷ 8 ∷ 5 ∷ 5 ∷ 8 ∷ 0 ∷ 3 ∷ 5 ∷ 7 ∷ 7 ∷ 5 ∷ 4 ∷ 3 ∷ 7 ∷ 6 ∷ 3 ∷ 6 ∷ 4 ∷ 6 ∷ [])) (replicate 1024 (place 0 0 0 false)) }
+    ∷
+    -- the last place of a loop has the vertex that is looked for, and its edge leads to another: accepted
+    record { bytes = ((1 ∷ 0 ∷ 8 ∷ 0 ∷ 9 ∷ 0 ∷ 17 ∷ 0 ∷ 10 ∷ 0 ∷ 2 ∷ 2 ∷ 0 ∷ 14 ∷ 224 ∷ 0 ∷ 216 ∷ 128 ∷ 24 ∷ 56 ∷ 8 ∷ 5 ∷ 0 ∷ 106 ∷ 84 ∷ 0 ∷ 169 ∷ 96 ∷ [])); lent = unpackLent (replicate 52 6) (replicate 1024 (place 3 1 2 true)); answer = modelOf 9 17 (totalsOf 27 1 1 (negsuc 0)); left = unpackLent ((0 ∷ 1 ∷ 2 ∷ 1 ∷ 0 ∷ 3 ∷ 1 ∷ 3 ∷ 4 ∷ 1 ∷ 4 ∷ 5 ∷ 1 ∷ 5 ∷ 6 ∷ 0 ∷ 2 ∷ 7 ∷ 0 ∷ 7 ∷ 5 ∷ 0 ∷ 5 ∷ 8 ∷ 0 ∷ 8 ∷ 3 ∷ 3 ∷ 8 ∷ 6 ∷ 3 ∷ 6 ∷ 7 ∷ 7 ∷ 6 ∷ 5 ∷ 3 ∷ 7 ∷ 4 ∷ 4 ∷ 7 ∷ 2 ∷ 4 ∷ 2 ∷ 8 ∷ 4 ∷ 8 ∷ 5 ∷ 8 ∷ 2 ∷ 6 ∷ 6 ∷ [])) (replicate 1024 (place 0 0 0 false)) }
+    ∷
+    -- turning about c through more triangles than the loop has places: accepted
+    record { bytes = ((1 ∷ 0 ∷ 8 ∷ 0 ∷ 17 ∷ 0 ∷ 23 ∷ 0 ∷ 10 ∷ 0 ∷ 3 ∷ 2 ∷ 0 ∷ 16 ∷ 224 ∷ 128 ∷ 196 ∷ 0 ∷ 128 ∷ 13 ∷ 184 ∷ 1 ∷ 6 ∷ 195 ∷ 101 ∷ 128 ∷ 0 ∷ 45 ∷ 146 ∷ 203 ∷ [])); lent = unpackLent (replicate 70 6) (replicate 1024 (place 3 1 2 true)); answer = modelOf 17 23 (totalsOf 41 3 0 (negsuc 0)); left = unpackLent ((0 ∷ 1 ∷ 2 ∷ 1 ∷ 0 ∷ 3 ∷ 1 ∷ 3 ∷ 2 ∷ 2 ∷ 3 ∷ 4 ∷ 2 ∷ 4 ∷ 5 ∷ 0 ∷ 2 ∷ 6 ∷ 0 ∷ 6 ∷ 4 ∷ 0 ∷ 4 ∷ 7 ∷ 0 ∷ 7 ∷ 8 ∷ 0 ∷ 8 ∷ 9 ∷ 7 ∷ 4 ∷ 9 ∷ 9 ∷ 4 ∷ 10 ∷ 7 ∷ 9 ∷ 11 ∷ 9 ∷ 8 ∷ 11 ∷ 4 ∷ 6 ∷ 12 ∷ 4 ∷ 12 ∷ 13 ∷ 4 ∷ 13 ∷ 14 ∷ 4 ∷ 14 ∷ 15 ∷ 4 ∷ 15 ∷ 16 ∷ 4 ∷ 16 ∷ 5 ∷ 12 ∷ 6 ∷ 13 ∷ 13 ∷ 6 ∷ 14 ∷ 15 ∷ 14 ∷ 16 ∷ 6 ∷ [])) (replicate 1024 (place 0 0 0 false)) }
+    ∷
     -- buffers just long enough: accepted
     record { bytes = ((1 ∷ 0 ∷ 8 ∷ 0 ∷ 3 ∷ 0 ∷ 1 ∷ 0 ∷ 3 ∷ 0 ∷ 1 ∷ 2 ∷ 0 ∷ 2 ∷ 237 ∷ 176 ∷ [])); lent = unpackLent ((6 ∷ 6 ∷ 6 ∷ [])) (replicate 1024 (place 3 1 2 true)); answer = modelOf 3 1 (totalsOf 3 1 0 (pos 1)); left = unpackLent ((0 ∷ 1 ∷ 2 ∷ [])) (replicate 1024 (place 0 0 0 false)) }
     ∷
@@ -571,6 +597,30 @@ unpackRows =
     ∷
     -- 19: the peak in full loops is stated: refusal 19
     record { bytes = ((1 ∷ 0 ∷ 8 ∷ 0 ∷ 4 ∷ 0 ∷ 2 ∷ 0 ∷ 4 ∷ 0 ∷ 1 ∷ 2 ∷ 0 ∷ 3 ∷ 237 ∷ 134 ∷ 192 ∷ [])); lent = unpackLent (replicate 32 6) (replicate 1024 (place 3 1 2 true)); answer = refusal 19; left = unpackLent ((0 ∷ 0 ∷ 0 ∷ 0 ∷ 0 ∷ 0 ∷ []) ++ replicate 26 6) (replicate 1024 (place 0 0 0 false)) }
+    ∷
+    -- 12: tag 00 for 01: refusal 12
+    record { bytes = ((0 ∷ 0 ∷ 8 ∷ 0 ∷ 3 ∷ 0 ∷ 1 ∷ 0 ∷ 3 ∷ 0 ∷ 1 ∷ 2 ∷ 0 ∷ 2 ∷ 237 ∷ 176 ∷ [])); lent = unpackLent (replicate 32 6) (replicate 1024 (place 3 1 2 true)); answer = refusal 12; left = unpackLent (replicate 32 6) (replicate 1024 (place 3 1 2 true)) }
+    ∷
+    -- 12: tag 01 for 02: refusal 12
+    record { bytes = ((1 ∷ 0 ∷ 8 ∷ 0 ∷ 3 ∷ 0 ∷ 1 ∷ 0 ∷ 3 ∷ 0 ∷ 1 ∷ 1 ∷ 0 ∷ 2 ∷ 237 ∷ 176 ∷ [])); lent = unpackLent (replicate 32 6) (replicate 1024 (place 3 1 2 true)); answer = refusal 12; left = unpackLent (replicate 32 6) (replicate 1024 (place 3 1 2 true)) }
+    ∷
+    -- 12: tag 03 for 02: refusal 12
+    record { bytes = ((1 ∷ 0 ∷ 8 ∷ 0 ∷ 3 ∷ 0 ∷ 1 ∷ 0 ∷ 3 ∷ 0 ∷ 1 ∷ 3 ∷ 0 ∷ 2 ∷ 237 ∷ 176 ∷ [])); lent = unpackLent (replicate 32 6) (replicate 1024 (place 3 1 2 true)); answer = refusal 12; left = unpackLent (replicate 32 6) (replicate 1024 (place 3 1 2 true)) }
+    ∷
+    -- 12: a length of 264: refusal 12
+    record { bytes = ((1 ∷ 1 ∷ 8 ∷ 0 ∷ 3 ∷ 0 ∷ 1 ∷ 0 ∷ 3 ∷ 0 ∷ 1 ∷ 2 ∷ 0 ∷ 2 ∷ 237 ∷ 176 ∷ [])); lent = unpackLent (replicate 32 6) (replicate 1024 (place 3 1 2 true)); answer = refusal 12; left = unpackLent (replicate 32 6) (replicate 1024 (place 3 1 2 true)) }
+    ∷
+    -- 12: a length of 258: refusal 12
+    record { bytes = ((1 ∷ 0 ∷ 8 ∷ 0 ∷ 3 ∷ 0 ∷ 1 ∷ 0 ∷ 3 ∷ 0 ∷ 1 ∷ 2 ∷ 1 ∷ 2 ∷ 237 ∷ 176 ∷ [])); lent = unpackLent (replicate 32 6) (replicate 1024 (place 3 1 2 true)); answer = refusal 12; left = unpackLent (replicate 32 6) (replicate 1024 (place 3 1 2 true)) }
+    ∷
+    -- 15: a union breaks off inside p: refusal 15
+    record { bytes = ((1 ∷ 0 ∷ 8 ∷ 0 ∷ 9 ∷ 0 ∷ 9 ∷ 0 ∷ 9 ∷ 0 ∷ 9 ∷ 2 ∷ 0 ∷ 1 ∷ 248 ∷ [])); lent = unpackLent (replicate 32 6) (replicate 1024 (place 3 1 2 true)); answer = refusal 15; left = unpackLent (replicate 27 0 ++ (6 ∷ 6 ∷ 6 ∷ 6 ∷ 6 ∷ [])) (replicate 1024 (place 0 0 0 false)) }
+    ∷
+    -- 15: a union breaks off inside j: refusal 15
+    record { bytes = ((1 ∷ 0 ∷ 8 ∷ 0 ∷ 9 ∷ 0 ∷ 9 ∷ 0 ∷ 9 ∷ 0 ∷ 9 ∷ 2 ∷ 0 ∷ 2 ∷ 248 ∷ 8 ∷ [])); lent = unpackLent (replicate 32 6) (replicate 1024 (place 3 1 2 true)); answer = refusal 15; left = unpackLent (replicate 27 0 ++ (6 ∷ 6 ∷ 6 ∷ 6 ∷ 6 ∷ [])) (replicate 1024 (place 0 0 0 false)) }
+    ∷
+    -- a field of 256 bytes: refusal 19
+    record { bytes = ((1 ∷ 0 ∷ 8 ∷ 0 ∷ 3 ∷ 0 ∷ 1 ∷ 0 ∷ 3 ∷ 0 ∷ 1 ∷ 2 ∷ 1 ∷ 0 ∷ 237 ∷ 176 ∷ []) ++ replicate 254 0); lent = unpackLent (replicate 32 6) (replicate 1024 (place 3 1 2 true)); answer = refusal 19; left = unpackLent ((0 ∷ 0 ∷ 0 ∷ []) ++ replicate 29 6) (replicate 1024 (place 0 0 0 false)) }
     ∷
     []
 
@@ -689,6 +739,15 @@ callRows =
     ∷
     -- forward to c that has a later place in the loop
     record { lengths = lengths 27 1024; calls = begin (counts 7 9 9 2) ∷ operate Start ∷ operate New ∷ operate New ∷ operate Border ∷ operate New ∷ operate Border ∷ operate (Split 2) ∷ operate (Union 1 3) ∷ operate New ∷ operate Border ∷ operate Border ∷ operate Forward ∷ operate Border ∷ operate Border ∷ operate Forward ∷ operate Border ∷ finish ∷ []; told = accepted ∷ triangle (tri 0 1 2) ∷ triangle (tri 1 0 3) ∷ triangle (tri 1 3 4) ∷ no-triangle ∷ triangle (tri 2 1 5) ∷ no-triangle ∷ triangle (tri 0 2 4) ∷ triangle (tri 0 4 5) ∷ triangle (tri 0 5 6) ∷ no-triangle ∷ no-triangle ∷ triangle (tri 4 3 5) ∷ no-triangle ∷ no-triangle ∷ triangle (tri 5 1 6) ∷ no-triangle ∷ numbers (totalsOf 17 1 1 (negsuc 0)) ∷ []; machine = ((7 ∷ 17 ∷ 9 ∷ 2 ∷ 1 ∷ 1 ∷ 1 ∷ 0 ∷ 1 ∷ 2 ∷ 1 ∷ 0 ∷ 3 ∷ 1 ∷ 3 ∷ 4 ∷ 2 ∷ 1 ∷ 5 ∷ 0 ∷ 2 ∷ 4 ∷ 0 ∷ 4 ∷ 5 ∷ 0 ∷ 5 ∷ 6 ∷ 4 ∷ 3 ∷ 5 ∷ 5 ∷ 1 ∷ 6 ∷ [])); borders = ((1 ∷ 6 ∷ 2 ∷ 4 ∷ 3 ∷ 5 ∷ 0 ∷ 3 ∷ 6 ∷ 0 ∷ 5 ∷ 2 ∷ 4 ∷ 1 ∷ [])) }
+    ∷
+    -- turning about c through more triangles than its number
+    record { lengths = lengths 51 1024; calls = begin (counts 9 17 10 2) ∷ operate Start ∷ operate New ∷ operate New ∷ operate New ∷ operate New ∷ operate New ∷ operate Forward ∷ operate Forward ∷ operate (Split 2) ∷ operate (Union 1 3) ∷ operate Border ∷ operate New ∷ operate (Split 5) ∷ operate Backward ∷ operate Border ∷ operate Border ∷ operate (Split 3) ∷ operate Close ∷ operate Backward ∷ operate Close ∷ finish ∷ []; told = accepted ∷ triangle (tri 0 1 2) ∷ triangle (tri 1 0 3) ∷ triangle (tri 1 3 4) ∷ triangle (tri 1 4 5) ∷ triangle (tri 1 5 6) ∷ triangle (tri 1 6 7) ∷ triangle (tri 1 7 2) ∷ triangle (tri 2 7 0) ∷ triangle (tri 0 7 4) ∷ triangle (tri 0 4 6) ∷ no-triangle ∷ triangle (tri 3 0 8) ∷ triangle (tri 3 8 5) ∷ triangle (tri 5 8 0) ∷ no-triangle ∷ no-triangle ∷ triangle (tri 3 5 7) ∷ triangle (tri 7 5 4) ∷ triangle (tri 3 7 6) ∷ triangle (tri 3 6 4) ∷ numbers (totalsOf 27 1 1 (negsuc 0)) ∷ []; machine = ((9 ∷ 27 ∷ 10 ∷ 2 ∷ 1 ∷ 1 ∷ 1 ∷ 0 ∷ 1 ∷ 2 ∷ 1 ∷ 0 ∷ 3 ∷ 1 ∷ 3 ∷ 4 ∷ 1 ∷ 4 ∷ 5 ∷ 1 ∷ 5 ∷ 6 ∷ 1 ∷ 6 ∷ 7 ∷ 1 ∷ 7 ∷ 2 ∷ 2 ∷ 7 ∷ 0 ∷ 0 ∷ 7 ∷ 4 ∷ 0 ∷ 4 ∷ 6 ∷ 3 ∷ 0 ∷ 8 ∷ 3 ∷ 8 ∷ 5 ∷ 5 ∷ 8 ∷ 0 ∷ 3 ∷ 5 ∷ 7 ∷ 7 ∷ 5 ∷ 4 ∷ 3 ∷ 7 ∷ 6 ∷ 3 ∷ 6 ∷ 4 ∷ [])); borders = ((5 ∷ 6 ∷ 0 ∷ 5 ∷ 6 ∷ 0 ∷ [])) }
+    ∷
+    -- the last place of a loop has the vertex that is looked for, and its edge leads to another
+    record { lengths = lengths 51 1024; calls = begin (counts 9 17 10 2) ∷ operate Start ∷ operate New ∷ operate New ∷ operate New ∷ operate New ∷ operate Border ∷ operate Border ∷ operate New ∷ operate (Split 3) ∷ operate New ∷ operate Forward ∷ operate (Union 1 2) ∷ operate (Split 6) ∷ operate Close ∷ operate Forward ∷ operate Backward ∷ operate (Split 2) ∷ operate Close ∷ operate Forward ∷ operate Border ∷ finish ∷ []; told = accepted ∷ triangle (tri 0 1 2) ∷ triangle (tri 1 0 3) ∷ triangle (tri 1 3 4) ∷ triangle (tri 1 4 5) ∷ triangle (tri 1 5 6) ∷ no-triangle ∷ no-triangle ∷ triangle (tri 0 2 7) ∷ triangle (tri 0 7 5) ∷ triangle (tri 0 5 8) ∷ triangle (tri 0 8 3) ∷ triangle (tri 3 8 6) ∷ triangle (tri 3 6 7) ∷ triangle (tri 7 6 5) ∷ triangle (tri 3 7 4) ∷ triangle (tri 4 7 2) ∷ triangle (tri 4 2 8) ∷ triangle (tri 4 8 5) ∷ triangle (tri 8 2 6) ∷ no-triangle ∷ numbers (totalsOf 27 1 1 (negsuc 0)) ∷ []; machine = ((9 ∷ 27 ∷ 10 ∷ 2 ∷ 1 ∷ 1 ∷ 1 ∷ 0 ∷ 1 ∷ 2 ∷ 1 ∷ 0 ∷ 3 ∷ 1 ∷ 3 ∷ 4 ∷ 1 ∷ 4 ∷ 5 ∷ 1 ∷ 5 ∷ 6 ∷ 0 ∷ 2 ∷ 7 ∷ 0 ∷ 7 ∷ 5 ∷ 0 ∷ 5 ∷ 8 ∷ 0 ∷ 8 ∷ 3 ∷ 3 ∷ 8 ∷ 6 ∷ 3 ∷ 6 ∷ 7 ∷ 7 ∷ 6 ∷ 5 ∷ 3 ∷ 7 ∷ 4 ∷ 4 ∷ 7 ∷ 2 ∷ 4 ∷ 2 ∷ 8 ∷ 4 ∷ 8 ∷ 5 ∷ 8 ∷ 2 ∷ 6 ∷ [])); borders = ((2 ∷ 6 ∷ 1 ∷ 2 ∷ 6 ∷ 1 ∷ [])) }
+    ∷
+    -- turning about c through more triangles than the loop has places
+    record { lengths = lengths 69 1024; calls = begin (counts 17 23 10 3) ∷ operate Start ∷ operate New ∷ operate Forward ∷ operate New ∷ operate New ∷ operate Border ∷ operate New ∷ operate (Split 2) ∷ operate New ∷ operate New ∷ operate New ∷ operate Border ∷ operate Border ∷ operate Border ∷ operate (Split 2) ∷ operate New ∷ operate Border ∷ operate Border ∷ operate New ∷ operate Border ∷ operate Border ∷ operate Forward ∷ operate Border ∷ operate New ∷ operate New ∷ operate New ∷ operate New ∷ operate New ∷ operate Forward ∷ operate Border ∷ operate Border ∷ operate Forward ∷ operate Forward ∷ operate Border ∷ operate Forward ∷ operate Border ∷ finish ∷ []; told = accepted ∷ triangle (tri 0 1 2) ∷ triangle (tri 1 0 3) ∷ triangle (tri 1 3 2) ∷ triangle (tri 2 3 4) ∷ triangle (tri 2 4 5) ∷ no-triangle ∷ triangle (tri 0 2 6) ∷ triangle (tri 0 6 4) ∷ triangle (tri 0 4 7) ∷ triangle (tri 0 7 8) ∷ triangle (tri 0 8 9) ∷ no-triangle ∷ no-triangle ∷ no-triangle ∷ triangle (tri 7 4 9) ∷ triangle (tri 9 4 10) ∷ no-triangle ∷ no-triangle ∷ triangle (tri 7 9 11) ∷ no-triangle ∷ no-triangle ∷ triangle (tri 9 8 11) ∷ no-triangle ∷ triangle (tri 4 6 12) ∷ triangle (tri 4 12 13) ∷ triangle (tri 4 13 14) ∷ triangle (tri 4 14 15) ∷ triangle (tri 4 15 16) ∷ triangle (tri 4 16 5) ∷ no-triangle ∷ no-triangle ∷ triangle (tri 12 6 13) ∷ triangle (tri 13 6 14) ∷ no-triangle ∷ triangle (tri 15 14 16) ∷ no-triangle ∷ numbers (totalsOf 41 3 0 (negsuc 0)) ∷ []; machine = ((17 ∷ 41 ∷ 10 ∷ 3 ∷ 1 ∷ 0 ∷ 3 ∷ 0 ∷ 1 ∷ 2 ∷ 1 ∷ 0 ∷ 3 ∷ 1 ∷ 3 ∷ 2 ∷ 2 ∷ 3 ∷ 4 ∷ 2 ∷ 4 ∷ 5 ∷ 0 ∷ 2 ∷ 6 ∷ 0 ∷ 6 ∷ 4 ∷ 0 ∷ 4 ∷ 7 ∷ 0 ∷ 7 ∷ 8 ∷ 0 ∷ 8 ∷ 9 ∷ 7 ∷ 4 ∷ 9 ∷ 9 ∷ 4 ∷ 10 ∷ 7 ∷ 9 ∷ 11 ∷ 9 ∷ 8 ∷ 11 ∷ 4 ∷ 6 ∷ 12 ∷ 4 ∷ 12 ∷ 13 ∷ 4 ∷ 13 ∷ 14 ∷ 4 ∷ 14 ∷ 15 ∷ 4 ∷ 15 ∷ 16 ∷ 4 ∷ 16 ∷ 5 ∷ 12 ∷ 6 ∷ 13 ∷ 13 ∷ 6 ∷ 14 ∷ 15 ∷ 14 ∷ 16 ∷ [])); borders = ((14 ∷ 16 ∷ 6 ∷ 14 ∷ 2 ∷ 6 ∷ 16 ∷ 5 ∷ 8 ∷ 11 ∷ 7 ∷ 8 ∷ 11 ∷ 7 ∷ 4 ∷ 10 ∷ 10 ∷ 9 ∷ 3 ∷ 4 ∷ 0 ∷ 3 ∷ 9 ∷ 0 ∷ 5 ∷ 2 ∷ [])) }
     ∷
     -- M10
     record { lengths = lengths 24576 1024; calls = begin (counts 4096 8192 1024 100) ∷ operate Start ∷ operate New ∷ operate New ∷ operate (Split 2) ∷ []; told = accepted ∷ triangle (tri 0 1 2) ∷ triangle (tri 1 0 3) ∷ triangle (tri 1 3 4) ∷ refusal 18 ∷ []; machine = ((5 ∷ 7 ∷ 5 ∷ 1 ∷ 1 ∷ 0 ∷ 0 ∷ 0 ∷ 1 ∷ 2 ∷ 1 ∷ 0 ∷ 3 ∷ 1 ∷ 3 ∷ 4 ∷ 5 ∷ 4 ∷ 1 ∷ 1 ∷ 1 ∷ 2 ∷ 1 ∷ 0 ∷ 1 ∷ 3 ∷ 1 ∷ [])); borders = [] }
@@ -813,8 +872,43 @@ callRows =
     -- after a union c→b is current
     record { lengths = lengths 180 1024; calls = begin (counts 60 60 60 9) ∷ operate Start ∷ operate New ∷ operate New ∷ operate Border ∷ operate New ∷ operate (Split 3) ∷ operate (Union 1 2) ∷ []; told = accepted ∷ triangle (tri 0 1 2) ∷ triangle (tri 1 0 3) ∷ triangle (tri 1 3 4) ∷ no-triangle ∷ triangle (tri 2 1 5) ∷ triangle (tri 2 5 4) ∷ triangle (tri 4 5 0) ∷ []; machine = ((6 ∷ 13 ∷ 8 ∷ 2 ∷ 1 ∷ 1 ∷ 0 ∷ 0 ∷ 1 ∷ 2 ∷ 1 ∷ 0 ∷ 3 ∷ 1 ∷ 3 ∷ 4 ∷ 2 ∷ 1 ∷ 5 ∷ 2 ∷ 5 ∷ 4 ∷ 4 ∷ 5 ∷ 0 ∷ 8 ∷ 0 ∷ 1 ∷ 4 ∷ 0 ∷ 1 ∷ 1 ∷ 5 ∷ 1 ∷ 0 ∷ 1 ∷ 3 ∷ 1 ∷ 4 ∷ 1 ∷ 2 ∷ 1 ∷ [])); borders = ((4 ∷ 1 ∷ [])) }
     ∷
+    -- a beginning alone
+    record { lengths = lengths 18 1024; calls = begin (counts 5 6 7 8) ∷ []; told = accepted ∷ []; machine = ((0 ∷ 0 ∷ 0 ∷ 0 ∷ 0 ∷ 0 ∷ 0 ∷ [])); borders = [] }
+    ∷
+    -- union 1 of two waiting loops
+    record { lengths = lengths 180 1024; calls = begin (counts 60 60 60 9) ∷ operate Start ∷ operate New ∷ operate Border ∷ operate New ∷ operate (Split 2) ∷ operate New ∷ operate New ∷ operate Border ∷ operate New ∷ operate (Split 3) ∷ operate New ∷ operate (Union 1 1) ∷ operate (Union 1 2) ∷ []; told = accepted ∷ triangle (tri 0 1 2) ∷ triangle (tri 1 0 3) ∷ no-triangle ∷ triangle (tri 2 1 4) ∷ triangle (tri 2 4 3) ∷ triangle (tri 2 3 5) ∷ triangle (tri 2 5 6) ∷ no-triangle ∷ triangle (tri 0 2 7) ∷ triangle (tri 0 7 6) ∷ triangle (tri 6 7 8) ∷ refusal 18 ∷ triangle (tri 6 8 3) ∷ []; machine = ((9 ∷ 21 ∷ 12 ∷ 3 ∷ 1 ∷ 1 ∷ 0 ∷ 0 ∷ 1 ∷ 2 ∷ 1 ∷ 0 ∷ 3 ∷ 2 ∷ 1 ∷ 4 ∷ 2 ∷ 4 ∷ 3 ∷ 2 ∷ 3 ∷ 5 ∷ 2 ∷ 5 ∷ 6 ∷ 0 ∷ 2 ∷ 7 ∷ 0 ∷ 7 ∷ 6 ∷ 6 ∷ 7 ∷ 8 ∷ 6 ∷ 8 ∷ 3 ∷ 9 ∷ 3 ∷ 1 ∷ 6 ∷ 0 ∷ 2 ∷ 1 ∷ 7 ∷ 1 ∷ 8 ∷ 1 ∷ 3 ∷ 1 ∷ 5 ∷ 1 ∷ 6 ∷ 1 ∷ 0 ∷ 1 ∷ 3 ∷ 4 ∷ 1 ∷ 3 ∷ 0 ∷ 1 ∷ 1 ∷ [])); borders = ((6 ∷ 2 ∷ 3 ∷ 1 ∷ [])) }
+    ∷
     []
 
-pub table : T (allRight packRight packRows && allRight unpackRight unpackRows && allRight callsRight callRows)
-unfolding equal equalPlaces equalAnswers packRight unpackRight writtenRing writtenRings writtenEdges callsRight allRight trianglesOf corners edgesOf same hit occurs count different pairs about leaving entering turnOn turnBack oneRun oneFanEach inTriangle across allBelow allDistinct noneTwice allUsed passes checkTriangles check allOpen vertexAt lastOpen lastVertex front onward reached places loopAt without allowed inOrder atEdge atRest effect cleared test done beginning finishing answers afterAll logAll bits valueOf bitsOfBytes bytesWithin readNumber allZero operationBits operationsBits kindIn readOperation packBytes takeField fieldsOf has dropTriangle turnIn turnOut edgeIn spotOf choosePlace limited taking chooseAt chooseIn chooseAll indexOf newNumbers packChosen packChecked runAll numbersOf unpackRun unpackFields follow followed nodes placesOf openAmong loopsOf trianglesBuilt view sizesOf apart placesFit loopsFit linksFit sound packRows unpackRows callRows
+unfoldable pub fieldsRows : List FieldsRow
+fieldsRows =
+    -- 3 bytes of operations
+    record { stated = counts 4096 8192 1024 100; ops = ((165 ∷ 165 ∷ 165 ∷ [])); bytes = ((1 ∷ 0 ∷ 8 ∷ 16 ∷ 0 ∷ 32 ∷ 0 ∷ 4 ∷ 0 ∷ 0 ∷ 100 ∷ 2 ∷ 0 ∷ 3 ∷ 165 ∷ 165 ∷ 165 ∷ [])) }
+    ∷
+    -- 300 bytes of operations
+    record { stated = counts 2748 7421 803 77; ops = (replicate 300 165); bytes = ((1 ∷ 0 ∷ 8 ∷ 10 ∷ 188 ∷ 28 ∷ 253 ∷ 3 ∷ 35 ∷ 0 ∷ 77 ∷ 2 ∷ 1 ∷ 44 ∷ []) ++ replicate 300 165) }
+    ∷
+    []
+
+unfoldable pub lookRows : List LookRow
+lookRows =
+    -- a first edge
+    record { list = ((5 ∷ 6 ∷ 7 ∷ 6 ∷ 5 ∷ 8 ∷ 7 ∷ 6 ∷ 8 ∷ 5 ∷ 6 ∷ 9 ∷ [])); from = 6; to = 5; told = ((1 ∷ 2 ∷ 8 ∷ [])) }
+    ∷
+    -- a second edge
+    record { list = ((5 ∷ 6 ∷ 7 ∷ 6 ∷ 5 ∷ 8 ∷ 7 ∷ 6 ∷ 8 ∷ 5 ∷ 6 ∷ 9 ∷ [])); from = 6; to = 8; told = ((2 ∷ 0 ∷ 7 ∷ [])) }
+    ∷
+    -- a third edge
+    record { list = ((5 ∷ 6 ∷ 7 ∷ 6 ∷ 5 ∷ 8 ∷ 7 ∷ 6 ∷ 8 ∷ 5 ∷ 6 ∷ 9 ∷ [])); from = 7; to = 5; told = ((0 ∷ 1 ∷ 6 ∷ [])) }
+    ∷
+    -- none
+    record { list = ((5 ∷ 6 ∷ 7 ∷ 6 ∷ 5 ∷ 8 ∷ 7 ∷ 6 ∷ 8 ∷ 5 ∷ 6 ∷ 9 ∷ [])); from = 5; to = 7; told = [] }
+    ∷
+    -- the last of two
+    record { list = ((5 ∷ 6 ∷ 7 ∷ 6 ∷ 5 ∷ 8 ∷ 7 ∷ 6 ∷ 8 ∷ 5 ∷ 6 ∷ 9 ∷ [])); from = 5; to = 6; told = ((3 ∷ 2 ∷ 9 ∷ [])) }
+    ∷
+    []
+
+pub table : T (allRight packRight packRows && allRight unpackRight unpackRows && allRight callsRight callRows && allRight fieldsRight fieldsRows && allRight lookRight lookRows)
+unfolding equal equalPlaces equalAnswers packRight unpackRight writtenRing writtenRings writtenEdges callsRight fieldsRight lookRight allRight trianglesOf corners edgesOf same hit occurs count different pairs about leaving entering turnOn turnBack oneRun oneFanEach inTriangle across allBelow allDistinct noneTwice allUsed passes checkTriangles check allOpen vertexAt lastOpen lastVertex front onward reached places loopAt without allowed inOrder atEdge atRest effect placesAt ringsAfter cleared test done beginning finishing answers afterAll logAll bits valueOf bitsOfBytes bytesWithin readNumber allZero operationBits operationsBits kindIn readOperation packBytes takeField fieldsOf has dropTriangle turnIn turnOut edgeIn spotOf choosePlace limited taking chooseAt chooseIn chooseAll indexOf newNumbers packChosen packChecked runAll numbersOf unpackRun unpackFields follow followed nodes placesOf openAmong loopsOf placeNodes placeRings trianglesBuilt view sizesOf apart placesFit loopsFit linksFit soundElse sound packRows unpackRows callRows fieldsRows lookRows
 table = tt

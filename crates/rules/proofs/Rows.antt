@@ -10,7 +10,9 @@ use lib.IntN.{ℤ, pos, negsuc}
 use Rattle.rules.specs.declared.Counts.{Counts}
 use Rattle.rules.specs.declared.Place.{Place}
 use Rattle.rules.specs.declared.Totals.{Totals}
-use Rattle.rules.specs.Triangle.{Edge}
+use Rattle.rules.specs.declared.Across.{Across}
+use Rattle.rules.specs.declared.Across.the-variants.{Found, Nothing}
+use Rattle.rules.specs.Triangle.{Edge, trianglesOf}
 use Rattle.rules.specs.Count.{num}
 use Rattle.rules.specs.Ring.{Ring, vertex, isOpen}
 use Rattle.rules.specs.Machine.{Machine}
@@ -19,6 +21,8 @@ use Rattle.rules.specs.Book.{Book, Call, emptyBook}
 use Rattle.rules.specs.Calls.{answers, afterAll}
 use Rattle.rules.specs.Pack.{Most, PackBuffers, PackResult, packWithin}
 use Rattle.rules.specs.Buffer.{Buffers, Lengths}
+use Rattle.rules.specs.Across.{across}
+use Rattle.rules.specs.Fields.{Fields, no-pack, fields, packBytes, fieldsOf}
 use Rattle.rules.specs.Unpack.{UnpackResult, numbersOf, unpack}
 
 unfoldable pub equal : List ℕ → List ℕ → Bool
@@ -135,6 +139,35 @@ noBook = emptyBook (counts 0 0 0 0)
 unfoldable pub callsRight : CallRow → Bool
 callsRight x =
     equalAnswers (answers (x .lengths) noBook (x .calls)) (x .told) && sameBook (afterAll (x .lengths) noBook (x .calls)) x
+
+-- counts and operations, and the pack that has them: written, and read back
+pub record FieldsRow : Type 0 where
+  pub stated : Counts
+  pub ops : List ℕ
+  pub bytes : List ℕ
+
+abbrev pub writtenFields : Fields → List ℕ
+writtenFields no-pack = []
+writtenFields (fields s ops) = s .vertices ∷ (s .triangles ∷ (s .places ∷ (s .loops ∷ ops)))
+
+unfoldable pub fieldsRight : FieldsRow → Bool
+fieldsRight x =
+    equal (packBytes (x .stated) (x .ops)) (x .bytes)
+    && equal (writtenFields (fieldsOf (x .bytes))) (writtenFields (fields (x .stated) (x .ops)))
+
+-- a look across an edge: the triangle's number, the corner and the vertex there, or nothing
+pub record LookRow : Type 0 where
+  pub list : List ℕ
+  pub from : ℕ
+  pub to : ℕ
+  pub told : List ℕ
+
+abbrev pub writtenAcross : Across → List ℕ
+writtenAcross (Found n k z) = n ∷ (k ∷ (z ∷ []))
+writtenAcross Nothing = []
+
+unfoldable pub lookRight : LookRow → Bool
+lookRight x = equal (writtenAcross (across (x .from) (x .to) (trianglesOf (x .list)))) (x .told)
 
 -- short forms for rows
 abbrev pub totalsOf : ℕ → ℕ → ℕ → ℤ → Totals

@@ -9,9 +9,10 @@ use lib.Dec.{T, eqb}
 use Rattle.rules.specs.declared.Counts.{Counts}
 use Rattle.rules.specs.declared.Place.{Place}
 use Rattle.rules.specs.declared.Builder.{Builder}
-use Rattle.rules.specs.declared.Operation.the-variants.{New, Forward, Backward, Border, Split, Start}
+use Rattle.rules.specs.declared.Operation.the-variants.{New, Forward, Backward, Border, Split, Close, Union, Start}
 use Rattle.rules.specs.Triangle.{tri, corners, edgesOf}
-use Rattle.rules.specs.Count.{same, hit, occurs, count}
+use Rattle.rules.specs.Count.{same, hit, occurs, count, uses}
+use Rattle.rules.specs.Fan.{about, leaving, entering, turnOn, turnBack, oneRun, oneFanEach}
 use Rattle.rules.specs.Check.{allBelow}
 use Rattle.rules.specs.Ring.{allOpen, vertexAt, lastOpen, lastVertex, front, onward, reached, places, loopAt, without}
 use Rattle.rules.specs.Table.{allowed, inOrder, atEdge, atRest, effect}
@@ -20,8 +21,9 @@ use Rattle.rules.specs.Unpack.{numbersOf}
 use Rattle.rules.specs.Book.{begin, operate, emptyBook}
 use Rattle.rules.specs.Calls.{afterAll}
 use Rattle.rules.specs.Buffer.{freePlace, cleared, Buffers}
-use Rattle.rules.specs.Build.{operates, finishes, begunBuffers, withTriangle}
-use Rattle.rules.specs.View.{follow, followed, placesOf, nodes, loopsOf, trianglesBuilt, view}
+use Rattle.rules.specs.Fields.{countsOf}
+use Rattle.rules.specs.Build.{begins, operates, finishes, begunBuffers, withTriangle}
+use Rattle.rules.specs.View.{follow, followed, placesOf, nodes, loopsOf, trianglesBuilt, view, openAmong, openAt}
 use Rattle.rules.specs.Test21.{sizesOf, apart, placesFit, loopsFit, linksFit, sound}
 use Rattle.rules.proofs.Rows.{equal, equalPlaces, place, counts, lengths, allRight, writtenRing, writtenRings, writtenMachine}
 
@@ -150,6 +152,17 @@ stateRows =
     row true (builder stated (parts 5 4 6 2 2 (0 ∷ 1 ∷ 0 ∷ 0 ∷ []) (1 ∷ 2 ∷ 0 ∷ 0 ∷ [])) 9 1 0 0) numbers
     (place 0 0 0 true ∷ place 1 2 2 true ∷ place 2 1 1 false ∷ replicate 1021 freePlace)
     ∷
+    -- arrays that hold anything past the live loops
+    withParts true (parts 5 4 6 2 2 (4 ∷ 5 ∷ 9 ∷ 1025 ∷ []) (3 ∷ 3 ∷ 9 ∷ 1025 ∷ []))
+    ∷
+    -- places anywhere in the first 1,024 records
+    row true (builder stated (parts 5 4 6 2 1 (1023 ∷ 0 ∷ 0 ∷ 0 ∷ []) (3 ∷ 0 ∷ 0 ∷ 0 ∷ [])) 9 1 0 0) numbers
+    (place 0 1023 100 true ∷ replicate 99 freePlace ++ (place 1 0 1023 true ∷ replicate 922 freePlace) ++ (place 2 100 0 true ∷ []))
+    ∷
+    -- a loop that returns by its links back only
+    row false (builder stated (parts 5 4 6 2 1 (0 ∷ 0 ∷ 0 ∷ 0 ∷ []) (1 ∷ 0 ∷ 0 ∷ 0 ∷ [])) 9 1 0 0) numbers
+    (place 0 0 1 true ∷ place 1 0 0 true ∷ replicate 1022 freePlace)
+    ∷
     -- a link that disagrees; a link out of the first 1,024 records
     withPlaces false
     (place 0 2 5 true ∷ place 1 3 4 true ∷ place 2 4 0 true ∷ place 3 4 1 false ∷ place 4 1 3 true ∷ place 3 0 2 true ∷ replicate 1018 freePlace)
@@ -186,16 +199,42 @@ lentTo x = record { triangles = x .triangles; places = x .places }
 abbrev pub stateRight : StateRow → Bool
 stateRight x = let t = sound (x .state) (lentTo x) in elim (x .passes) [ true ↦ t | false ↦ not t ]
 
+-- a state whose counts and sums differ from one another
+abbrev pub mixed : Builder
+mixed = builder (counts 8 7 9 3) standing 10 11 12 13
+
+-- A state is read as a machine: the one that the calls lead to; and the counts stated, the counts so far, edges, starts, unions and
+-- rims, the triangles as built, and the loops, the current one first, each from its current edge on.
 unfoldable pub viewRight : Bool
 viewRight =
-    equal (writtenMachine (view good numbers memory))
+    equal (countsOf (view mixed numbers memory .stated)) (0 ∷ 8 ∷ 0 ∷ 7 ∷ 0 ∷ 9 ∷ 0 ∷ 3 ∷ [])
+    && equal (writtenMachine (view mixed numbers memory))
+    (5 ∷ 10 ∷ 6 ∷ 2 ∷ 11 ∷ 12 ∷ 13 ∷ numbers ++ (3 ∷ 3 ∷ 1 ∷ 2 ∷ 1 ∷ 0 ∷ 1 ∷ 3 ∷ 4 ∷ 1 ∷ 3 ∷ 0 ∷ 1 ∷ 1 ∷ []))
+    && equal (writtenMachine (view good numbers memory))
     (writtenMachine
     (afterAll (lengths 12 1024) (emptyBook stated)
     (begin stated ∷ operate Start ∷ operate New ∷ operate Border ∷ operate New ∷ operate (Split 2) ∷ [])
     .machine))
 
-pub states : T (allRight stateRight stateRows && viewRight)
-unfolding same hit corners edgesOf numbersOf occurs count allBelow allOpen vertexAt lastOpen lastVertex front onward reached places loopAt without allowed inOrder atEdge atRest effect test done beginning afterAll follow followed nodes loopsOf trianglesBuilt view placesOf sizesOf apart placesFit loopsFit linksFit sound equal allRight stateRows writtenRing writtenRings viewRight
+-- two loops of two places that record 0→1 as open twice, and 1→0 once
+abbrev pub doubled : Builder
+doubled = builder stated (parts 5 4 6 2 2 (0 ∷ 2 ∷ 0 ∷ 0 ∷ []) (2 ∷ 2 ∷ 0 ∷ 0 ∷ [])) 9 1 0 0
+
+abbrev pub twice : List Place
+twice = place 0 1 1 true ∷ place 1 0 0 true ∷ place 0 3 3 true ∷ place 1 2 2 false ∷ replicate 1020 (place 0 1 1 true)
+
+-- at how many live loops' places an edge is recorded as open: in either loop, from a place's vertex to the next one's; no marked edge,
+-- no opposite, no edge of another record
+unfoldable pub openRight : Bool
+openRight =
+    eqb (openAt good memory 3 2) 1 && eqb (openAt good memory 2 0) 1 && eqb (openAt good memory 0 3) 1 && eqb (openAt good memory 4 3) 1
+    && eqb (openAt good memory 1 4) 1 && eqb (openAt good memory 3 1) 0 && eqb (openAt good memory 2 3) 0 && eqb (openAt good memory 4 1) 0
+    && eqb (openAt doubled twice 0 1) 2 && eqb (openAt doubled twice 1 0) 1
+    -- how often the triangles use an edge
+    && eqb (uses 0 1 (tri 0 1 2 ∷ tri 3 0 1 ∷ tri 1 0 4 ∷ [])) 2 && eqb (uses 1 0 (tri 0 1 2 ∷ tri 3 0 1 ∷ tri 1 0 4 ∷ [])) 1
+
+pub states : T (allRight stateRight stateRows && viewRight && openRight)
+unfolding openAmong openRight same hit corners edgesOf numbersOf occurs count allBelow allOpen vertexAt lastOpen lastVertex front onward reached places loopAt without allowed inOrder atEdge atRest effect test done beginning afterAll follow followed nodes loopsOf trianglesBuilt view placesOf sizesOf apart placesFit loopsFit linksFit sound equal allRight stateRows writtenRing writtenRings viewRight
 states = tt
 
 -- The building calls: 21 before 16 and before 15, on a state that does not pass; 16 and 15 on one that does.
@@ -219,15 +258,68 @@ pair = builder stated (parts 5 3 6 2 1 (1 ∷ 0 ∷ 0 ∷ 0 ∷ []) (2 ∷ 0 ∷
 abbrev pub paired : Buffers
 paired = record { triangles = numbers; places = place 0 0 0 true ∷ place 1 2 2 true ∷ place 2 1 1 true ∷ replicate 1021 freePlace }
 
+-- A lent loop of four open edges with any vertices, and no triangle yet: which of forward, backward and new the edge rule refuses.
+abbrev pub ringed : Builder
+ringed = builder (counts 9 9 9 9) (parts 5 0 4 1 1 (0 ∷ 0 ∷ 0 ∷ 0 ∷ []) (4 ∷ 0 ∷ 0 ∷ 0 ∷ [])) 0 0 0 0
+
+abbrev pub ring : ℕ → ℕ → ℕ → ℕ → Buffers
+ring v w x y = record {
+  triangles = replicate 27 0;
+  places = place v 3 1 true ∷ place w 0 2 true ∷ place x 1 3 true ∷ place y 2 0 true ∷ replicate 1020 freePlace;
+}
+
+-- a, b and c differ
+unfoldable pub differRight : Bool
+differRight =
+    eqb (stepNumber (operates ringed (ring 0 1 2 3) Forward)) 0 && eqb (stepNumber (operates ringed (ring 0 1 2 3) Backward)) 0
+    && eqb (stepNumber (operates ringed (ring 0 1 2 3) New)) 0 && eqb (stepNumber (operates ringed (ring 0 1 0 2) Forward)) 18
+    && eqb (stepNumber (operates ringed (ring 0 1 2 1) Backward)) 18 && eqb (stepNumber (operates ringed (ring 0 0 1 2) New)) 18
+
+-- a loop of one place goes from a to a; one of two waits
+abbrev pub lone : Builder
+lone = builder (counts 9 9 9 9) (parts 5 0 4 2 2 (1 ∷ 0 ∷ 0 ∷ 0 ∷ []) (2 ∷ 1 ∷ 0 ∷ 0 ∷ [])) 0 0 0 0
+
+abbrev pub lonely : Buffers
+lonely = record { triangles = replicate 27 0; places = paired .places }
+
+-- two loops of one place wait
+abbrev pub waited : Builder
+waited = builder (counts 9 9 9 9) (parts 5 0 5 3 3 (3 ∷ 4 ∷ 0 ∷ 0 ∷ []) (1 ∷ 1 ∷ 3 ∷ 0 ∷ [])) 0 0 0 0
+
+abbrev pub scattered : Buffers
+scattered = record {
+  triangles = replicate 27 0;
+  places = place 0 2 1 true ∷ place 1 0 2 true ∷ place 2 1 0 true ∷ place 3 3 3 true ∷ place 4 4 4 true ∷ replicate 1019 freePlace;
+}
+
+unfoldable pub loneRight : Bool
+loneRight =
+    eqb (stepNumber (operates waited scattered (Union 2 0))) 0 && eqb (stepNumber (operates waited scattered (Union 3 0))) 16
+    && eqb (stepNumber (operates pair paired Close)) 16 && eqb (stepNumber (operates lone lonely Close)) 16
+    && eqb (stepNumber (operates lone lonely New)) 18 && eqb (stepNumber (operates lone lonely (Union 1 0))) 18
+    && eqb (stepNumber (operates lone lonely Border)) 0
+
+-- a complete model, two triangles that share nothing; a vertex that is in no triangle has no second fan
+abbrev pub resting : ℕ → Builder
+resting v = builder (counts v 2 3 1) (parts v 2 3 1 0 (0 ∷ 0 ∷ 0 ∷ 0 ∷ []) (0 ∷ 0 ∷ 0 ∷ 0 ∷ [])) 0 2 0 2
+
+abbrev pub apartBuilt : ℕ → Buffers
+apartBuilt v = record { triangles = v ∷ 1 ∷ 2 ∷ 3 ∷ 4 ∷ 5 ∷ []; places = memory }
+
+unfoldable pub fansRight : Bool
+fansRight =
+    eqb (stepNumber (finishes (resting 7) (apartBuilt 0))) 0 && eqb (stepNumber (finishes (resting 7) (apartBuilt 3))) 20
+
 -- what they leave: triangle n stands at 3n, and a beginning clears the place records and nothing else
 unfoldable pub callsRight : Bool
 callsRight =
-    eqb (stepNumber (operates good short (Split 9))) 21 && eqb (stepNumber (finishes good short)) 21
+    eqb (stepNumber (begins whole stated)) 0 && eqb (stepNumber (begins short (counts 2 4 6 2))) 13 && eqb (stepNumber (begins short stated)) 14
+    && eqb (stepNumber (operates good short (Split 9))) 21 && eqb (stepNumber (finishes good short)) 21
     && eqb (stepNumber (operates good whole (Split 9))) 16 && eqb (stepNumber (finishes good whole)) 15
     && eqb (stepNumber (operates pair paired Forward)) 16 && eqb (stepNumber (operates pair paired Backward)) 16
     && equal (withTriangle 1 (tri 7 8 9) (0 ∷ 1 ∷ 2 ∷ 3 ∷ 4 ∷ 5 ∷ 6 ∷ [])) (0 ∷ 1 ∷ 2 ∷ 7 ∷ 8 ∷ 9 ∷ 6 ∷ [])
     && equal (begunBuffers whole .triangles) numbers && equalPlaces (begunBuffers whole .places) (replicate 1024 freePlace)
 
-pub calls : T callsRight
-unfolding same hit corners edgesOf numbersOf occurs count allBelow allOpen vertexAt lastOpen lastVertex front onward reached places loopAt without allowed inOrder atEdge atRest effect test done finishing follow followed placesOf nodes loopsOf trianglesBuilt view sizesOf apart placesFit loopsFit linksFit sound equal equalPlaces cleared callsRight
+pub calls : T (callsRight && differRight && loneRight && fansRight)
+unfolding differRight loneRight fansRight about leaving entering turnOn turnBack oneRun oneFanEach same hit corners edgesOf numbersOf occurs count allBelow allOpen vertexAt lastOpen lastVertex front onward reached places loopAt without allowed inOrder atEdge atRest effect test done beginning finishing follow followed placesOf nodes loopsOf trianglesBuilt view sizesOf apart placesFit loopsFit linksFit sound equal equalPlaces cleared callsRight
 calls = tt

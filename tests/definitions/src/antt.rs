@@ -1,7 +1,10 @@
 //! Values in the prover's notation.
 
+use crate::expected::LIMITS;
 use crate::second::{Building, PackBuffers, Packing, UnpackBuffers, Unpacking};
+use cutborder::across::across;
 use cutborder::book::Book;
+use cutborder::ops::{pack_bytes, Counts};
 use cutborder::{Answer, Place};
 use std::fmt::Write;
 
@@ -61,10 +64,28 @@ pub fn packing(x: &Packing) -> String {
         Ok(n) => format!("packed {n}"),
         Err(n) => format!("refusal {n}"),
     };
+    let limits = match x.limits {
+        LIMITS => "most".to_owned(),
+        (places, loops) => format!("record {{ places = {places}; loops = {loops} }}"),
+    };
     format!(
-        "record {{ limits = record {{ places = {}; loops = {} }}; vertices = {}; list = {}; lent = {}; answer = {answer}; left = {} }}",
-        x.limits.0, x.limits.1, x.v, numbers(&x.list), pack_buffers(&x.lent), pack_buffers(&x.left)
+        "record {{ limits = {limits}; vertices = {}; list = {}; lent = {}; answer = {answer}; left = {} }}",
+        x.v, numbers(&x.list), pack_buffers(&x.lent), pack_buffers(&x.left)
     )
+}
+
+/// Counts and operations, and the pack that has them.
+pub fn fields(c: Counts, ops: &[u8]) -> String {
+    format!(
+        "record {{ stated = counts {} {} {} {}; ops = {}; bytes = {} }}",
+        c.v, c.t, c.places, c.loops, numbers(ops), numbers(&pack_bytes(c, ops))
+    )
+}
+
+/// A look across an edge: the triangle's number, the corner and the vertex there, or nothing.
+pub fn look(list: &[u16], p: u16, q: u16) -> String {
+    let found: Vec<u32> = across(list, p, q).map_or(vec![], |x| vec![x.triangle as u32, x.corner as u32, x.c.into()]);
+    format!("record {{ list = {}; from = {p}; to = {q}; told = {} }}", numbers(list), numbers(&found))
 }
 
 fn model(a: &Answer) -> String {

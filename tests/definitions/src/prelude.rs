@@ -47,7 +47,8 @@ use {specs}.declared.Operation.the-variants.{{New, Forward, Backward, Border, Sp
 use {specs}.Triangle.{{tri}}
 use {specs}.Answer.{{refusal, accepted, triangle, no-triangle, numbers, packed}}
 use {specs}.Book.{{begin, operate, finish}}
-use {proofs}.Rows.{{PackRow, UnpackRow, CallRow, place, packLent, unpackLent, lengths, counts, totalsOf, modelOf}}
+use {specs}.Pack.{{most}}
+use {proofs}.Rows.{{PackRow, UnpackRow, CallRow, FieldsRow, LookRow, place, packLent, unpackLent, lengths, counts, totalsOf, modelOf}}
 "
     );
     let mut names = unfoldable("proofs", "Rows");

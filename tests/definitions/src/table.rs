@@ -1,10 +1,11 @@
-//! The table of the rules: M1 to M10 and rows that pin the other rules.
+//! The table of the rules: the second program's models, packs and calls, and rows that pin the rules one by one.
 
 use crate::antt;
 use crate::expected::{self, LIMITS};
 use crate::prelude::{prelude, Home};
 use crate::second::{Building, PackBuffers, Packing, UnpackBuffers, Unpacking};
 use cutborder::gen::op_words;
+use cutborder::ops::Counts;
 use cutborder::proto::unhex;
 use cutborder::{plain, Place};
 
@@ -112,6 +113,8 @@ fn packings() -> Vec<(String, String)> {
         ("6: vertex 0", "4 1 2 3"),
         ("7: a closed fan and an open one", "6 0 1 2 0 2 3 0 3 1 0 4 5"),
         ("7: two closed fans", "7 0 1 2 0 2 3 0 3 1 0 4 5 0 5 6 0 6 4"),
+        ("7: vertex 1", "5 1 0 2 1 3 4"),
+        ("7: the last vertex", "5 4 0 1 4 2 3"),
         ("one fan, listed from its middle", "5 0 2 3 0 1 2 0 3 4"),
     ] {
         rows.push(pack_row(name, LIMITS, line, same));
@@ -186,9 +189,18 @@ fn unpackings() -> Vec<(String, String)> {
         ("20: both places of the vertex left", "0100080007000600080002020007e1880100db6db0", 32, 1_024),
         ("19 before 20: a vertex too many", "0100080006000400050002020005e186e004db", 32, 1_024),
         ("19: the peak in full loops is stated", "0100080004000200040001020003ed86c0", 32, 1_024),
+        ("12: tag 00 for 01", "0000080003000100030001020002edb0", 32, 1_024),
+        ("12: tag 01 for 02", "0100080003000100030001010002edb0", 32, 1_024),
+        ("12: tag 03 for 02", "0100080003000100030001030002edb0", 32, 1_024),
+        ("12: a length of 264", "0101080003000100030001020002edb0", 32, 1_024),
+        ("12: a length of 258", "0100080003000100030001020102edb0", 32, 1_024),
+        ("15: a union breaks off inside p", "0100080009000900090009020001f8", 32, 1_024),
+        ("15: a union breaks off inside j", "0100080009000900090009020002f808", 32, 1_024),
     ] {
         rows.push(unpack_row(name, hex, triangles, places));
     }
+    let long = "0100080003000100030001020100edb0".to_owned() + &"00".repeat(254);
+    rows.push(unpack_row("a field of 256 bytes", &long, 32, 1_024));
     rows
 }
 
@@ -232,6 +244,24 @@ fn buildings() -> Vec<(String, String)> {
     rows
 }
 
+/// Packs from counts and operations, with numbers in both bytes of a word and a length above 255.
+fn packs() -> Vec<(String, String)> {
+    [(0x1000, 0x2000, 0x0400, 0x64, 3), (0x0abc, 0x1cfd, 0x0323, 0x4d, 300)]
+        .iter()
+        .map(|&(v, t, places, loops, n)| {
+            let row = antt::fields(Counts { v, t, places, loops }, &vec![0xa5; n]);
+            (format!("{n} bytes of operations"), row)
+        })
+        .collect()
+}
+
+/// Looks across an edge: the three edges of a triangle, one that no triangle has, and one that two have.
+fn looks() -> Vec<(String, String)> {
+    let list = [5, 6, 7, 6, 5, 8, 7, 6, 8, 5, 6, 9];
+    let edges = [("a first edge", 6, 5), ("a second edge", 6, 8), ("a third edge", 7, 5), ("none", 5, 7), ("the last of two", 5, 6)];
+    edges.iter().map(|&(name, p, q)| (name.to_owned(), antt::look(&list, p, q))).collect()
+}
+
 fn section(name: &str, kind: &str, rows: &[(String, String)]) -> String {
     let mut out = format!("\nunfoldable pub {name} : List {kind}\n{name} =\n");
     for (remark, row) in rows {
@@ -243,8 +273,8 @@ fn section(name: &str, kind: &str, rows: &[(String, String)]) -> String {
 pub fn module() -> String {
     let (uses, unfolding) = prelude(&Home::Rules);
     let mut out = String::from(
-        "-- The models, packs and lists of calls of the rules (M1 to M10) and rows that pin the other rules, with the answers of the
--- second program: one table, by computation. Written by tests/definitions, never by hand; the states of 21 are in States.
+        "-- Models, packs and lists of calls that pin the rules, with the answers of the second program: one table, by computation.
+-- Written by tests/definitions, never by hand; Bench has M1 to M10 as the rules write them, States the states of 21.
 -- Assumes nothing.
 ",
     );
@@ -252,8 +282,10 @@ pub fn module() -> String {
     out += &section("packRows", "PackRow", &packings());
     out += &section("unpackRows", "UnpackRow", &unpackings());
     out += &section("callRows", "CallRow", &buildings());
+    out += &section("fieldsRows", "FieldsRow", &packs());
+    out += &section("lookRows", "LookRow", &looks());
     out += &format!(
-        "\npub table : T (allRight packRight packRows && allRight unpackRight unpackRows && allRight callsRight callRows)\n{unfolding} packRows unpackRows callRows\ntable = tt\n"
+        "\npub table : T (allRight packRight packRows && allRight unpackRight unpackRows && allRight callsRight callRows && allRight fieldsRight fieldsRows && allRight lookRight lookRows)\n{unfolding} packRows unpackRows callRows fieldsRows lookRows\ntable = tt\n"
     );
     out
 }
