@@ -1,11 +1,10 @@
 -- What is rehearsed keeps the builder's book, by the theorem of demand 3; the tetrahedron by computing the book.
 -- Assumes nothing.
 use Prim.Native.Nat.{ℕ, _*_, _≤_}
-use mathlib.Core.Bool.{Bool, true, _&&_}
+use mathlib.Core.Bool.{true}
 use mathlib.Core.List.{List, [], _∷_, _++_}
-use mathlib.Core.Path.{_≡_, refl, sym, ap, ap₂, _∙_, subst}
+use mathlib.Core.Path.{_≡_, refl, ap, _∙_, subst}
 use lib.ListN.{length}
-use lib.Dec.{leb}
 use borrow.Author.Tests.{le-leb}
 use Rattle.rules.specs.declared.Counts.{Counts}
 use Rattle.rules.specs.declared.Operation.{Operation}
@@ -37,7 +36,8 @@ last-same (x ∷ (z ∷ xs)) [] a b e = cc
 last-same (x ∷ xs) (y ∷ ys) a b e = last-same xs ys a b cc
 
 -- the book's answers to one call more
-answers-more : (n : Rooms) (b : Book) (cs : List Call) (c : Call) → answers n b (cs ++ (c ∷ [])) ≡ answers n b cs ++ (answer n (afterAll n b cs) c ∷ [])
+answers-more : (n : Rooms) (b : Book) (cs : List Call) (c : Call)
+    → answers n b (cs ++ (c ∷ [])) ≡ answers n b cs ++ (answer n (afterAll n b cs) c ∷ [])
 unfolding answers afterAll
 answers-more n b [] c = refl
 answers-more n b (d ∷ cs) c = ap (λ (xs : List Answer). answer n b d ∷ xs) (answers-more n (after n b d) cs c)
