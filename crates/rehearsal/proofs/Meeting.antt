@@ -1,17 +1,11 @@
 -- What is rehearsed keeps the builder's book, by the theorem of demand 3; the tetrahedron by computing the book.
 -- Assumes nothing.
-use Prim.Native.Nat.{ℕ, _*_, _≤_}
-use mathlib.Core.Bool.{Bool, true, _&&_}
+use Prim.Native.Nat.{_*_, _≤_}
+use mathlib.Core.Bool.{true}
 use mathlib.Core.List.{List, [], _∷_, _++_}
-use mathlib.Core.Path.{_≡_, refl, sym, ap, ap₂, _∙_, subst}
-use lib.ListN.{length}
-use lib.Dec.{leb}
+use mathlib.Core.Path.{_≡_, refl, ap, _∙_, subst}
 use borrow.Author.Tests.{le-leb}
 use Rattle.rules.specs.declared.Counts.{Counts}
-use Rattle.rules.specs.declared.Operation.{Operation}
-use Rattle.rules.specs.declared.Operation.the-variants.{New, Forward, Close, Start}
-use Rattle.rules.specs.declared.Place.{Place}
-use Rattle.rules.specs.declared.Finished.{Finished}
 use Rattle.rules.specs.Limits.{maxPlaces, inRange}
 use Rattle.rules.specs.Triangle.{corners, edgesOf}
 use Rattle.rules.specs.Count.{same, hit, occurs, count, different, pairs}
@@ -20,12 +14,12 @@ use Rattle.rules.specs.Ring.{allOpen, vertexAt, lastOpen, lastVertex, front, on
 use Rattle.rules.specs.Table.{allowed, inOrder, atEdge, atRest, effect}
 use Rattle.rules.specs.Machine.{Rooms, test, done, beginning, finish}
 use Rattle.rules.specs.Answer.{Answer, accepted, finishedAnswer}
-use Rattle.rules.specs.Book.{Call, begin, operate, end, Book, emptyBook, answerOf, answer, after, answers, afterAll}
+use Rattle.rules.specs.Book.{Call, begin, end, Book, emptyBook, answerOf, answer, after, answers, afterAll}
 use Rattle.rules.specs.Buffer.{lengths}
 use Rattle.building.specs.Promised.{lentTo}
-use Rattle.building.specs.Building.{World, Run, KeepsTheBook}
+use Rattle.building.specs.Building.{Run, KeepsTheBook}
 use Rattle.building.proofs.Building.{building-calls-keep-the-book}
-use Rattle.rehearsal.specs.Rehearsal.{operations, callsOf, lentWorld, Rehearsed, leftBy, bookOf, MeetsTheBook, RehearsalMeetsTheBook, TetrahedronRehearsed}
+use Rattle.rehearsal.specs.Rehearsal.{operations, callsOf, lentWorld, leftBy, bookOf, RehearsalMeetsTheBook, TetrahedronRehearsed}
 
 -- the last element of a list
 last-same : (xs ys : List Answer) (a b : Answer) → xs ++ (a ∷ []) ≡ ys ++ (b ∷ []) → a ≡ b
@@ -37,7 +31,8 @@ last-same (x ∷ (z ∷ xs)) [] a b e = cc
 last-same (x ∷ xs) (y ∷ ys) a b e = last-same xs ys a b cc
 
 -- the book's answers to one call more
-answers-more : (n : Rooms) (b : Book) (cs : List Call) (c : Call) → answers n b (cs ++ (c ∷ [])) ≡ answers n b cs ++ (answer n (afterAll n b cs) c ∷ [])
+answers-more : (n : Rooms) (b : Book) (cs : List Call) (c : Call)
+    → answers n b (cs ++ (c ∷ [])) ≡ answers n b cs ++ (answer n (afterAll n b cs) c ∷ [])
 unfolding answers afterAll
 answers-more n b [] c = refl
 answers-more n b (d ∷ cs) c = ap (λ (xs : List Answer). answer n b d ∷ xs) (answers-more n (after n b d) cs c)

@@ -29,21 +29,25 @@ operations (o ∷ os) = operate o ∷ operations os
 abbrev pub callsOf : List Operation → List Call
 callsOf os = operations os ++ (end ∷ [])
 
+abbrev pub world : Builder → List ℕ → List Place → World
+world b ts ps = record { state = b; triangles = ts; places = ps }
+
 -- the lent buffers, with the builder that was never begun
 abbrev pub lentWorld : List ℕ → List Place → World
-lentWorld ts ps = record { state = emptyBuilder; triangles = ts; places = ps }
+lentWorld ts ps = world emptyBuilder ts ps
 
 -- There is a run of these calls, each lent the buffers as the one before left them, that ends with the finish's answer r and with
 -- the buffers as they are left.
-pub record Rehearsed (s : Counts) (os : List Operation) (ts : List ℕ) (ps : List Place) (r : Finished) (ts′ : List ℕ) (ps′ : List Place) : Type 0 where
+pub record Rehearsed (s : Counts) (os : List Operation) (ts : List ℕ) (ps : List Place) (r : Finished) (ts′ : List ℕ) (ps′ : List Place)
+    : Type 0 where
   pub answers : List Answer
   pub state : Builder
-  pub run : Run (begin s ∷ callsOf os) (lentWorld ts ps) (answers ++ (finishedAnswer r ∷ [])) (record { state = state; triangles = ts′; places = ps′ })
+  pub run : Run (begin s ∷ callsOf os) (lentWorld ts ps) (answers ++ (finishedAnswer r ∷ [])) (world state ts′ ps′)
 
 -- the world that is left
 abbrev pub leftBy : {s : Counts} {os : List Operation} {ts : List ℕ} {ps : List Place} {r : Finished} {ts′ : List ℕ} {ps′ : List Place}
     → Rehearsed s os ts ps r ts′ ps′ → World
-leftBy {ts′ = ts′} {ps′ = ps′} x = record { state = x .state; triangles = ts′; places = ps′ }
+leftBy {ts′ = ts′} {ps′ = ps′} x = world (x .state) ts′ ps′
 
 -- the book after these operations
 abbrev pub bookOf : Rooms → Counts → List Operation → Book
@@ -63,6 +67,7 @@ RehearsalMeetsTheBook = (s : Counts) (os : List Operation) (ts : List ℕ) (ps :
 
 -- M2, the tetrahedron: 6 edges, no rim, no union, Euler number 2
 abbrev pub TetrahedronRehearsed : Type 0
-TetrahedronRehearsed = (ts : List ℕ) (ps : List Place) (r : Finished) (ts′ : List ℕ) (ps′ : List Place) → 12 ≤ length ts → maxPlaces ≤ length ps
+TetrahedronRehearsed = (ts : List ℕ) (ps : List Place) (r : Finished) (ts′ : List ℕ) (ps′ : List Place)
+    → 12 ≤ length ts → maxPlaces ≤ length ps
     → Rehearsed (record { vertices = 4; triangles = 4; places = 4; loops = 1 }) (Start ∷ (New ∷ (Forward ∷ (Close ∷ [])))) ts ps r ts′ ps′
     → finishedAnswer r ≡ numbers (record { edges = 6; rims = 0; unions = 0; euler = pos 2 })
