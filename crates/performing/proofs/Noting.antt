@@ -13,6 +13,12 @@ use Rattle.memory.specs.declared.Touched.{Touched}
 use Rattle.memory.specs.Layout.{at}
 use Rattle.memory.specs.Touched.{listed, noted, stackPart}
 
+-- a zero stored
+zero-set : (m : List ℕ) (i : ℕ) → at (set m i 0) i ≡ 0
+zero-set [] i = refl
+zero-set (x ∷ m) zero = refl
+zero-set (x ∷ m) (suc i) = zero-set m i
+
 module _ (m : List ℕ) (t : Touched) (k l : ℕ) where
   abbrev n₁ : List ℕ
   n₁ = set m 5320 (t .count)
@@ -167,3 +173,17 @@ module _ (m : List ℕ) (t : Touched) (k l : ℕ) where
   pub noted-frees : 5328 ≤ length m → k ≤ maxPlaces → l ≤ maxPlaces → toFree (noted m t k l) ≡ stackPart maxPlaces m k (l - k)
   noted-frees long h g =
       ap₂ (λ (i j : ℕ). freedPart (noted m t k l) i (j - i)) (noted-start m t k l long) (noted-end m t k l long) ∙ part-noted (l - k) (omega (arith, h, g))
+
+-- a memory that notes nothing
+pub nothing-linked : (m : List ℕ) → at (noted m (listed []) 0 0) 5320 ≡ 0
+unfolding noted
+nothing-linked m =
+    let t : Touched = listed [] in
+    getD-set-other (n₇ m t 0 0) 5327 5320 0 0 (λ e. omega (arith, e)) ∙ getD-set-other (n₆ m t 0 0) 5326 5320 0 0 (λ e. omega (arith, e))
+    ∙ getD-set-other (n₅ m t 0 0) 5325 5320 0 0 (λ e. omega (arith, e)) ∙ getD-set-other (n₄ m t 0 0) 5324 5320 0 0 (λ e. omega (arith, e))
+    ∙ getD-set-other (n₃ m t 0 0) 5323 5320 0 0 (λ e. omega (arith, e)) ∙ getD-set-other (n₂ m t 0 0) 5322 5320 0 0 (λ e. omega (arith, e))
+    ∙ getD-set-other (n₁ m t 0 0) 5321 5320 0 0 (λ e. omega (arith, e)) ∙ zero-set m 5320
+
+pub nothing-freed : (m : List ℕ) → at (noted m (listed []) 0 0) 5327 ≡ 0
+unfolding noted
+nothing-freed m = zero-set (n₇ m (listed []) 0 0) 5327

@@ -47,18 +47,20 @@ use Rattle.reading.specs.Closing.{builderOf}
 use Rattle.reading.proofs.Records.{all-alike}
 use Rattle.reading.proofs.Closing.{closes}
 use Rattle.reading.proofs.Sound.{closes-sound}
-use Rattle.performing.specs.Performing.{Written, Accepts, Done, OperatesOn, Open, refusedWith, builtWith, markedWith}
+use Rattle.performing.specs.Performing.{Written, Accepts, Done, OperatesOn, Open, refusedWith, builtWith, markedWith, MarkedIn}
 use Rattle.performing.proofs.Sound.{parts, sound-ranges, sound-below, sound-current, triangles-long}
 use Rattle.performing.proofs.Writing.{written-next, written-long, below-more, written-below}
 use Rattle.performing.proofs.After.{within-each, Next, Built, Declared, Follows, follows}
-use Rattle.rules.specs.declared.Operation.the-variants.{Border}
+use Rattle.rules.specs.declared.Operation.the-variants.{New, Forward, Backward, Border, Split, Close, Union, Start}
 use Rattle.memory.specs.declared.Loops.{Loops}
 use Rattle.memory.specs.declared.Touched.{Touched}
 use Rattle.memory.specs.Touched.{takenBy, touchedBy, listed, noted, leavers, Tidy}
 use Rattle.memory.proofs.Room.{room as places-room}
+use Rattle.memory.specs.Performs.{Performs}
+use Rattle.memory.proofs.Performed.{performs}
 use Rattle.memory.proofs.Tidy.{built-tidy, marked-tidy}
 use Rattle.places.specs.Noted.{toLink, toFree}
-use Rattle.performing.proofs.Noting.{noted-before, noted-end, noted-count, noted-links, noted-frees}
+use Rattle.performing.proofs.Noting.{nothing-linked, nothing-freed, noted-before, noted-end, noted-count, noted-links, noted-frees}
 use Rattle.performing.proofs.Leaving.{unused, rings-are, stays, idle, others, near, left, gone, few-touched, rewritten}
 
 -- a refusal
@@ -75,19 +77,13 @@ refuses b o xs m n m′ k e c d r er =
 abbrev pub unnoted : List ℕ → List ℕ
 unnoted m = noted m (listed []) 0 0
 
-nothing-linked : (m m′ : List ℕ) → 5328 ≤ length m → m′ ≡ unnoted m → at m′ 5320 ≡ 0
-nothing-linked m m′ l e = ap (λ (m₁ : List ℕ). at m₁ 5320) e ∙ noted-count m (listed []) 0 0 l
-
-nothing-freed : (m m′ : List ℕ) → 5328 ≤ length m → m′ ≡ unnoted m → at m′ 5327 ≡ 0
-nothing-freed m m′ l e = ap (λ (m₁ : List ℕ). at m₁ 5327) e ∙ noted-end m (listed []) 0 0 l
-
 -- 21
 pub opens-failed : (b : Builder) (o : Operation) (xs m : List ℕ) (n : ℕ) (m₁ m′ : List ℕ) (x : Opened) → Opens b xs n m x m₁ → x ≡ Failed
-    → 5328 ≤ length m₁ → m′ ≡ unnoted m₁ → (r : Performed) → r ≡ refusedWith b 21 → OperatesOn b o xs m n r xs m′
-opens-failed b o xs m n m₁ m′ x h e l em =
+    → m′ ≡ unnoted m₁ → (r : Performed) → r ≡ refusedWith b 21 → OperatesOn b o xs m n r xs m′
+opens-failed b o xs m n m₁ m′ x h e em =
     let f = subst (λ (y : Opened). Opens b xs n m y m₁) e h in
     refuses b o xs m n m′ 21 (ap (λ (t : Bool). elim t [ true ↦ operation (viewed b (lent xs n m)) o | false ↦ refused 21 ]) (f .0))
-    (nothing-linked m₁ m′ l em) (nothing-freed m₁ m′ l em)
+    (ap (λ (z : List ℕ). at z 5320) em ∙ nothing-linked m₁) (ap (λ (z : List ℕ). at z 5327) em ∙ nothing-freed m₁)
 
 pub opens-passed : (b : Builder) (xs : List ℕ) (n : ℕ) (m m′ : List ℕ) (x : Opened) (f : Front) → Opens b xs n m x m′ → x ≡ Passed f
     → Passes b xs n m f m′
@@ -136,9 +132,31 @@ from-open b o xs n m f m₁ p r xs′ m′ h =
           (done-from b o xs m m₁ n (operates b (lent xs maxPlaces m₁) o) (r .state) xs′ m′ (p .whole) e (h .after));
     }
 
--- what marking gives back
-pub marked-given : (f f′ : Front) (m m′ : List ℕ) (b : Builder) → f ≡ f′ → m ≡ m′ → b ≡ builderOf f m → markedWith b ≡ markedWith (builderOf f′ m′)
-marked-given f f′ m m′ b ef em eb = ap markedWith (eb ∙ ap₂ builderOf ef em)
+-- what marking gives back, and the note of it
+pub marked-given : (f : Front) (m : List ℕ) (f′ : Front) (m₁ : List ℕ) (b : Builder) (t : Touched) (m′ : List ℕ)
+    → f′ ≡ markedFront maxPlaces f (markedHeld maxPlaces (f .loops) m .loops) → m₁ ≡ markedHeld maxPlaces (f .loops) m .memory → b ≡ builderOf f′ m₁
+    → t ≡ listed (touchedBy maxPlaces (f .loops) m Border 0) → m′ ≡ noted m₁ t (f .loops .free) (f′ .loops .free) → MarkedIn f m (markedWith b) m′
+unfolding markedFront
+marked-given f m f′ m₁ b t m′ ef em eb et en = (
+  ap markedWith (eb ∙ ap₂ builderOf ef em),
+  en ∙ ap₂ (λ (z : List ℕ) (v : Touched). noted z v (f .loops .free) (f′ .loops .free)) em et
+      ∙ ap (λ (z : Front). noted (markedHeld maxPlaces (f .loops) m .memory) (listed (touchedBy maxPlaces (f .loops) m Border 0)) (f .loops .free) (z .loops .free)) ef,
+)
+
+-- what the function that lists the places touched asks
+pub can-touch : (b : Builder) (o : Operation) (xs m : List ℕ) (f : Front) → Open b xs m f → (p : Plan) → decided maxPlaces f m o ≡ D.Builds p
+    → Performs maxPlaces (f .loops) m 0 o (p .place)
+can-touch b o xs m f w p e = at-zero o (performs maxPlaces f m o p (w .ready) e)
+  where
+    at-zero : (o : Operation) → Performs maxPlaces (f .loops) m (f .used) o (p .place) → Performs maxPlaces (f .loops) m 0 o (p .place)
+    at-zero New h = h
+    at-zero Forward h = h
+    at-zero Backward h = h
+    at-zero Border h = h
+    at-zero (Split i) h = h
+    at-zero Close h = h
+    at-zero (Union k j) h = h
+    at-zero Start h = (h .0, omega arith)
 
 -- an open state
 module _ (b : Builder) (o : Operation) (xs m : List ℕ) (f : Front) (w : Open b xs m f) where
@@ -172,11 +190,11 @@ module _ (b : Builder) (o : Operation) (xs m : List ℕ) (f : Front) (w : Open b
       omega (arith, room, e, w .keeps .triangles, within-each M (ranges .counts) .triangles)
 
   -- 16 and 17
-  pub decision-refused : (d : Decided) (k : ℕ) → d ≡ decided maxPlaces f m o → d ≡ D.Refused k → 5328 ≤ length m → (m′ : List ℕ) → m′ ≡ unnoted m
+  pub decision-refused : (d : Decided) (k : ℕ) → d ≡ decided maxPlaces f m o → d ≡ D.Refused k → (m′ : List ℕ) → m′ ≡ unnoted m
       → (r : Performed) → r ≡ refusedWith b k → OperatesOn b o xs m maxPlaces r xs m′
-  decision-refused d k i e l m′ em =
-      refuses b o xs m maxPlaces m′ k (goes-on ∙ refused-next maxPlaces f m M o (w .keeps) ranges k (sym i ∙ e)) (nothing-linked m m′ l em)
-      (nothing-freed m m′ l em)
+  decision-refused d k i e m′ em =
+      refuses b o xs m maxPlaces m′ k (goes-on ∙ refused-next maxPlaces f m M o (w .keeps) ranges k (sym i ∙ e)) (ap (λ (z : List ℕ). at z 5320) em ∙ nothing-linked m)
+      (ap (λ (z : List ℕ). at z 5327) em ∙ nothing-freed m)
 
   -- what follows the machine
   after-machine : Follows M (operation M o)
@@ -265,11 +283,11 @@ module _ (b : Builder) (o : Operation) (xs m : List ℕ) (f : Front) (w : Open b
         ap (λ (n : ℕ). edgeRule (p .triangle) (sideOf (p .pq)) (sideOf (p .qr)) (sideOf (p .rp)) (trianglesBuilt xs n)) (sym built-same) ∙ sym i
 
     -- 18
-    pub rule-fails : not t ≡ true → 5328 ≤ length m → (m′ : List ℕ) → m′ ≡ unnoted m → (r : Performed) → r ≡ refusedWith b 18
+    pub rule-fails : not t ≡ true → (m′ : List ℕ) → m′ ≡ unnoted m → (r : Performed) → r ≡ refusedWith b 18
         → OperatesOn b o xs m maxPlaces r xs m′
-    rule-fails h l m′ em =
-        refuses b o xs m maxPlaces m′ 18 (goes-on ∙ rule-refused maxPlaces f m M o (w .keeps) ranges p e (rule-is ∙ not-true t h)) (nothing-linked m m′ l em)
-        (nothing-freed m m′ l em)
+    rule-fails h m′ em =
+        refuses b o xs m maxPlaces m′ 18 (goes-on ∙ rule-refused maxPlaces f m M o (w .keeps) ranges p e (rule-is ∙ not-true t h)) (ap (λ (z : List ℕ). at z 5320) em ∙ nothing-linked m)
+      (ap (λ (z : List ℕ). at z 5327) em ∙ nothing-freed m)
 
     module _ (h : not t ≡ false) where
       abbrev M₁ : Machine
