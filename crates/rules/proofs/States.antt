@@ -140,8 +140,9 @@ stateRows =
     ∷ withSums false 9 1 13 0
     ∷ withSums false 9 1 0 13
     ∷
-    -- two loops at the same places; a loop that is shorter or longer than stated; one that is gone round twice; one with no place
+    -- two loops at the same places, the current one of them and neither of them; a loop that is shorter or longer than stated; one that is gone round twice; one with no place
     withParts false (parts 5 4 6 2 2 (5 ∷ 5 ∷ 0 ∷ 0 ∷ []) three)
+    ∷ row false (builder (counts 5 4 9 3) (parts 5 4 9 3 3 (4 ∷ 4 ∷ 5 ∷ 0 ∷ []) (3 ∷ 3 ∷ 3 ∷ 0 ∷ [])) 9 1 0 0) numbers memory
     ∷ withParts false (parts 5 4 6 2 2 first (3 ∷ 2 ∷ 0 ∷ 0 ∷ []))
     ∷ withParts false (parts 5 4 6 2 2 first (2 ∷ 4 ∷ 0 ∷ 0 ∷ []))
     ∷ withParts false (parts 5 4 6 2 1 (5 ∷ 0 ∷ 0 ∷ 0 ∷ []) (6 ∷ 0 ∷ 0 ∷ 0 ∷ []))
@@ -222,13 +223,17 @@ doubled = builder stated (parts 5 4 6 2 2 (0 ∷ 2 ∷ 0 ∷ 0 ∷ []) (2 ∷ 2 
 abbrev pub twice : List Place
 twice = place 0 1 1 true ∷ place 1 0 0 true ∷ place 0 3 3 true ∷ place 1 2 2 false ∷ replicate 1020 (place 0 1 1 true)
 
+-- past its live loops the state has others
+abbrev pub strewn : Builder
+strewn = builder stated (parts 5 4 6 2 2 (4 ∷ 5 ∷ 4 ∷ 5 ∷ []) (3 ∷ 3 ∷ 3 ∷ 3 ∷ [])) 9 1 0 0
+
 -- at how many live loops' places an edge is recorded as open: in either loop, from a place's vertex to the next one's; no marked edge,
 -- no opposite, no edge of another record
 unfoldable pub openRight : Bool
 openRight =
     eqb (openAt good memory 3 2) 1 && eqb (openAt good memory 2 0) 1 && eqb (openAt good memory 0 3) 1 && eqb (openAt good memory 4 3) 1
     && eqb (openAt good memory 1 4) 1 && eqb (openAt good memory 3 1) 0 && eqb (openAt good memory 2 3) 0 && eqb (openAt good memory 4 1) 0
-    && eqb (openAt doubled twice 0 1) 2 && eqb (openAt doubled twice 1 0) 1
+    && eqb (openAt strewn memory 4 3) 1 && eqb (openAt doubled twice 0 1) 2 && eqb (openAt doubled twice 1 0) 1
     -- how often the triangles use an edge
     && eqb (uses 0 1 (tri 0 1 2 ∷ tri 3 0 1 ∷ tri 1 0 4 ∷ [])) 2 && eqb (uses 1 0 (tri 0 1 2 ∷ tri 3 0 1 ∷ tri 1 0 4 ∷ [])) 1
 
