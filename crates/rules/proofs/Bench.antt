@@ -30,7 +30,7 @@ use Rattle.rules.proofs.Rows.{place, counts, packLent, lengths, noBook}
 abbrev pub lent : PackBuffers
 lent = packLent (replicate 8 7) (replicate 1025 (place 3 1 2 true)) (replicate 20 5)
 
--- the list is packed to these bytes; each vertex keeps its number; the first 1,024 place records are zero, and nothing beyond is changed
+-- the list is packed to these bytes; each vertex keeps its number; the first 1,024 place records are zero; nothing else is changed
 abbrev pub Packs : ℕ → List ℕ → List ℕ → Type 0
 Packs v xs bytes =
     pack v xs lent

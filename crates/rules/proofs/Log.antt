@@ -1,5 +1,5 @@
--- The log of a list of calls: the last accepted beginning and the operations accepted since, the latest first, as a new builder gets
--- them. The second program keeps no log, so what is expected here is written by hand, from the rule's sentence.
+-- The log of a list of calls: the last accepted beginning and the operations accepted since, the latest first. A new builder gets
+-- these. The second program keeps no log, so what is expected here is written by hand, from the rule's sentence.
 -- Assumes nothing.
 use Prim.Native.Nat.{ℕ}
 use mathlib.Core.Bool.{Bool, _&&_}
@@ -32,7 +32,8 @@ sameLog cs l = equal (writtenCalls (logAll (lengths 27 1024) noBook [] cs)) (wri
 -- a model with calls that are refused by 16, 15 and 13 among those that are accepted
 abbrev pub first : List Call
 first =
-    begin (counts 9 9 9 9) ∷ operate Start ∷ operate Start ∷ operate New ∷ finish ∷ begin (counts 2 1 3 1) ∷ operate Border ∷ operate (Split 7) ∷ []
+    begin (counts 9 9 9 9) ∷ operate Start ∷ operate Start ∷ operate New ∷ finish ∷ begin (counts 2 1 3 1) ∷ operate Border
+    ∷ operate (Split 7) ∷ []
 
 -- a whole model after it, finished, and a start that is refused by 17
 abbrev pub second : List Call

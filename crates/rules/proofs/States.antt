@@ -141,8 +141,10 @@ stateRows =
     ∷ withSums false 9 1 13 0
     ∷ withSums false 9 1 0 13
     ∷
-    -- two loops at the same places; a loop that is shorter or longer than stated; one that is gone round twice; one with no place
+    -- two loops at the same places, the current one of them or neither; a loop that is shorter or longer than stated; one that is gone
+    -- round twice; one with no place
     withParts false (parts 5 4 6 2 2 (5 ∷ 5 ∷ 0 ∷ 0 ∷ []) three)
+    ∷ row false (builder (counts 5 4 9 3) (parts 5 4 9 3 3 (4 ∷ 4 ∷ 5 ∷ 0 ∷ []) (3 ∷ 3 ∷ 3 ∷ 0 ∷ [])) 9 1 0 0) numbers memory
     ∷ withParts false (parts 5 4 6 2 2 first (3 ∷ 2 ∷ 0 ∷ 0 ∷ []))
     ∷ withParts false (parts 5 4 6 2 2 first (2 ∷ 4 ∷ 0 ∷ 0 ∷ []))
     ∷ withParts false (parts 5 4 6 2 1 (5 ∷ 0 ∷ 0 ∷ 0 ∷ []) (6 ∷ 0 ∷ 0 ∷ 0 ∷ []))
@@ -223,15 +225,23 @@ doubled = builder stated (parts 5 4 6 2 2 (0 ∷ 2 ∷ 0 ∷ 0 ∷ []) (2 ∷ 2 
 abbrev pub twice : List Place
 twice = place 0 1 1 true ∷ place 1 0 0 true ∷ place 0 3 3 true ∷ place 1 2 2 false ∷ replicate 1020 (place 0 1 1 true)
 
--- at how many live loops' places an edge is recorded as open: in either loop, from a place's vertex to the next one's; no marked edge,
--- no opposite, no edge of another record
+-- past its live loops the state has others
+abbrev pub strewn : Builder
+strewn = builder stated (parts 5 4 6 2 2 (4 ∷ 5 ∷ 4 ∷ 5 ∷ []) (3 ∷ 3 ∷ 3 ∷ 3 ∷ [])) 9 1 0 0
+
+-- at how many live loops' places an edge is recorded as open: in either loop, from a place's vertex to the next one's; no marked
+-- edge, no opposite, no edge of another record; and how often triangles use an edge
+abbrev pub openIs : ℕ → ℕ → ℕ → Bool
+openIs x y n = eqb (openAt good memory x y) n
+
+abbrev pub usesIs : ℕ → ℕ → ℕ → Bool
+usesIs x y n = eqb (uses x y (tri 0 1 2 ∷ tri 3 0 1 ∷ tri 1 0 4 ∷ [])) n
+
 unfoldable pub openRight : Bool
 openRight =
-    eqb (openAt good memory 3 2) 1 && eqb (openAt good memory 2 0) 1 && eqb (openAt good memory 0 3) 1 && eqb (openAt good memory 4 3) 1
-    && eqb (openAt good memory 1 4) 1 && eqb (openAt good memory 3 1) 0 && eqb (openAt good memory 2 3) 0 && eqb (openAt good memory 4 1) 0
-    && eqb (openAt doubled twice 0 1) 2 && eqb (openAt doubled twice 1 0) 1
-    -- how often the triangles use an edge
-    && eqb (uses 0 1 (tri 0 1 2 ∷ tri 3 0 1 ∷ tri 1 0 4 ∷ [])) 2 && eqb (uses 1 0 (tri 0 1 2 ∷ tri 3 0 1 ∷ tri 1 0 4 ∷ [])) 1
+    openIs 3 2 1 && openIs 2 0 1 && openIs 0 3 1 && openIs 4 3 1 && openIs 1 4 1 && openIs 3 1 0 && openIs 2 3 0 && openIs 4 1 0
+    && eqb (openAt strewn memory 4 3) 1 && eqb (openAt doubled twice 0 1) 2 && eqb (openAt doubled twice 1 0) 1
+    && usesIs 0 1 2 && usesIs 1 0 1 && usesIs 2 1 0
 
 pub states : T (allRight stateRight stateRows && viewRight && openRight)
 unfolding openAmong openRight same hit corners edgesOf numbersOf occurs count allBelow allOpen vertexAt lastOpen lastVertex front onward reached places loopAt without allowed inOrder atEdge atRest effect test done beginning afterAll follow followed nodes loopsOf trianglesBuilt view placesOf sizesOf apart placesFit loopsFit linksFit sound equal allRight stateRows writtenRing writtenRings viewRight
@@ -313,7 +323,8 @@ fansRight =
 -- what they leave: triangle n stands at 3n, and a beginning clears the place records and nothing else
 unfoldable pub callsRight : Bool
 callsRight =
-    eqb (stepNumber (begins whole stated)) 0 && eqb (stepNumber (begins short (counts 2 4 6 2))) 13 && eqb (stepNumber (begins short stated)) 14
+    eqb (stepNumber (begins whole stated)) 0 && eqb (stepNumber (begins short (counts 2 4 6 2))) 13
+    && eqb (stepNumber (begins short stated)) 14
     && eqb (stepNumber (operates good short (Split 9))) 21 && eqb (stepNumber (finishes good short)) 21
     && eqb (stepNumber (operates good whole (Split 9))) 16 && eqb (stepNumber (finishes good whole)) 15
     && eqb (stepNumber (operates pair paired Forward)) 16 && eqb (stepNumber (operates pair paired Backward)) 16
