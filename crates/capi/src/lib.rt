@@ -88,7 +88,7 @@ pub(crate) fn operation_of(code: u32, p: u32, j: u32) -> Operation {
 // The operation at a bit position: its code, its indices, and the position after it; 15 if the bytes break off.
 #[no_mangle]
 pub extern "C" fn core_read(ops: &[u8], at: usize, out: &mut [u32; 4]) -> u32 {
-    let r = wire::reader::read_operation(ops, at);
+    let r = wire::reader::operation_at(ops, at);
     match r {
         OperationRead::Found(o, next) => {
             out[0] = code_of(o);
