@@ -101,13 +101,13 @@ fn seen_from(list: &[u16], c: usize) -> Across
 pub fn across(list: &[u16], chains: &Links, p: u16, q: u16) -> Across
     ensures { λ r. ⌜ Finds (now (list .entry)) (now (chains .entry)) p q r ⌝ }
 {
-    if p == q {
-        return Across::Nothing;
-    }
     let mut c = newest(list, chains, p);
     while 0 < c {
         c -= 1;
         if list[corner_after(c)] == q {
+            if p == q {
+                return Across::Nothing;
+            }
             return seen_from(list, c);
         }
         c = older(chains, c);

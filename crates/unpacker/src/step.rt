@@ -16,8 +16,10 @@ use mesh::Met;
 use mesh::link;
 use rules::Operation;
 use rules::Triangle;
+use unpacking::Progress;
 use unpacking::Stepped;
 use wire::reader::OperationRead;
+use wire::reader::OperationReader;
 use wire::reader::read_operation;
 ghost use mathlib.Core.Path.{_≡_};
 ghost use Prim.Native.Nat.{_+_, _*_, _<_, _≤_};
@@ -25,7 +27,9 @@ ghost use lib.ListN.{length};
 ghost use Rattle.memory.specs.declared.Decided.the-variants.{Builds};
 ghost use Rattle.memory.specs.Decision.{decided};
 ghost use Rattle.rules.specs.Limits.{maxPlaces};
-ghost use Rattle.unpacking.specs.Runs.{Held, written, Beyond, OperateOf, StepOf, RunOf};
+ghost use Rattle.unpacking.specs.Runs.{Held, written, Beyond, OperateOf, RunOf};
+ghost use Rattle.unpacking.specs.Progressing.{over, progressOf, HeldBy, Leads};
+ghost use Rattle.unpacker.specs.Turns.{StepRead, TurnOf};
 
 // Writes triangle n into the buffer.
 fn put_triangle(triangles: &mut [u16], n: usize, t: Triangle)
@@ -89,25 +93,94 @@ fn operate(
     }
 }
 
-// One operation, read at a bit position and done: 15 to 18, or the state and the position after it.
-pub fn step(
-    ops: &[u8],
-    at: usize,
+// An operation that was read, done: 15 to 18, or the state and the position after it.
+fn step(
+    read: OperationRead,
     s: Front,
     triangles: &mut [u16],
     m: &mut [u16],
     chains: &mut Links,
     met: &mut Met,
 ) -> Stepped
-    requires { ⌜ Held s (now triangles) (now m) (now chains) (now met) × (length (now ops) < 65536) ⌝ }
-    ensures turn { λ r. ⌜ StepOf (now (ops .entry)) at s (now (triangles .entry)) (now (m .entry)) (now (chains .entry)) (now (met .entry)) r (now (triangles .exit)) (now (m .exit)) (now (chains .exit)) (now (met .exit)) ⌝ }
+    requires { ⌜ Held s (now triangles) (now m) (now chains) (now met) ⌝ }
+    ensures turn { λ r. ⌜ StepRead read s (now (triangles .entry)) (now (m .entry)) (now (chains .entry)) (now (met .entry)) r (now (triangles .exit)) (now (m .exit)) (now (chains .exit)) (now (met .exit)) ⌝ }
     ensures beyond { λ _. ⌜ Beyond (s .stated) (now (triangles .entry)) (now (triangles .exit)) ⌝ }
 {
-    let read = read_operation(ops, at);
     let OperationRead::Found(o, next) = read else {
         return Stepped::Refused(15);
     };
     operate(o, next, s, triangles, m, chains, met)
+}
+
+// A run that has ended.
+fn finished(stepped: Stepped) -> Progress
+    ensures { λ p. ⌜ p ≡ over stepped ⌝ }
+{
+    Progress {
+        at: 0,
+        left: 0,
+        stepped,
+    }
+}
+
+// The run after a step, with so many operations left: where none is, 15.
+fn progress(stepped: Stepped, left: usize) -> Progress
+    ensures { λ p. ⌜ p ≡ progressOf stepped left ⌝ }
+{
+    let Stepped::Going(_, at) = stepped else {
+        return finished(stepped);
+    };
+    if left == 0 {
+        return finished(Stepped::Refused(15));
+    }
+    Progress { at, left, stepped }
+}
+
+// A turn of the run: the operation that was read is done, unless the model is complete.
+fn turn<'a>(
+    read: OperationRead,
+    p: Progress,
+    triangles: &'a mut [u16],
+    m: &'a mut [u16],
+    chains: &'a mut Links,
+    met: &'a mut Met,
+) -> Progress
+    requires { ⌜ HeldBy p (now triangles) (now m) (now chains) (now met) × (0 < p .left) ⌝ }
+    ensures { λ r. ⌜ TurnOf read p (now (triangles .entry)) (now (m .entry)) (now (chains .entry)) (now (met .entry)) r (now (triangles .exit)) (now (m .exit)) (now (chains .exit)) (now (met .exit)) ⌝ }
+{
+    let stepped = p.stepped;
+    let Stepped::Going(s, _) = stepped else {
+        return finished(stepped);
+    };
+    if is_complete(s) {
+        return finished(stepped);
+    }
+    let r = step(read, s, triangles, m, chains, met);
+    progress(r, p.left - 1)
+}
+
+// Turns until the run has ended. One reader goes through them all: it keeps the bytes of the operations and the bit position.
+fn turns(
+    ops: &[u8],
+    mut p: Progress,
+    triangles: &mut [u16],
+    m: &mut [u16],
+    chains: &mut Links,
+    met: &mut Met,
+) -> Progress
+    requires { ⌜ HeldBy p (now triangles) (now m) (now chains) (now met) × (length (now ops) < 65536) ⌝ }
+    ensures { λ r. ⌜ (r .left ≡ 0) × Leads (now (ops .entry)) p (now (triangles .entry)) (now (m .entry)) (now (chains .entry)) (now (met .entry)) r (now (triangles .exit)) (now (m .exit)) (now (chains .exit)) (now (met .exit)) ⌝ }
+{
+    let mut r = OperationReader {
+        bytes: ops,
+        at: p.at,
+    };
+    while 0 < p.left {
+        let read = read_operation(r);
+        p = turn(read, p, &mut *triangles, &mut *m, &mut *chains, &mut *met);
+        r.at = p.at;
+    }
+    p
 }
 
 // Operations from the first bit on until the model is complete, by at most `budget` of them: the state and the position then, or
@@ -125,20 +198,7 @@ pub fn run(
     ensures run { λ r. ⌜ RunOf (now (ops .entry)) budget start (now (triangles .entry)) (now (m .entry)) (now (chains .entry)) (now (met .entry)) r (now (triangles .exit)) (now (m .exit)) (now (chains .exit)) (now (met .exit)) ⌝ }
     ensures beyond { λ _. ⌜ Beyond (start .stated) (now (triangles .entry)) (now (triangles .exit)) ⌝ }
 {
-    let mut s = start;
-    let mut at = 0;
-    let mut left = budget;
-    while 0 < left {
-        if is_complete(s) {
-            return Stepped::Going(s, at);
-        }
-        let r = step(ops, at, s, triangles, m, chains, met);
-        let Stepped::Going(after, next) = r else {
-            return r;
-        };
-        s = after;
-        at = next;
-        left -= 1;
-    }
-    Stepped::Refused(15)
+    let first = progress(Stepped::Going(start, 0), budget);
+    let last = turns(ops, first, triangles, m, chains, met);
+    last.stepped
 }

@@ -7,6 +7,7 @@ pub mod Ending
 pub mod Stepping
 pub mod Ruling
 pub mod Looping
+pub mod Leading
 pub mod Lending
 pub mod Clearing
 pub mod Concluding

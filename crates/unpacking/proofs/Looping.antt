@@ -4,7 +4,6 @@ use Prim.Native.Nat.{ℕ, _-_, _≤_, _<_}
 use mathlib.Core.Bool.{Bool, true, false}
 use mathlib.Core.List.{List}
 use mathlib.Core.Path.{_≡_, refl, sym, ap, _∙_, subst}
-use lib.ListN.{length}
 use Rattle.rules.specs.declared.Counts.{Counts}
 use Rattle.rules.specs.Machine.{Machine, complete}
 use Rattle.rules.specs.Unpack.{Ran, stopped, runAll}
@@ -12,7 +11,7 @@ use Rattle.memory.specs.declared.Front.{Front}
 use Rattle.unpacking.specs.declared.Stepped.{Stepped}
 use Rattle.unpacking.specs.declared.Stepped.the-variants.{Going, Refused}
 use Rattle.unpacking.specs.Turn.{turn}
-use Rattle.unpacking.specs.Runs.{Runs, Held, isComplete, bitsFrom, Beyond, Steps, StepOf, Comes, ComesFrom, Ends, RunOf, Ended}
+use Rattle.unpacking.specs.Runs.{Runs, isComplete, bitsFrom, Steps, StepOf, Comes, ComesFrom, Ends, RunOf, Ended}
 use Rattle.unpacking.proofs.Turns.{ran-complete, ran-stops, ran-goes, ran-out}
 use Rattle.unpacking.proofs.Ending.{complete-same}
 
@@ -21,12 +20,6 @@ module _ (ops : List ℕ) (budget : ℕ) (s₀ : Front) (ts₀ m₀ cs₀ ks₀ 
   comes-first M g = record { machine = M; ran = refl; runs = g; stated = refl }
 
   module _ (left : ℕ) (s : Front) (at : ℕ) (ts m cs ks : List ℕ) (come : ComesFrom ops budget s₀ ts₀ m₀ cs₀ ks₀ left s at ts m cs ks) where
-    pub comes-held : Held s₀ ts₀ m₀ cs₀ ks₀ → Held s ts m cs ks
-    comes-held h = let k = come (h .machine) (h .runs) in record { machine = k .machine; runs = k .runs }
-
-    pub comes-stated : Held s₀ ts₀ m₀ cs₀ ks₀ → s .stated ≡ s₀ .stated
-    comes-stated h = come (h .machine) (h .runs) .stated
-
     pub comes-end : left ≤ 0 → RunOf ops budget s₀ ts₀ m₀ cs₀ ks₀ (Refused 15) ts m cs ks
     comes-end l M g = let k = come M g in k .ran ∙ ran-out left (k .machine) (bitsFrom ops at) l
 
@@ -64,23 +57,6 @@ module _ (ops : List ℕ) (budget : ℕ) (s₀ : Front) (ts₀ m₀ cs₀ ks₀ 
             runs = t .runs;
             stated = t .stated ∙ c .stated;
           }
-
--- the invariant of the loop
-pub record Loop (ops : List ℕ) (budget : ℕ) (s₀ : Front) (ts₀ m₀ cs₀ ks₀ : List ℕ) (left : ℕ) (s : Front) (at : ℕ) (ts m cs ks : List ℕ) : Type 0 where
-  pub come : ComesFrom ops budget s₀ ts₀ m₀ cs₀ ks₀ left s at ts m cs ks
-  pub beyond : Beyond (s₀ .stated) ts₀ ts
-  pub triangles-long : length ts ≡ length ts₀
-  pub memory-long : length m ≡ length m₀
-
-pub loop-first : (ops : List ℕ) (budget : ℕ) (s : Front) (ts m cs ks : List ℕ) → Loop ops budget s ts m cs ks budget s 0 ts m cs ks
-loop-first ops budget s ts m cs ks = record { come = comes-first ops budget s ts m cs ks; beyond = refl; triangles-long = refl; memory-long = refl }
-
--- what lies beyond the triangles stated stays as it was
-pub beyond-none : (c : Counts) (ts : List ℕ) → Beyond c ts ts
-beyond-none c ts = refl
-
-pub beyond-more : (c d : Counts) (ts ts′ ts″ : List ℕ) → d ≡ c → Beyond c ts ts′ → Beyond d ts′ ts″ → Beyond c ts ts″
-beyond-more c d ts ts′ ts″ e h k = subst (λ (x : Counts). Beyond x ts′ ts″) e k ∙ h
 
 -- a run that has ended can be concluded
 pub ends-ended : (R : Ran) (ops : List ℕ) (c : Counts) (r : Stepped) (ts m cs ks : List ℕ) → Ends R ops c r ts m cs ks → Ended r ts cs ks

@@ -79,3 +79,7 @@ pub record OperationFound (bs : List ℕ) (at : ℕ) (o : Operation) (next : ℕ
 
 abbrev pub Ahead : List ℕ → ℕ → OperationRead → Type 0
 Ahead bs at r = (o : Operation) (next : ℕ) → r ≡ Found o next → OperationFound bs at o next
+
+-- r is the operation at a bit position; one that is found ends further on, in the bytes
+abbrev pub ReadIs : List ℕ → ℕ → OperationRead → Type 0
+ReadIs bs at r = (r ≡ operationAt bs at) × Ahead bs at r

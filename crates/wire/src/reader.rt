@@ -8,7 +8,7 @@ ghost use lib.ListN.{drop, getD};
 ghost use Rattle.rules.specs.Bits.{bitsOfBytes};
 ghost use Rattle.rules.specs.Code.{kinds, kindIn};
 ghost use Rattle.rules.specs.Unpack.{restFits};
-ghost use Rattle.wire.specs.Reader.{numberAt, IndexedIs, splitOf, unionOf, operationAt, Ahead};
+ghost use Rattle.wire.specs.Reader.{numberAt, IndexedIs, splitOf, unionOf, ReadIs};
 
 // A field has no more bytes than its length can say.
 const MOST_BYTES: usize = 65535;
@@ -182,9 +182,8 @@ fn union_at(ops: &[u8], at: usize) -> OperationRead
 }
 
 // The operation at a bit position, and the position after it, which is further on and in the bytes.
-pub fn read_operation(ops: &[u8], at: usize) -> OperationRead
-    ensures { λ r. ⌜ r ≡ operationAt (now (ops .entry)) at ⌝ }
-    ensures ahead { λ r. ⌜ Ahead (now (ops .entry)) at r ⌝ }
+pub fn operation_at(ops: &[u8], at: usize) -> OperationRead
+    ensures { λ r. ⌜ ReadIs (now (ops .entry)) at r ⌝ }
 {
     let number = code_bits(ops, at);
     let Number::Value(code, next) = number else {
@@ -197,6 +196,13 @@ pub fn read_operation(ops: &[u8], at: usize) -> OperationRead
         return union_at(ops, next);
     }
     OperationRead::Found(kind_of(code), next)
+}
+
+// The operation at the reader's position, and the position after it.
+pub fn read_operation<'a>(r: OperationReader<'a>) -> OperationRead
+    ensures { λ s. ⌜ ReadIs (now (r .entry .bytes)) (r .entry .at) s ⌝ }
+{
+    operation_at(r.bytes, r.at)
 }
 
 // Whether fewer than eight bits are left after a bit position, all of them zero: 19's test of the last byte.

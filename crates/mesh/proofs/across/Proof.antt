@@ -16,9 +16,6 @@ Inv-loop list chains p q c₀ c = (c ≤ maxNumbers) × (3 * ((c + 2) / 3) ≤ l
 abbrev μ-loop : tie.MeasureT-loop
 μ-loop list chains p q c₀ c = c
 
-returns : tie.Need-returns Inv-loop μ-loop
-returns c = finds-itself (c .if1 .taken)
-
 newest-requires : tie.Need-newest-requires Inv-loop μ-loop
 newest-requires c κs = search needs
 
@@ -31,21 +28,25 @@ sub-c c = omega arith
 corner-after-requires : tie.Need-corner-after-requires Inv-loop μ-loop
 corner-after-requires c κs = search needs
 
-mul-if2 : tie.Need-mul-if2 Inv-loop μ-loop
-mul-if2 c = omega arith
+mul-if1 : tie.Need-mul-if1 Inv-loop μ-loop
+mul-if1 c = omega arith
 
-shared-slice-read-if2 : tie.Need-shared-slice-read-if2 Inv-loop μ-loop
-shared-slice-read-if2 c = omega arith
+shared-slice-read-if1 : tie.Need-shared-slice-read-if1 Inv-loop μ-loop
+shared-slice-read-if1 c = omega arith
+
+returns : tie.Need-returns Inv-loop μ-loop
+returns c = finds-itself (c .if2 .taken)
 
 seen-from-requires : tie.Need-seen-from-requires Inv-loop μ-loop
 seen-from-requires c κs = search needs
 
 returns-2 : tie.Need-returns-2 Inv-loop μ-loop
 returns-2 c =
-    let k = c .before .before .before in
+    let i = c .before in
+    let k = i .before .before .before in
     let b = k .before in
-    walk-found _ _ _ (b .before .before .before .if1 .left) (b .before .loop .inv .2) (b .loop-test .taken)
-    (k .corner-after .ensures .0) (c .before .if2 .taken) (c .seen-from .ensures)
+    walk-found _ _ _ (i .if2 .left) (b .before .loop .inv .2) (b .loop-test .taken)
+    (k .corner-after .ensures .0) (i .before .if1 .taken) (c .seen-from .ensures)
 
 older-requires : tie.Need-older-requires Inv-loop μ-loop
 older-requires c κs = search needs
@@ -60,7 +61,7 @@ loop-again c =
       search needs,
       search needs,
       walk-more _ _ _ (b .before .loop .inv .2) (b .loop-test .taken) (k .corner-after .ensures .0)
-          (c .before .if2 .left) (c .older .ensures),
+          (c .before .if1 .left) (c .older .ensures),
     )
 
 returns-3 : tie.Need-returns-3 Inv-loop μ-loop
@@ -72,13 +73,13 @@ across-spec =
     (tie.spec
     Inv-loop
     μ-loop
-    returns
     newest-requires
     loop-holds
     sub-c
     corner-after-requires
-    mul-if2
-    shared-slice-read-if2
+    mul-if1
+    shared-slice-read-if1
+    returns
     seen-from-requires
     returns-2
     older-requires
