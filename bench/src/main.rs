@@ -1,10 +1,11 @@
-//! Speed of the service as a ratio to the second program's fast engine, both in one run. `service-bench [REPEATS]`
+//! Speed of the service as a ratio to the second program's fast engine, both in one run. `service-bench [REPEATS] [building]`
 //!
-//! Nanoseconds a triangle, the median over many calls; buffers are reused and not cleared between calls.
+//! Nanoseconds a triangle, the median over many calls; buffers are reused and not cleared between calls. Then the building calls.
 
 use compare::expected::{self, LEVEL, LIMITS};
 use cutborder::fast::{Packer, Unpacker};
 use cutborder::gen::{self, Model};
+use cutborder::ops::Counts;
 use cutborder::plain::{choose_at, Trace};
 use cutborder::rng::Rng;
 use cutborder::{Level, Place};
@@ -84,6 +85,10 @@ fn medians(repeats: usize, mut ours: impl FnMut(), mut theirs: impl FnMut()) -> 
 
 fn main() {
     let repeats = std::env::args().nth(1).and_then(|a| a.parse().ok()).unwrap_or(500);
+    if std::env::args().nth(2).as_deref() == Some("building") {
+        buildings(repeats);
+        return;
+    }
     println!("nanoseconds a triangle, median of {repeats} calls, ours and the second program's fast engine, and their ratio");
     println!("check: refusals 1 to 7 here, linking with 1 to 6 there");
     println!("places: the peak of shortened loops, and that of full loops before; over 1,024 of them was refusal 9");
@@ -108,38 +113,38 @@ fn main() {
         print!("  {:>8.1} {:>8.1} {:>6.2}", ours / t, theirs / t, ours / theirs);
         println!("  {:>6} {:>6}", most_places(LEVEL, &m), most_places(Level::BASE, &m));
     }
+    println!();
     buildings(repeats);
 }
 
-/// Building calls: nanoseconds of a beginning, of an operation in the mean over a model's, and of the finish.
+/// Building calls: nanoseconds of a beginning, of an operation in the mean over a model's, and of the finish; of each call the least
+/// of many runs, since a model's calls take longer than a machine's other work leaves alone.
 fn buildings(repeats: usize) {
-    println!();
-    println!("building calls: nanoseconds a call, an operation's in the mean over the model's, medians of {} runs", (repeats / 10).max(1));
+    let runs = (repeats / 10).max(1);
+    println!("building calls: nanoseconds a call, each the least of {runs} runs, an operation's in the mean over the model's");
     println!("{:<16} {:>6} {:>6} {:>10}  {:>8} {:>9} {:>8}", "model", "V", "T", "operations", "begin", "operation", "finish");
     for (name, m) in building_models() {
         let (ops, chosen) = expected::choose(m.v, &m.list, LIMITS).expect("a packing");
-        let counts = chosen.book.counts;
-        let mut times = [Vec::new(), Vec::new(), Vec::new()];
+        let counts = Counts { places: chosen.book.peak_places, loops: chosen.book.peak_loops, ..chosen.book.counts };
         let mut builder = compare::Building::new(m.list.len(), 1_024, 0);
-        for _ in 0..(repeats / 10).max(1) {
-            let t = Instant::now();
-            builder.begin(black_box(counts)).expect("a beginning");
-            times[0].push(t.elapsed().as_nanos() as f64);
-            let t = Instant::now();
-            for &op in &ops {
-                black_box(builder.operate(black_box(op))).expect("an operation");
+        let (mut begin, mut operations, mut finish) = (f64::MAX, vec![f64::MAX; ops.len()], f64::MAX);
+        for _ in 0..runs {
+            least(&mut begin, || builder.begin(black_box(counts)).expect("a beginning"));
+            for (&op, time) in ops.iter().zip(&mut operations) {
+                least(time, || builder.operate(black_box(op)).expect("an operation"));
             }
-            times[1].push(t.elapsed().as_nanos() as f64 / ops.len() as f64);
-            let t = Instant::now();
-            black_box(builder.finish()).expect("a finish");
-            times[2].push(t.elapsed().as_nanos() as f64);
+            least(&mut finish, || builder.finish().expect("a finish"));
         }
-        let [begin, operation, finish] = times.map(|mut t| {
-            t.sort_by(f64::total_cmp);
-            t[t.len() / 2]
-        });
+        let operation = operations.iter().sum::<f64>() / ops.len() as f64;
         println!("{name:<16} {:>6} {:>6} {:>10}  {begin:>8.0} {operation:>9.0} {finish:>8.0}", m.v, m.list.len() / 3, ops.len());
     }
+}
+
+/// A call's time, if it is less than before.
+fn least<T>(time: &mut f64, call: impl FnOnce() -> T) {
+    let t = Instant::now();
+    black_box(call());
+    *time = time.min(t.elapsed().as_nanos() as f64);
 }
 
 /// Models that are built one operation at a time: closed ones and one with a rim, of growing size.

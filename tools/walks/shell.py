@@ -530,7 +530,6 @@ module _ {M : Type 1} (𝓤 : URA M) (H : Heap 𝓤) (A : Atoms 𝓤) (at-mem : 
         self.filled[to], self.locals[to] = u, Value(d, r, u, is_)
         for p in refs:
             if p.given:
-                x = got.index(p)
                 self.last[p.i] = f'ys{p.s}'
             else:
                 self.spent.add(p.i)

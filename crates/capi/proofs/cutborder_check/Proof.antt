@@ -8,15 +8,12 @@ use Rattle.capi.specs.Answered.{numberOf}
 use Rattle.capi.proofs.cutborder_check.Statement.{statement}
 use Rattle.capi.proofs.cutborder_check.Tie as tie
 
--- src/lib.rt:31:13
 check-requires : tie.Need-check-requires
 check-requires c κs = search needs
 
--- src/lib.rt:31:5
 checked-requires : tie.Need-checked-requires
 checked-requires c κs = search needs
 
--- src/lib.rt:28:1
 returns : tie.Need-returns
 returns c = c .checked .ensures ∙ ap (λ (x : Checked). numberOf (checkedAnswer x)) (c .before .check .ensures)
 

@@ -5,31 +5,24 @@ use Rattle.capi.proofs.Numbers.{built-is}
 use Rattle.capi.proofs.answered.performed.Statement.{statement}
 use Rattle.capi.proofs.answered.performed.Tie as tie
 
--- src/answered.rt:88:25
 enum-known-a : tie.Need-enum-known-a
 enum-known-a c = search needs
 
--- src/answered.rt:93:13
 enum-told : tie.Need-enum-told
 enum-told c = search needs
 
--- src/answered.rt:96:27
 enum-known-a-2 : tie.Need-enum-known-a-2
 enum-known-a-2 c = search needs
 
--- src/answered.rt:96:33
 cast-result : tie.Need-cast-result
 cast-result c = search needs
 
--- src/answered.rt:82:1
 returns : tie.Need-returns
 returns c = built-is _ _ _ (c .before .before .a .given .1)
 
--- src/answered.rt:82:1
 returns-2 : tie.Need-returns-2
 returns-2 c = search needs
 
--- src/answered.rt:82:1
 returns-3 : tie.Need-returns-3
 returns-3 c = search needs
 

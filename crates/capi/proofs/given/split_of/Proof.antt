@@ -5,15 +5,12 @@ use Rattle.capi.proofs.Numbers.{split-small, split-large}
 use Rattle.capi.proofs.given.split_of.Statement.{statement}
 use Rattle.capi.proofs.given.split_of.Tie as tie
 
--- src/given.rt:34:33
 cast-t3 : tie.Need-cast-t3
 cast-t3 c = search needs
 
--- src/given.rt:34:9
 returns : tie.Need-returns
 returns c = split-small _ (c .if1 .taken)
 
--- src/given.rt:30:1
 returns-2 : tie.Need-returns-2
 returns-2 c = split-large _ (c .if1 .left)
 

@@ -5,23 +5,18 @@ use Rattle.capi.proofs.Numbers.{union-large, union-far, union-small}
 use Rattle.capi.proofs.given.union_of.Statement.{statement}
 use Rattle.capi.proofs.given.union_of.Tie as tie
 
--- src/given.rt:44:9
 returns : tie.Need-returns
 returns c = union-large _ _ (c .if1 .taken)
 
--- src/given.rt:47:9
 returns-2 : tie.Need-returns-2
 returns-2 c = union-far _ _ (c .before .if1 .left) (c .if2 .taken)
 
--- src/given.rt:49:22
 cast-t4 : tie.Need-cast-t4
 cast-t4 c = search needs
 
--- src/given.rt:49:32
 cast-t5 : tie.Need-cast-t5
 cast-t5 c = search needs
 
--- src/given.rt:40:1
 returns-3 : tie.Need-returns-3
 returns-3 c = union-small _ _ (c .before .if1 .left) (c .if2 .left)
 

@@ -5,15 +5,12 @@ use Rattle.capi.proofs.Numbers.{within-small, within-large}
 use Rattle.capi.proofs.given.within_16.Statement.{statement}
 use Rattle.capi.proofs.given.within_16.Tie as tie
 
--- src/given.rt:12:16
 cast-result : tie.Need-cast-result
 cast-result c = search needs
 
--- src/given.rt:12:9
 returns : tie.Need-returns
 returns c = within-small _ (c .if1 .taken)
 
--- src/given.rt:8:1
 returns-2 : tie.Need-returns-2
 returns-2 c = within-large _ (c .if1 .left)
 

@@ -1,0 +1,66 @@
+/* The six calls from C: M2 of the paper checked, packed, unpacked and built, and calls that are refused. */
+#include "../../include/cutborder.h"
+#include <stdio.h>
+#include <string.h>
+
+static int wrong;
+
+#define EXPECT(what) \
+    do { \
+        if (!(what)) { \
+            wrong++; \
+            printf("line %d: %s\n", __LINE__, #what); \
+        } \
+    } while (0)
+
+static const uint16_t list[12] = {0, 1, 2, 1, 0, 3, 2, 1, 3, 0, 2, 3};
+static const uint8_t expected[] = {1, 0, 8, 0, 4, 0, 4, 0, 4, 0, 1, 2, 0, 2, 0xe0, 0xd0};
+static const uint16_t as_built[12] = {0, 1, 2, 1, 0, 3, 1, 3, 2, 2, 3, 0};
+static struct cutborder_place places[1024], same[1024];
+
+static void packs(void) {
+    uint16_t numbering[4], triangles[12], model[5];
+    uint8_t pack[64];
+    uint32_t size = 77;
+    int32_t euler = -77;
+    EXPECT(cutborder_check(4, list, 12) == 0);
+    EXPECT(cutborder_check((size_t)-1, list, 12) == 2);
+    EXPECT(cutborder_pack(5, list, 12, numbering, 4, pack, sizeof pack, places, 1024, &size) == 6 && size == 77);
+    EXPECT(cutborder_pack(4, list, 12, numbering, 4, pack, sizeof pack, places, 1023, &size) == 8 && size == 77);
+    EXPECT(cutborder_pack(4, list, 12, numbering, 4, pack, sizeof pack, places, 1024, &size) == 0);
+    EXPECT(size == sizeof expected && memcmp(pack, expected, sizeof expected) == 0);
+    EXPECT(cutborder_unpack(pack, size - 1, triangles, 12, places, 1024, model, &euler) == 12 && euler == -77);
+    EXPECT(cutborder_unpack(pack, size, triangles, 12, places, 1024, model, &euler) == 0);
+    EXPECT(model[0] == 4 && model[1] == 4 && model[2] == 6 && model[3] == 0 && model[4] == 0 && euler == 2);
+    EXPECT(memcmp(triangles, as_built, sizeof as_built) == 0);
+}
+
+static void builds(void) {
+    struct cutborder_builder state, before;
+    uint16_t triangles[12], built[4] = {7, 7, 7, 7}, totals[3];
+    int32_t euler;
+    const uint32_t codes[4] = {CUTBORDER_START, CUTBORDER_NEW, CUTBORDER_FORWARD, CUTBORDER_CLOSE};
+    memset(&state, 0, sizeof state);
+    EXPECT(cutborder_operation(&state, CUTBORDER_START, 0, 0, triangles, 12, places, 1024, built) == 21 && built[0] == 7);
+    EXPECT(cutborder_begin(4 + 65536, 4, 4, 1, triangles, 12, places, 1024, &state) == 13 && state.vertices == 0);
+    EXPECT(cutborder_begin(4, 4, 4, 1, triangles, 12, places, 1024, &state) == 0 && state.vertices == 4);
+    for (int i = 0; i < 4; i++) {
+        before = state;
+        memcpy(same, places, sizeof places);
+        EXPECT(cutborder_operation(&state, 8, 0, 0, triangles, 12, places, 1024, built) == 16);
+        EXPECT(cutborder_operation(&state, CUTBORDER_SPLIT, 0, 65536 + 1, triangles, 12, places, 1024, built) == 16);
+        EXPECT(memcmp(&before, &state, sizeof state) == 0 && memcmp(same, places, sizeof places) == 0);
+        EXPECT(cutborder_operation(&state, codes[i], 0, 0, triangles, 12, places, 1024, built) == 0);
+        EXPECT(built[0] == 1 && memcmp(built + 1, as_built + 3 * i, 6) == 0);
+    }
+    EXPECT(memcmp(triangles, as_built, sizeof as_built) == 0);
+    EXPECT(cutborder_finish(&state, triangles, 12, places, 1024, totals, &euler) == 0);
+    EXPECT(totals[0] == 6 && totals[1] == 0 && totals[2] == 0 && euler == 2);
+}
+
+int main(void) {
+    EXPECT(sizeof(struct cutborder_place) == 8 && sizeof(struct cutborder_builder) == 426);
+    packs();
+    builds();
+    return wrong != 0;
+}
