@@ -19,8 +19,7 @@ use given::operation_of;
 use rules::Builder;
 use rules::Place;
 ghost use mathlib.Core.Path.{_≡_};
-ghost use Rattle.rules.specs.Answer.{checkedAnswer};
-ghost use Rattle.rules.specs.Check.{check};
+ghost use Rattle.rules.specs.Check.{checks};
 ghost use Rattle.capi.specs.Given.{countsOf, operationOf};
 ghost use Rattle.capi.specs.Answered.{numberOf};
 ghost use Rattle.capi.specs.Exported.{Packs, Unpacks, Begins, Operates, Finishes};
@@ -28,9 +27,9 @@ ghost use Rattle.capi.specs.Exported.{Packs, Unpacks, Begins, Operates, 
 // Checks a list of a model of v vertices: refusals 1 to 7.
 #[no_mangle]
 pub extern "C" fn cutborder_check(v: usize, list: &[u16]) -> u32
-    ensures { λ n. ⌜ n ≡ numberOf (checkedAnswer (check v (now (list .entry)))) ⌝ }
+    ensures { λ n. ⌜ n ≡ numberOf (checks v (now (list .entry))) ⌝ }
 {
-    checked(mesh::check(v, list))
+    checked(service::check(v, list))
 }
 
 // Packs a list of a model of v vertices: refusals 1 to 11, or the pack, its length in `size`, and the numbering.
