@@ -1,5 +1,6 @@
 """The body of a walk, cut into stretches: one from each call on, the last first."""
 from pieces import Context, chain, closed, items, local, sub
+from signature import bare
 
 
 def cells(b, filled, without=()):
@@ -91,17 +92,20 @@ def unit_lands(b, c):
 
 def returning(b, c, exit_):
     """The array's local is a cell again, `_0` is returned, each local dies, and what is left is what the exit asks."""
-    m = b.locals['m']
-    c.step(f'use1 W (some (λ (v : Val). ‵ (fat fullShare (ty {m}) {local(m)} 0 v) ⊛ ‵ (N .own m′ (v ∷ [])))) (part-out 𝓤 H A W N refl fullShare m′ {local(m)} 0)', 1, ['cell'])
-    c.bind('pick ! (λ v.')
-    c.split('cell', f'_{m}', 'm-owns')
-    c.line()
+    filled = [0] + [p.i for p in b.params] + [b.list, b.locals['n']]
+    if b.clears:
+        filled += [b.locals[x] for x in ('r', 'unit', 'clear-ptr', 'clear-slice', 'len')]
+    else:
+        m = b.locals['m']
+        c.step(f'use1 W (some (λ (v : Val). ‵ (fat fullShare (ty {m}) {local(m)} 0 v) ⊛ ‵ (N .own m′ (v ∷ [])))) (part-out 𝓤 H A W N refl fullShare m′ {local(m)} 0)', 1, ['cell'])
+        c.bind('pick ! (λ v.')
+        c.split('cell', f'_{m}', 'm-owns')
+        c.line()
+        filled += [m] + ([b.locals[x] for x in ('r', 'unit', 'save-m', 'save-ptr', 'save-slice')] if b.saves else [])
     if b.saves:
         c.step(f'assigns ! (of-opd ! {load_of(b, c, "r")}) {initial(b, c, 0, "wu")}')
         c.line()
     c.step(f'returns ! {look(b, c, 0)}')
-    filled = [0] + [p.i for p in b.params] + [b.list, b.locals['n'], m]
-    filled += [b.locals[x] for x in ('r', 'unit', 'save-m', 'save-ptr', 'save-slice')] if b.saves else []
     forget(b, c, filled)
     c.line()
     for i in range(b.many):
@@ -159,55 +163,126 @@ def saving(b):
     abbrev Ctx-save : {b.result.name} →{' List ℕ →' * len(b.rooms)} List ℕ → Val → List (Item 𝓤)
     Ctx-save r {ys} m′ u = {' ∷ '.join(owned + cells(b, filled, without))} ∷ Dies
 
-    saving : (r : {b.result.name}){binders} (m′ : List ℕ) (u : Val) → {b.promised('r', ys.split(), 'm′')}{lengths} → Holds (hasTy (ty {b.locals['r']}) u) × WT u → ent 𝓤 (⋆ 𝓤 H A (Ctx-save r {ys} m′ u)) (Wp 𝓤 H C Λ En pieces.t-{b.at_save} (atReturn 𝓤 H En Post))
+    saving : (r : {b.result.name}){binders} (m′ : List ℕ) (u : Val) → {b.promised('r', ys.split(), 'm′')}{lengths} → Holds (hasTy (ty {b.locals['r']}) u) × WT u → ent 𝓤 (⋆ 𝓤 H A (Ctx-save r {ys} m′ u)) (Wp 𝓤 H C Λ En pieces.t-{b.at_last} (atReturn 𝓤 H En Post))
     saving r {ys} m′ u e {ls} wu =
-        qed W (Ctx-save r {ys} m′ u) ∵ exec ! C Λ En pieces.t-{b.at_save} (atRet En Post) $
+        qed W (Ctx-save r {ys} m′ u) ∵ exec ! C Λ En pieces.t-{b.at_last} (atRet En Post) $
+        ''' + c.text)
+
+
+def number_answer(b, c, contract, of, x, to, law, fact, names):
+    """From the answer of a function that gives a number to the local that it goes to; `fact` is what the number is."""
+    k, v, e, known = names
+    s = contract.lower()
+    c.step(f'use1 W (later (some (λ ({k} : ℕ). (‵ ftrue ⊛ ‵ (usize .own {k} ({v} ∷ []))) ⊛ raw (ensured 𝓤 H A {s}′.ended ({s}′.clauses 𝓤 H A at-mem run) tt {x} tt {k})))) (id⊢ 𝓤 _)', 1, ['got'])
+    c.bind(f'await ! tt $ pick ! (λ {k}.')
+    c.line()
+    c.split('got', 'answer', 'ensured')
+    c.move('ensured')
+    c.step(f'use1 W (raw (fact 𝓤 ({k} ≡ {fact}))) ({law} 𝓤 H A at-mem run {of} {k})')
+    c.bind(f'heard ! ({k} ≡ {fact}) (λ {e}.', 1)
+    c.split('answer', 'true', 'own')
+    c.drop('true')
+    c.line()
+    c.bind(f'peeks ! usize (Is usize) (shows 𝓤 H A usize) {k} ({v} ∷ []) (λ {known}.')
+    c.step(f'land ! {initial(b, c, to, f"(uint-lawful 𝓤 H A W w64 .typed {k} _ {known} .0)")}')
+    c.line()
+    i = b.locals[to]
+    c.step(f'rewrite ! {c.at(f"_{i}")} (λ (v : Val). ‵ (fat fullShare (ty {i}) {local(i)} 0 v)) (ap only ({known} .0) ∙ ap (λ (k : ℕ). vint w64 k) {e}) refl')
+    c.drop('own')
+    c.line()
+
+
+def clearing(b):
+    """From `clear` on."""
+    d, j, many = b.result, b.last, bare(b.cleared)
+    k = b.kappa(j)
+    binders, ys, lengths, ls = b.ends()
+    filled = passed(b)
+    filled[b.locals['n']], filled[b.locals['r']] = 'vint w64 n', 'u'
+    owned = [b.token(i) for i in range(b.lives)] + [f'‵ ({d.row()} .own r (u ∷ []))']
+    owned += [f'‵ (finally {p.type} γ{p.s} ys{p.s})' for p in b.rooms] + [f'‵ ({p.own(b)})' for p in b.shared] + ['‵ Lent']
+    names = b.token_names() + ['result'] + [f's{p.i}' for p in b.rooms] + [f's{p.i}' for p in b.shared] + ['lent']
+    c = Context(names + cell_names(b))
+    reborrow(b, c, b.list, 'clear-ptr', 'clear-slice', 'gn .0')
+    c.step('nothing !', 0, ['true'])
+    c.step('use1 W (raw (Cleared 𝓤 H A at-mem run .pre (to-cleared r u))) (goes-cleared r u is)', 1, ['asked'])
+    c.line()
+    c.bind(f'calls-at ! fm (Cleared 𝓤 H A at-mem run) k-cleared (to-cleared r u) {arguments(b, c, ["r"])} (λ v.')
+    c.line()
+    number_answer(b, c, 'Cleared', 'r', '(r, tt)', 'len', 'cleared-of', f'{many} r', ('k', 'v', 'ek', 'isk'))
+    c.move('tP', 'lent')
+    c.step('use2 W (raw (Clear 𝓤 H A at-mem run .pre (to-clear r))) (goes-clear r (fits r ' + f'{ys} e))', 2, ['asked'])
+    c.line()
+    c.bind(f'calls-at ! fm (Clear 𝓤 H A at-mem run) k-clear (to-clear r) {arguments(b, c, ["clear-slice", "len"])} (λ w.')
+    kappas, x = f'({k}, tt)', f'(rp γ, ({many} r, tt))'
+    unit_answer(b, c, 'z', f'ensured 𝓤 H A clear′.ended (clear′.clauses 𝓤 H A at-mem run) {kappas} {x}', f'({b.token(j)} ⊛ ‵ ftrue)',
+                'List Place × (Unit {0} × Unit {0})', f'lasts clear′.ended {kappas} {x}', f'zs .0 ≡ clearedTo ({many} r) ps')
+    c.bind(f'heard ! (zs .0 ≡ clearedTo ({many} r) ps) (λ ep.', 1)
+    c.split('lasts', 'last', 'lasts', rule='fsplit')
+    c.split('last', 'list', 'long', rule='fsplit')
+    c.move('long')
+    c.bind('feqL ! (λ lp.', 1)
+    unit_lands(b, c)
+    c.split('tokens', 'tP', 'true')
+    returning(b, c, f'by ! (exits r {ys} (zs .0) u e ep {ls} lp)')
+    return closed(f'''    -- `clear`, and the return
+    abbrev Ctx-clear : {d.name} →{' List ℕ →' * len(b.rooms)} Val → List (Item 𝓤)
+    Ctx-clear r {ys} u = {' ∷ '.join(owned + cells(b, filled))} ∷ Dies
+
+    clearing : (r : {d.name}){binders} (u : Val) → {b.promised('r', ys.split(), '')}{lengths} → Is {d.row()} r (u ∷ []) → Holds (hasTy (ty {b.locals['r']}) u) × WT u → ent 𝓤 (⋆ 𝓤 H A (Ctx-clear r {ys} u)) (Wp 𝓤 H C Λ En pieces.t-{b.at_last} (atReturn 𝓤 H En Post))
+    clearing r {ys} u e {ls} is wu =
+        qed W (Ctx-clear r {ys} u) ∵ exec ! C Λ En pieces.t-{b.at_last} (atRet En Post) $
         ''' + c.text)
 
 
 def holding(b, m):
     """The items and their names while the core is still to be called: the array, the tokens, the slices, a copy of each `&`, the list."""
-    owned = [f'‵ (Lies {m})'] + [b.token(i) for i in range(b.lives)] + [f'‵ ({p.own(b)})' for p in b.slices]
+    array = not b.clears
+    owned = [f'‵ (Lies {m})'] * array + [b.token(i) for i in range(b.lives)] + [f'‵ ({p.own(b)})' for p in b.slices]
     owned += [f'‵ ({p.own(b)})' for p in b.shared] + ['‵ Lent']
-    names = ['lies'] + b.token_names() + [f'give{p.i}' for p in b.slices] + [f's{p.i}' for p in b.shared] + ['lent']
+    names = ['lies'] * array + b.token_names() + [f'give{p.i}' for p in b.slices] + [f's{p.i}' for p in b.shared] + ['lent']
     return owned, names
 
 
 def stepping(b):
     """From the core's call on."""
-    lm, j, d = local(b.locals['m']), b.last, b.result
+    j, d, array = b.last, b.result, not b.clears
+    lm = local(b.locals['m']) if array else ''
     kappas, _, x, _ = b.to_core()
     x = x.replace('ref ε', f'ref {lm} ε')
     filled = passed(b)
     filled[b.locals['n']] = 'vint w64 n'
     owned, names = holding(b, 'm₁')
-    without = (b.locals['m'],)
+    without = (b.locals['m'],) if array else ()
+    to = f'(to-core {lm} μ ε)' if array else 'to-core'
+    goes = f'(goes-core {lm} μ ε)' if array else 'goes-core'
     c = Context(names + cell_names(b, without))
     for p in b.rooms:
         reborrow(b, c, p.i, f'ptr{p.i}', f'slice{p.i}', f'g{p.s} .0')
-    address(b, c, 'core-m')
-    c.bind('lft-new ! tt (λ μ.', 0, ['tμ'])
-    c.move('lies')
-    c.step(f'use1 W (later (some (λ (ε : GName). ‵ (MutRef (named {j}) (μ ∷ []) N .own (ref {lm} ε m₁) (vptr {lm} 0 ∷ [])) ⊛ ‵ (flent (μ ∷ []) (Body (mem N) {lm} 0 ε))))) (lends-ref 𝓤 H A W N (named {j}) (μ ∷ []) m₁ {lm} 0)', 1, ['m'])
-    c.bind('await ! tt $ pick ! (λ ε.')
-    c.split('m', 'm', 'm-lent')
-    c.line()
-    given = [f't{i}' for i in range(j)] + ['tμ'] + [f'give{p.i}' for p in b.slices] + ['m']
+    if array:
+        address(b, c, 'core-m')
+        c.bind('lft-new ! tt (λ μ.', 0, ['tμ'])
+        c.move('lies')
+        c.step(f'use1 W (later (some (λ (ε : GName). ‵ (MutRef (named {j}) (μ ∷ []) N .own (ref {lm} ε m₁) (vptr {lm} 0 ∷ [])) ⊛ ‵ (flent (μ ∷ []) (Body (mem N) {lm} 0 ε))))) (lends-ref 𝓤 H A W N (named {j}) (μ ∷ []) m₁ {lm} 0)', 1, ['m'])
+        c.bind('await ! tt $ pick ! (λ ε.')
+        c.split('m', 'm', 'm-lent')
+        c.line()
+    given = [f't{i}' for i in range(j)] + ['tμ'] * array + [f'give{p.i}' for p in b.slices] + ['m'] * array
     whole = given[-1]
     for name in reversed(given[:-1]):
         c.join(name, whole, 'asked')
         whole = 'asked'
-    c.step(f'use1 W (raw (Core 𝓤 H A at-mem run .pre (to-core {lm} μ ε))) (goes-core {lm} μ ε)', 1, ['asked'])
+    c.step(f'use1 W (raw (Core 𝓤 H A at-mem run .pre {to})) {goes}', 1, ['asked'])
     c.line()
-    given = [f'slice{p.i}' if p.kind == 'room' else p.i for p in b.params] + ['core-m', 'n']
-    c.bind(f'calls-at ! fm (Core 𝓤 H A at-mem run) k-core (to-core {lm} μ ε) {arguments(b, c, given)} (λ u.')
+    given = [f'slice{p.i}' if p.kind == 'room' else p.i for p in b.params] + ['core-m'] * array + ['n']
+    c.bind(f'calls-at ! fm (Core 𝓤 H A at-mem run) k-core {to} {arguments(b, c, given)} (λ u.')
     c.line()
-    tokens = chain([b.token(i) for i in range(j)] + ['‵ (flft (μ ∷ []) fullShare)', '‵ ftrue'], '⊛')
+    tokens = chain([b.token(i) for i in range(j)] + ['‵ (flft (μ ∷ []) fullShare)'] * array + ['‵ ftrue'], '⊛')
     c.step(f'use1 W (later (some (λ (r : {d.name}). (({tokens}) ⊛ ‵ ({d.row()} .own r (u ∷ []))) ⊛ raw (ensured 𝓤 H A core′.ended (core′.clauses 𝓤 H A at-mem run) {kappas} {x} tt r)))) (id⊢ 𝓤 _)', 1, ['got'])
     c.bind('await ! tt $ pick ! (λ r.')
     c.line()
     # the last values of the rooms and of the memory, and what is promised of them
-    ends = ['List ℕ' if p.kind == 'room' else 'Unit {0}' for p in b.params] + ['List ℕ', 'Unit {0}', 'Unit {0}']
+    ends = ['List ℕ' if p.kind == 'room' else 'Unit {0}' for p in b.params] + ['List ℕ'] * array + ['Unit {0}', 'Unit {0}']
     def end(i):
         return '(zs' + ' .1' * (i - 1) + ' .0)'
     memory = end(b.list)
@@ -229,7 +304,8 @@ def stepping(b):
         else:
             c.split('lasts', 'none', 'lasts', rule='fsplit')
             c.drop('none')
-    c.split('lasts', 'm-last', 'lasts', rule='fsplit')
+    if array:
+        c.split('lasts', 'm-last', 'lasts', rule='fsplit')
     c.line()
     # the answer goes to its local
     c.split('answer', 'tokens', 'result')
@@ -241,17 +317,21 @@ def stepping(b):
     c.line()
     for i in range(j):
         c.split('tokens', f't{i}', 'tokens')
-    c.split('tokens', 'tμ', 'true')
-    c.step('lft-end ! tt', 1, ['dead'])
-    c.move('dead', 'm-lent', 'm-last')
-    c.step(f'use3 W (later (‵ (Lies {memory}))) (ref-back 𝓤 H A W N (μ ∷ []) ε {memory} {lm} 0)', 3, ['lies'])
-    c.step('await ! tt')
-    c.line()
-    forget(b, c, [x for p in b.rooms for x in (f'ptr{p.i}', f'slice{p.i}')] + ['core-m'])
+    if array:
+        c.split('tokens', 'tμ', 'true')
+        c.step('lft-end ! tt', 1, ['dead'])
+        c.move('dead', 'm-lent', 'm-last')
+        c.step(f'use3 W (later (‵ (Lies {memory}))) (ref-back 𝓤 H A W N (μ ∷ []) ε {memory} {lm} 0)', 3, ['lies'])
+        c.step('await ! tt')
+        c.line()
+    forget(b, c, [x for p in b.rooms for x in (f'ptr{p.i}', f'slice{p.i}')] + ['core-m'] * array)
     c.line()
     binders, ys, _, ls = b.ends()
     ends = ' '.join(end(p.i) for p in b.rooms)
-    if b.saves:
+    if b.clears:
+        c.keep(b.token_names() + ['result'] + [f's{p.i}' for p in b.rooms] + [f's{p.i}' for p in b.shared] + ['lent'] + cell_names(b))
+        c.say(f'by ! (clearing r {ends} u e {ls} is wu)')
+    elif b.saves:
         c.keep(['lies'] + b.token_names() + ['result'] + [f's{p.i}' for p in b.rooms] + [f's{p.i}' for p in b.shared] + ['lent']
                + cell_names(b, without))
         c.say(f'by ! (saving r {ends} {memory} u e {ls} wu)')
@@ -356,33 +436,8 @@ def copied(b, c, own, life, elem, x, v, first, second):
     c.split('two', first, second)
 
 
-def beginning(b):
-    """From the first statement on: `count` and `empty`; then what was passed is taken apart."""
-    j, m, n = b.last, b.locals['m'], b.locals['n']
-    c = Context(['entry'] + cell_names(b))
-    c.step(f'assigns ! (of-opd ! (load ! (from ! (fld ! refl (stop !))) (look-in ! {c.at(f"_{b.list}")} (sub ! 1 refl (whole !))))) {initial(b, c, "len", "(tt, record { fits = gn .0 })")}')
-    c.line()
-    c.step('nothing !', 0, ['true'])
-    c.step('use1 W (raw (Count 𝓤 H A at-mem run .pre to-count)) goes-count', 1, ['asked'])
-    c.line()
-    c.bind(f'calls-at ! fm (Count 𝓤 H A at-mem run) k-count to-count {arguments(b, c, ["len"])} (λ u.')
-    c.line()
-    c.step('use1 W (later (some (λ (r : ℕ). (‵ ftrue ⊛ ‵ (usize .own r (u ∷ []))) ⊛ raw (ensured 𝓤 H A count′.ended (count′.clauses 𝓤 H A at-mem run) tt (length ps, tt) tt r)))) (id⊢ 𝓤 _)', 1, ['got'])
-    c.bind('await ! tt $ pick ! (λ r.')
-    c.line()
-    c.split('got', 'answer', 'ensured')
-    c.move('ensured')
-    c.step('use1 W (raw (fact 𝓤 (r ≡ n))) (count-of 𝓤 H A at-mem run (length ps) r)')
-    c.bind('heard ! (r ≡ n) (λ e.', 1)
-    c.split('answer', 'true', 'own')
-    c.drop('true')
-    c.line()
-    c.bind('peeks ! usize (Is usize) (shows 𝓤 H A usize) r (u ∷ []) (λ is.')
-    c.step(f'land ! {initial(b, c, "n", "(uint-lawful 𝓤 H A W w64 .typed r _ is .0)")}')
-    c.line()
-    c.step(f'rewrite ! {c.at(f"_{n}")} (λ (v : Val). ‵ (fat fullShare (ty {n}) {local(n)} 0 v)) (ap only (is .0) ∙ ap (λ (k : ℕ). vint w64 k) e) refl')
-    c.drop('own')
-    c.line()
+def making(b, c, m):
+    """`empty`: the local array."""
     c.step('nothing !', 0, ['true'])
     c.step('use1 W (raw (Empty 𝓤 H A at-mem run .pre to-empty)) goes-empty', 1, ['asked'])
     c.line()
@@ -410,6 +465,26 @@ def beginning(b):
     c.move(f'_{m}', 'own')
     c.step(f'use2 W (‵ (Lies blank)) (part-in 𝓤 H A W N refl fullShare blank {local(m)} 0 w)', 2, ['lies'])
     c.line()
+
+
+def beginning(b):
+    """From the first statement on: `count` and `empty`; then what was passed is taken apart."""
+    j, m = b.last, b.locals.get('m')
+    without = () if b.clears else (m,)
+    c = Context(['entry'] + cell_names(b))
+    c.step(f'assigns ! (of-opd ! (load ! (from ! (fld ! refl (stop !))) (look-in ! {c.at(f"_{b.list}")} (sub ! 1 refl (whole !))))) {initial(b, c, "len", "(tt, record { fits = gn .0 })")}')
+    c.line()
+    c.step('nothing !', 0, ['true'])
+    c.step('use1 W (raw (Count 𝓤 H A at-mem run .pre to-count)) goes-count', 1, ['asked'])
+    c.line()
+    c.bind(f'calls-at ! fm (Count 𝓤 H A at-mem run) k-count to-count {arguments(b, c, ["len"])} (λ u.')
+    c.line()
+    number_answer(b, c, 'Count', '(length ps)', '(length ps, tt)', 'n', 'count-of', 'n', ('r', 'u', 'e', 'is'))
+    if b.clears:
+        forget(b, c, ['len'])
+        c.line()
+    else:
+        making(b, c, m)
     # what was passed: the tokens, then what each parameter owns
     list_row = f'{"MutSlice" if b.saves else "ShrSlice"} (named {j}) {b.kappa(j)} R'
     rows = items([p.row(b) for p in b.params] + [list_row])
@@ -433,9 +508,9 @@ def beginning(b):
         copied(b, c, 'Lent', j, 'R', '(rp γ)', 'sp', 'lent', 'lent-load')
         held = held + ['lent-load']
     c.line()
-    c.keep(held + cell_names(b, (m,)))
-    c.say('by ! loading')
-    return closed(f'''    -- `count` and `empty`
+    c.keep(held + cell_names(b, without))
+    c.say('by ! stepping' if b.clears else 'by ! loading')
+    return closed(f'''    -- `count`{'' if b.clears else ' and `empty`'}
     abbrev Ctx-entry : List (Item 𝓤)
     Ctx-entry = raw (onEntry 𝓤 H A public.signature {b.kappas()} {b.all_shares()} x at) ∷ {' ∷ '.join(cells(b, passed(b)))} ∷ Dies
 

@@ -112,11 +112,12 @@ pub extern "C" fn core_begin(
         places: counts[2],
         loops: counts[3],
     };
-    let r = begin_on(stated, triangles, m, n);
+    let r = begin_on(stated, triangles, n);
     let b = r.state;
     let a = r.answer;
     match a {
         Checked::Accepted => {
+            *m = places::empty();
             store_state(state, b);
             0
         }

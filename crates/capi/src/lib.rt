@@ -144,7 +144,10 @@ pub extern "C" fn core_unpack(
     n: usize,
     out: &mut [i32; 6],
 ) -> u32 {
-    let r = unpacker::unpack_on(pack, triangles, m, n);
+    let r = unpacker::unpack_on(pack, triangles, n);
+    if 0 < unpacker::cleared(r) {
+        *m = places::empty();
+    }
     match r {
         Unpacked::Model(model) => {
             store_model(model, out);
@@ -176,7 +179,10 @@ pub extern "C" fn core_pack(
     n: usize,
     out: &mut [u32; 1],
 ) -> u32 {
-    let r = packer::pack_on(v, list, numbering, room, m, n);
+    let r = packer::pack_on(v, list, numbering, room, n);
+    if 0 < packer::cleared(r) {
+        *m = places::empty();
+    }
     match r {
         Packed::Length(k) => {
             out[0] = k;

@@ -177,7 +177,7 @@ fn pack_numbers(
         return;
     }
     let v = wide(numbers[0]);
-    let r = packer::pack_on(v, &numbers[1..n], numbering, room, m, Builder::MAX_PLACES);
+    let r = packer::pack_on(v, &numbers[1..n], numbering, room, Builder::MAX_PLACES);
     print_answer(r, room);
 }
 

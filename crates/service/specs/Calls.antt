@@ -8,11 +8,6 @@ use Rattle.rules.specs.declared.Unpacked.{Unpacked}
 use Rattle.rules.specs.Answer.{unpackedAnswer}
 use Rattle.rules.specs.Unpack.{unpack}
 use Rattle.building.specs.Promised.{lentTo}
-use Rattle.unpacking.specs.Lent.{UnpackedOn}
-
--- what the core promises, its arguments in the order of the call
-abbrev pub UnpacksOn : List ℕ → List ℕ → List ℕ → ℕ → Unpacked → List ℕ → List ℕ → Type 0
-UnpacksOn bytes ts m n r ts′ m′ = UnpackedOn bytes n ts m r ts′ m′
 
 -- an unpacking: its answer, and both buffers afterwards, accepted and refused alike
 pub record Unpacks (bytes ts : List ℕ) (ps : List Place) (r : Unpacked) (ts′ : List ℕ) (ps′ : List Place) : Type 0 where

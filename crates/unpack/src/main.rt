@@ -16,7 +16,7 @@ fn unpack_from(fd: i32, pack: &mut [u8], triangles: &mut [u16], m: &mut [u16; 53
         print_refusal(12);
         return;
     }
-    let r = unpacker::unpack_on(&pack[..n], triangles, m, Builder::MAX_PLACES);
+    let r = unpacker::unpack_on(&pack[..n], triangles, Builder::MAX_PLACES);
     print_unpacked(r, triangles);
 }
 

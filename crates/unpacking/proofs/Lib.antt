@@ -8,6 +8,7 @@ pub mod Stepping
 pub mod Ruling
 pub mod Looping
 pub mod Lending
+pub mod Cleared
 pub mod Clearing
 pub mod Concluding
 pub mod Euler

@@ -56,6 +56,9 @@ returns c = search needs
 enum-told : tie.Need-enum-told
 enum-told c = search needs
 
+empty-requires : tie.Need-empty-requires
+empty-requires c κs = search needs
+
 slice-aggregate-print : tie.Need-slice-aggregate-print
 slice-aggregate-print c = search needs
 
@@ -88,6 +91,7 @@ begin-spec =
     same-length
     returns
     enum-told
+    empty-requires
     slice-aggregate-print
     print-requires
     same-length-2
