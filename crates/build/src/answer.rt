@@ -143,13 +143,14 @@ fn begin(n: Numbers, s: Session, triangles: &mut [u16], m: &mut Memory) -> Sessi
     };
     let entries = at_most(v[4], triangles.len());
     let records = at_most(v[5], Builder::MAX_PLACES);
-    let r = begin_on(stated, &mut triangles[..entries], m, records);
+    let r = begin_on(stated, &mut triangles[..entries], records);
     let a = r.answer;
     let state = r.state;
     let out = s.out;
     if let Checked::Refused(k) = a {
         return answered(s, print_refusal(out, k));
     }
+    *m = places::empty();
     Session {
         state,
         entries,

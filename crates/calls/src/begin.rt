@@ -1,7 +1,5 @@
 // The beginning of a building: 13, 14, or an empty builder.
-use places::Memory;
 use places::PLACES;
-use places::empty;
 use rules::Begun;
 use rules::Builder;
 use rules::Checked;
@@ -9,7 +7,7 @@ use rules::Counts;
 use wire::fields::is_in_range;
 ghost use mathlib.Core.Path.{_≡_};
 ghost use Rattle.rules.specs.Build.{begunBuilder};
-ghost use Rattle.finishing.specs.Promises.{refusedBy, BeginsOn};
+ghost use Rattle.finishing.specs.Promises.{refusedBy, BeginsOn, clearedBy};
 
 // The builder with these counts that holds nothing.
 fn begun(stated: Counts) -> Builder
@@ -31,10 +29,10 @@ fn refused(k: u8) -> Begun
     }
 }
 
-// Begins a building with these counts, in any triangle buffer and with n place records that were lent: m has the first 1,024 of them
-// as numbers. A refusal changes nothing; an accepted beginning leaves the records zero and the triangle buffer as it is.
-pub fn begin_on(stated: Counts, triangles: &mut [u16], m: &mut Memory, n: usize) -> Begun
-    ensures { λ r. ⌜ BeginsOn stated (now (triangles .entry)) (now (m .entry)) n r (now (triangles .exit)) (now (m .exit)) ⌝ }
+// Begins a building with these counts, in any triangle buffer, which stays as it is, where n place records were lent: of these only the
+// number counts.
+pub fn begin_on(stated: Counts, triangles: &mut [u16], n: usize) -> Begun
+    ensures { λ r. ⌜ BeginsOn stated (now (triangles .entry)) n r (now (triangles .exit)) ⌝ }
 {
     if !is_in_range(stated) {
         return refused(13);
@@ -45,10 +43,20 @@ pub fn begin_on(stated: Counts, triangles: &mut [u16], m: &mut Memory, n: usize)
     if n < PLACES {
         return refused(14);
     }
-    *m = empty();
     let state = begun(stated);
     Begun {
         state,
         answer: Checked::Accepted,
     }
+}
+
+// How many place records a beginning clears, read off its answer: the first 1,024, if it is accepted.
+pub fn cleared(r: Begun) -> usize
+    ensures { λ n. ⌜ n ≡ clearedBy r ⌝ }
+{
+    let a = r.answer;
+    let Checked::Accepted = a else {
+        return 0;
+    };
+    PLACES
 }

@@ -1,13 +1,12 @@
--- What the cores of the beginning and of the finish promise, their arguments in the order of the calls. m and m′ are the plain memory
--- before and after, whose first n records were lent.
+-- What the cores of the beginning and of the finish promise, their arguments in the order of the calls. n place records were lent; a
+-- finish has them in the plain memory, m before it and m′ after it.
 -- Assumes nothing.
 use Prim.Native.Nat.{ℕ, _*_, _≤_}
 use mathlib.Core.List.{List}
 use mathlib.Core.Path.{_≡_}
-use lib.ListN.{length, replicate}
+use lib.ListN.{length}
 use lib.IntN.{pos, _+ℤ_, _-ℤ_}
 use Rattle.rules.specs.declared.Counts.{Counts}
-use Rattle.rules.specs.declared.Place.{Place}
 use Rattle.rules.specs.declared.Builder.{Builder}
 use Rattle.rules.specs.declared.Totals.{Totals}
 use Rattle.rules.specs.declared.Begun.{Begun}
@@ -19,37 +18,43 @@ use Rattle.rules.specs.View.{trianglesBuilt}
 use Rattle.rules.specs.Machine.{Machine, finishing}
 use Rattle.rules.specs.Answer.{begunAnswer, finishedAnswer}
 use Rattle.rules.specs.Book.{answerOf}
-use Rattle.rules.specs.Buffer.{freePlace}
 use Rattle.rules.specs.Build.{begins, finishes, emptyBuilder, begunBuilder}
 use Rattle.memory.specs.declared.Front.{Front}
 use Rattle.memory.specs.Keeps.{Keeps}
-use Rattle.places.specs.Memory.{records}
 use Rattle.reading.specs.Reading.{lent, SameRecords}
+use Rattle.unpacking.specs.Lent.{lent as lentOf}
 
--- an accepted beginning leaves the triangle buffer as it is and the 1,024 records zero
-pub record Emptied (stated : Counts) (xs : List ℕ) (n : ℕ) (b : Builder) (xs′ m′ : List ℕ) : Type 0 where
+-- an accepted beginning leaves the triangle buffer as it is; n place records were lent
+pub record Emptied (stated : Counts) (xs : List ℕ) (n : ℕ) (b : Builder) (xs′ : List ℕ) : Type 0 where
   pub builder : b ≡ begunBuilder stated
   pub triangles : xs′ ≡ xs
   pub whole : maxPlaces ≤ n
-  pub places : records maxPlaces m′ ≡ replicate {A = Place} maxPlaces freePlace
 
 -- a refused one gives the empty builder and changes nothing
-pub record Unbegun (xs m : List ℕ) (b : Builder) (xs′ m′ : List ℕ) : Type 0 where
+pub record Unbegun (xs : List ℕ) (b : Builder) (xs′ : List ℕ) : Type 0 where
   pub builder : b ≡ emptyBuilder
   pub triangles : xs′ ≡ xs
-  pub memory : m′ ≡ m
 
-abbrev pub BegunLeaves : Counts → List ℕ → List ℕ → ℕ → Checked → Builder → List ℕ → List ℕ → Type 0
-BegunLeaves stated xs m n Accepted b xs′ m′ = Emptied stated xs n b xs′ m′
-BegunLeaves stated xs m n (Refused k) b xs′ m′ = Unbegun xs m b xs′ m′
+abbrev pub BegunLeaves : Counts → List ℕ → ℕ → Checked → Builder → List ℕ → Type 0
+BegunLeaves stated xs n Accepted b xs′ = Emptied stated xs n b xs′
+BegunLeaves stated xs n (Refused k) b xs′ = Unbegun xs b xs′
 
 -- what a beginning refused by k returns
 abbrev pub refusedBy : ℕ → Begun
 refusedBy k = record { state = emptyBuilder; answer = Refused k }
 
-pub record BeginsOn (stated : Counts) (xs m : List ℕ) (n : ℕ) (r : Begun) (xs′ m′ : List ℕ) : Type 0 where
-  pub answer : begunAnswer r ≡ answerOf (begins (lent xs n m) stated)
-  pub left : BegunLeaves stated xs m n (r .answer) (r .state) xs′ m′
+-- of the place records only the number counts
+pub record BeginsOn (stated : Counts) (xs : List ℕ) (n : ℕ) (r : Begun) (xs′ : List ℕ) : Type 0 where
+  pub answer : begunAnswer r ≡ answerOf (begins (lentOf n xs) stated)
+  pub left : BegunLeaves stated xs n (r .answer) (r .state) xs′
+
+-- how many place records a beginning clears, read off its answer: the first 1,024, if it is accepted
+abbrev pub clearedAfter : Checked → ℕ
+clearedAfter Accepted = maxPlaces
+clearedAfter (Refused k) = 0
+
+abbrev pub clearedBy : Begun → ℕ
+clearedBy r = clearedAfter (r .answer)
 
 -- a finish changes no record
 pub record FinishesOn (b : Builder) (xs m : List ℕ) (n : ℕ) (r : Finished) (m′ : List ℕ) : Type 0 where

@@ -209,9 +209,7 @@ fn pack_numbers(
     numbers: &[u16],
     n: usize,
     numbering: &mut [u16],
-    buffer: &mut [u8],
-    m: &mut [u16; 5320],
-) -> Output {
+    buffer: &mut [u8]) -> Output {
     if numbers.len() < n {
         return Output::fresh();
     }
@@ -219,7 +217,7 @@ fn pack_numbers(
         return Output::fresh();
     }
     let v = wide(numbers[0]);
-    let r = packer::pack_on(v, &numbers[1..n], numbering, buffer, m, Builder::MAX_PLACES);
+    let r = packer::pack_on(v, &numbers[1..n], numbering, buffer, Builder::MAX_PLACES);
     print_answer(r, buffer)
 }
 
@@ -234,12 +232,10 @@ fn run(
     part: &mut [u8],
     numbers: &mut [u16],
     numbering: &mut [u16],
-    buffer: &mut [u8],
-    m: &mut [u16; 5320],
-) -> Output {
+    buffer: &mut [u8]) -> Output {
     let t = read_text(part, numbers);
     match t {
-        Told::Numbers(n) => pack_numbers(numbers, n, numbering, buffer, m),
+        Told::Numbers(n) => pack_numbers(numbers, n, numbering, buffer),
         Told::NoModel => print_no_model(),
         Told::Nothing => Output::fresh(),
     }
@@ -250,6 +246,5 @@ fn main() {
     let mut numbers = [0u16; NUMBERS];
     let mut numbering = [0u16; 4096];
     let mut buffer = [0u8; BUFFER];
-    let mut m = [0u16; 5320];
-    run(&mut part, &mut numbers, &mut numbering, &mut buffer, &mut m).end(b"pack");
+    run(&mut part, &mut numbers, &mut numbering, &mut buffer).end(b"pack");
 }

@@ -10,7 +10,6 @@ use crate::choose::UNNUMBERED;
 use crate::finish::finish;
 use crate::step::run;
 use border::begin;
-use buffers::clear;
 use buffers::fill;
 use mesh::CORNERS;
 use mesh::Links;
@@ -26,12 +25,10 @@ ghost use Prim.Native.Nat.{ℕ, _≤_};
 ghost use Rattle.rules.specs.declared.Checked.the-variants as Checks;
 ghost use Rattle.rules.specs.declared.Packed.the-variants as Packs;
 ghost use Rattle.packing.specs.Doing.{statedFor};
-ghost use Rattle.packing.specs.Lent.{PackedOn, Fitting, RunGives};
+ghost use Rattle.packing.specs.Lent.{PackedOn, Fitting, RunGives, clearedBy};
 
-// How many places the memory has, how many numbers their records are, and how many all the memory has.
+// How many places the memory has, and how many numbers.
 pub(crate) const PLACES: usize = Builder::MAX_PLACES;
-
-const RECORDS: usize = 4096;
 
 const MEMORY: usize = 5320;
 
@@ -48,7 +45,7 @@ fn stated_for(v: usize, k: usize) -> Counts
     }
 }
 
-// Packs a list that got past 8: the numbering and the pack are written, and the memory's records are left zero.
+// Packs a list that got past 8: the numbering and the pack are written.
 fn pack_accepted(
     v: usize,
     list: &[u16],
@@ -58,7 +55,7 @@ fn pack_accepted(
     m: &mut [u16],
 ) -> Packed
     requires { ⌜ Fitting v (now list) (now chains) (now numbering) (now m) ⌝ }
-    ensures { λ r. ⌜ RunGives v (now (list .entry)) (now (numbering .entry)) (now (buffer .entry)) r (now (numbering .exit)) (now (buffer .exit)) (now (m .exit)) ⌝ }
+    ensures { λ r. ⌜ RunGives v (now (list .entry)) (now (numbering .entry)) (now (buffer .entry)) r (now (numbering .exit)) (now (buffer .exit)) ⌝ }
 {
     let k = list.len() / 3;
     let mut built = [0u8; 8192];
@@ -79,7 +76,6 @@ fn pack_accepted(
         buffer,
         m,
     );
-    clear(m, RECORDS);
     finish(v, k, end, numbering, buffer)
 }
 
@@ -93,17 +89,10 @@ fn refusal_of(c: Checked) -> Packed
     }
 }
 
-// Packs any list of a model of v vertices into any buffers, with n place records that were lent: m has the first 1,024 of them as
-// numbers, and room after them to work in. Past 8 the records are left zero; before it nothing changes.
-pub fn pack_on(
-    v: usize,
-    list: &[u16],
-    numbering: &mut [u16],
-    buffer: &mut [u8],
-    m: &mut [u16; MEMORY],
-    n: usize,
-) -> Packed
-    ensures { λ r. ⌜ PackedOn v (now (list .entry)) (now (numbering .entry)) (now (buffer .entry)) (now (m .entry)) n r (now (numbering .exit)) (now (buffer .exit)) (now (m .exit)) ⌝ }
+// Packs any list of a model of v vertices into any buffers, where n place records were lent: of these only the number counts, for the
+// packing works in a memory of its own. Before 8 nothing changes.
+pub fn pack_on(v: usize, list: &[u16], numbering: &mut [u16], buffer: &mut [u8], n: usize) -> Packed
+    ensures { λ r. ⌜ PackedOn v (now (list .entry)) (now (numbering .entry)) (now (buffer .entry)) n r (now (numbering .exit)) (now (buffer .exit)) ⌝ }
 {
     let mut chains = [0u16; VERTICES + CORNERS];
     let checked = check_into(v, list, &mut chains);
@@ -116,5 +105,19 @@ pub fn pack_on(
     if n < PLACES {
         return Packed::Refused(8);
     }
-    pack_accepted(v, list, &chains, numbering, buffer, m)
+    let mut m = [0u16; MEMORY];
+    pack_accepted(v, list, &chains, numbering, buffer, &mut m)
+}
+
+// How many place records a packing clears, read off its answer: none after 1 to 8, and past 8 the first 1,024.
+pub fn cleared(r: Packed) -> usize
+    ensures { λ n. ⌜ n ≡ clearedBy r ⌝ }
+{
+    let Packed::Refused(k) = r else {
+        return PLACES;
+    };
+    if k <= 8 {
+        return 0;
+    }
+    PLACES
 }

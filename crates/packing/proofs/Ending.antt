@@ -43,12 +43,11 @@ use Rattle.packing.specs.Course.{Holds, Held}
 use Rattle.packing.specs.Writing.{Writes}
 use Rattle.packing.specs.Steps.{Beyond, Ends, RunOf}
 use Rattle.packing.specs.Finish.{countsAt, answerIf, finishAnswer, numbersIf, finishNumbers, packIf, finishPack, Sized}
-use Rattle.packing.specs.Lent.{lent, packOn, isPast, recordNumbers, ClearedIf, PackedOn, Fitting, RunGives}
+use Rattle.packing.specs.Lent.{lent, packOn, PackedOn, Fitting, RunGives}
 use Rattle.packing.proofs.Numbers.{entries-length, entries-none, entries-all}
 use Rattle.packing.proofs.Flags.{unbuilt-all}
 use Rattle.packing.proofs.Writing.{pack-length, pack-written}
 use Rattle.packing.proofs.Stepping.{holds-beyond}
-use Rattle.buffers.proofs.Filling.{filled-take}
 
 -- ---- the beginning
 
@@ -276,20 +275,19 @@ module _ (v : ℕ) (xs cs ns m : List ℕ) (h : Fitting v xs cs ns m) (k : ℕ) 
       go (Ended t at) e = holds-beyond v xs (e .last) t fs″ ns″ (drop v ns) m″ (e .holds) .enough
 
   pub run-gives : length bs″ ≡ length bs → (r : Packed) → r ≡ finishAnswer end (length bs″) → (ns‴ : List ℕ) → ns‴ ≡ finishNumbers end v (length bs″) ns″
-      → (bs‴ : List ℕ) → bs‴ ≡ finishPack end v k bs″ → (m‴ : List ℕ) → m‴ ≡ zeroed recordNumbers m″ → RunGives v xs ns bs r ns‴ bs‴ m‴
+      → (bs‴ : List ℕ) → bs‴ ≡ finishPack end v k bs″ → RunGives v xs ns bs r ns‴ bs‴
   unfolding result
-  run-gives l r er ns‴ en‴ bs‴ eb m‴ et = record {
+  run-gives l r er ns‴ en‴ bs‴ eb = record {
     answer = λ n. ap packedAnswer er ∙ ending v xs ns bs (h .accepted) n end (4 * k + 1) fs″ ns″ bs″ m″ ends l .0;
     numbering = λ n. en‴ ∙ ending v xs ns bs (h .accepted) n end (4 * k + 1) fs″ ns″ bs″ m″ ends l .1 .0;
     bytes = λ n. eb ∙ ap (λ (i : ℕ). finishPack end v i bs″) is ∙ ending v xs ns bs (h .accepted) n end (4 * k + 1) fs″ ns″ bs″ m″ ends l .1 .1;
-    memory = filled-take recordNumbers m″ m‴ et;
   }
 
 -- ---- any list, in any buffers
 
-module _ (v : ℕ) (xs ns bs m : List ℕ) (n : ℕ) (r : Checked) (e : r ≡ check v xs) where
+module _ (v : ℕ) (xs ns bs : List ℕ) (n : ℕ) (r : Checked) (e : r ≡ check v xs) where
   -- 1 to 7
-  pub packed-unfit : (k : ℕ) → r ≡ C.Refused k → (p : Packed) → p ≡ P.Refused k → PackedOn v xs ns bs m n p ns bs m
+  pub packed-unfit : (k : ℕ) → r ≡ C.Refused k → (p : Packed) → p ≡ P.Refused k → PackedOn v xs ns bs n p ns bs
   unfolding packChecked
   packed-unfit k q p ep =
       let z : check v xs ≡ C.Refused k = sym e ∙ q in
@@ -297,7 +295,6 @@ module _ (v : ℕ) (xs ns bs m : List ℕ) (n : ℕ) (r : Checked) (e : r ≡ ch
         answer = ap packedAnswer ep ∙ sym (ap (λ (c : Checked). packChecked most v (trianglesOf xs) (lent n ns bs) c .answer) z);
         numbering = sym (ap (λ (c : Checked). packChecked most v (trianglesOf xs) (lent n ns bs) c .buffers .numbering) z);
         bytes = sym (ap (λ (c : Checked). packChecked most v (trianglesOf xs) (lent n ns bs) c .buffers .pack) z);
-        memory = subst (λ (c : Checked). ClearedIf (isPast c v n (length ns)) m m) (sym z) refl;
       }
 
   module _ (q : r ≡ C.Accepted) where
@@ -305,7 +302,7 @@ module _ (v : ℕ) (xs ns bs m : List ℕ) (n : ℕ) (r : Checked) (e : r ≡ ch
     accepted = sym e ∙ q
 
     -- 8
-    packed-short : leb v (length ns) && leb maxPlaces n ≡ false → PackedOn v xs ns bs m n (P.Refused 8) ns bs m
+    packed-short : leb v (length ns) && leb maxPlaces n ≡ false → PackedOn v xs ns bs n (P.Refused 8) ns bs
     unfolding packChecked
     packed-short z =
         let z′ : packLongEnough v (lent n ns bs) ≡ false = ap (λ (i : ℕ). leb v (length ns) && leb maxPlaces i) (length-replicate n _) ∙ z in
@@ -316,24 +313,21 @@ module _ (v : ℕ) (xs ns bs m : List ℕ) (n : ℕ) (r : Checked) (e : r ≡ ch
           answer = sym (ap (λ (p : PackResult). p .answer) w);
           numbering = sym (ap (λ (p : PackResult). p .buffers .numbering) w);
           bytes = sym (ap (λ (p : PackResult). p .buffers .pack) w);
-          memory =
-              subst (λ (c : Checked). ClearedIf (isPast c v n (length ns)) m m) (sym accepted)
-              (subst (λ (b : Bool). ClearedIf b m m) (sym z) refl);
         }
 
-    pub packed-few : length ns < v → PackedOn v xs ns bs m n (P.Refused 8) ns bs m
+    pub packed-few : length ns < v → PackedOn v xs ns bs n (P.Refused 8) ns bs
     packed-few l = packed-short (ap (λ (b : Bool). b && leb maxPlaces n) (lt-leb v (length ns) l))
 
-    pub packed-list : v ≤ length ns → n < 1024 → PackedOn v xs ns bs m n (P.Refused 8) ns bs m
+    pub packed-list : v ≤ length ns → n < 1024 → PackedOn v xs ns bs n (P.Refused 8) ns bs
     packed-list l k = packed-short (ap₂ _&&_ (le-leb v (length ns) l) (lt-leb maxPlaces n k))
 
     module _ (enough : v ≤ length ns) (many : 1024 ≤ n) where
-      pub packed-fitting : (cs : List ℕ) → Linked xs cs → length m ≡ 5320 → Fitting v xs cs ns m
-      packed-fitting cs l w = record { accepted = accepted; linked = l; enough = enough; whole = w }
+      pub packed-fitting : (cs m : List ℕ) → Linked xs cs → length m ≡ 5320 → Fitting v xs cs ns m
+      packed-fitting cs m l w = record { accepted = accepted; linked = l; enough = enough; whole = w }
 
-      pub packed-ran : (p : Packed) (ns′ bs′ m′ : List ℕ) → RunGives v xs ns bs p ns′ bs′ m′ → PackedOn v xs ns bs m n p ns′ bs′ m′
+      pub packed-ran : (p : Packed) (ns′ bs′ : List ℕ) → RunGives v xs ns bs p ns′ bs′ → PackedOn v xs ns bs n p ns′ bs′
       unfolding packChecked
-      packed-ran p ns′ bs′ m′ g =
+      packed-ran p ns′ bs′ g =
           let z : leb v (length ns) && leb maxPlaces n ≡ true = ap₂ _&&_ (le-leb v (length ns) enough) (le-leb maxPlaces n many) in
           let z′ : packLongEnough v (lent n ns bs) ≡ true = ap (λ (i : ℕ). leb v (length ns) && leb maxPlaces i) (length-replicate n _) ∙ z in
           let w : packOn v xs n ns bs ≡ packChosen v (trianglesOf xs) (lent n ns bs) (chosenFor most (trianglesOf xs)) =
@@ -343,9 +337,6 @@ module _ (v : ℕ) (xs ns bs m : List ℕ) (n : ℕ) (r : Checked) (e : r ≡ ch
             answer = g .answer n ∙ sym (ap (λ (x : PackResult). x .answer) w);
             numbering = g .numbering n ∙ sym (ap (λ (x : PackResult). x .buffers .numbering) w);
             bytes = g .bytes n ∙ sym (ap (λ (x : PackResult). x .buffers .pack) w);
-            memory =
-                subst (λ (c : Checked). ClearedIf (isPast c v n (length ns)) m m′) (sym accepted)
-                (subst (λ (b : Bool). ClearedIf b m m′) (sym z) (g .memory));
           }
 
 -- a list's refusal is passed up

@@ -13,3 +13,4 @@ pub mod Running
 pub mod Ways
 pub mod Ending
 pub mod Lending
+pub mod Clearing

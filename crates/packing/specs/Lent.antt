@@ -4,9 +4,10 @@ use Prim.Native.Nat.{ℕ, _≤_}
 use mathlib.Core.Bool.{Bool, true, false, _&&_}
 use mathlib.Core.List.{List}
 use mathlib.Core.Path.{_≡_}
-use lib.ListN.{length, take, replicate}
+use lib.ListN.{length, replicate}
 use lib.Dec.{leb}
 use Rattle.rules.specs.declared.Packed.{Packed}
+use Rattle.rules.specs.declared.Packed.the-variants as P
 use Rattle.rules.specs.declared.Checked.{Checked}
 use Rattle.rules.specs.declared.Checked.the-variants.{Accepted, Refused}
 use Rattle.rules.specs.Limits.{maxPlaces}
@@ -28,23 +29,18 @@ abbrev pub isPast : Checked → ℕ → ℕ → ℕ → Bool
 isPast (Refused j) v n k = false
 isPast Accepted v n k = leb v k && leb maxPlaces n
 
--- how many numbers 1,024 place records are
-abbrev pub recordNumbers : ℕ
-recordNumbers = 4096
+-- how many place records a packing clears, read off its answer: none after 1 to 8, and past 8 the first 1,024
+abbrev pub clearedBy : Packed → ℕ
+clearedBy (P.Length n) = maxPlaces
+clearedBy (P.Refused k) = elim (leb k 8) [ true ↦ 0 | false ↦ maxPlaces ]
 
--- the memory afterwards: its records are zero, or it is as it was
-abbrev pub ClearedIf : Bool → List ℕ → List ℕ → Type 0
-ClearedIf true m m′ = take recordNumbers m′ ≡ replicate recordNumbers 0
-ClearedIf false m m′ = m′ ≡ m
-
--- a packing of any list, in any buffers: the answer r, the numbering and the pack buffer and the memory afterwards
-pub record PackedOn (v : ℕ) (xs ns bs m : List ℕ) (n : ℕ) (r : Packed) (ns′ bs′ m′ : List ℕ) : Type 0 where
+-- a packing of any list, in any buffers: the answer r, and the numbering and the pack buffer afterwards
+pub record PackedOn (v : ℕ) (xs ns bs : List ℕ) (n : ℕ) (r : Packed) (ns′ bs′ : List ℕ) : Type 0 where
   pub answer : packedAnswer r ≡ packOn v xs n ns bs .answer
   pub numbering : ns′ ≡ packOn v xs n ns bs .buffers .numbering
   pub bytes : bs′ ≡ packOn v xs n ns bs .buffers .pack
-  pub memory : ClearedIf (isPast (check v xs) v n (length ns)) m m′
 
--- a list and buffers that get past 8
+-- a list and buffers that get past 8, and the plain memory
 pub record Fitting (v : ℕ) (xs cs ns m : List ℕ) : Type 0 where
   pub accepted : check v xs ≡ Accepted
   pub linked : Linked xs cs
@@ -52,8 +48,7 @@ pub record Fitting (v : ℕ) (xs cs ns m : List ℕ) : Type 0 where
   pub whole : length m ≡ 5320
 
 -- the run, with any number of place records
-pub record RunGives (v : ℕ) (xs ns bs : List ℕ) (r : Packed) (ns′ bs′ m′ : List ℕ) : Type 0 where
+pub record RunGives (v : ℕ) (xs ns bs : List ℕ) (r : Packed) (ns′ bs′ : List ℕ) : Type 0 where
   pub answer : (n : ℕ) → packedAnswer r ≡ packChosen v (trianglesOf xs) (lent n ns bs) (chosenFor most (trianglesOf xs)) .answer
   pub numbering : (n : ℕ) → ns′ ≡ packChosen v (trianglesOf xs) (lent n ns bs) (chosenFor most (trianglesOf xs)) .buffers .numbering
   pub bytes : (n : ℕ) → bs′ ≡ packChosen v (trianglesOf xs) (lent n ns bs) (chosenFor most (trianglesOf xs)) .buffers .pack
-  pub memory : take recordNumbers m′ ≡ replicate recordNumbers 0

@@ -1,6 +1,7 @@
--- A `&κ mut [T]` that is lent as a `&κ′ [T]` for a lifetime κ′ of a call, and comes back as it was. It says nothing of the crate.
+-- A `&κ mut [T]` that is lent as a `&κ′ [T]` for a lifetime κ′ of a call, and comes back as it was; and one that is open, whose elements
+-- are lent as a `&κ′ mut [T]`, and come back as they were left. It says nothing of the crate.
 -- Assumes `Given`.
-use mathlib.Core.Path.{refl}
+use mathlib.Core.Path.{_≡_, refl, sym, subst}
 use Prim.Native.Nat.{ℕ}
 use mathlib.Core.List.{List, [], _∷_}
 use lib.ListN.{length}
@@ -12,16 +13,17 @@ use base.Logic.{ent, sep, ex}
 use base.Fml.{Lft, GName, Share, Fml, fsep, flft, fdead, fobs, fauth, flent, fobor}
 use prog.Wp.{Heap}
 use ghost.Atoms.{Atoms, sem}
-use types.Kit.{Given, ‵, _⊛_, some, later, _$_, _∵_, !, qed, move, use1, drop, split, pick, fsplit, fjoin, feqI, frame, await, updating, now as at-once, show, done}
+use types.Kit.{Given, ‵, _⊛_, some, later, _$_, _∵_, !, qed, move, use1, use3, drop, split, pick, rewrite, fsplit, fjoin, feqI, frame, await, updating, now as at-once, show, done}
 use types.Share.{arr-parts}
+use types.SemTy.{cells, Arr}
 use types.Tokens.{lent-back}
 use denote.RattleType.{RattleType}
 use denote.Shadow.{pureL, pureI}
-use denote.Memory.{shares}
+use denote.Memory.{mem, shares}
 use denote.Ref.{RefT}
-use denote.Slice.{sliceVal, MutSlice, ShrSlice, heres, Room, at-slice, codedHoleys}
-use denote.Lend.{Held, lends-shr-slice}
-use denote.Index.{opens-slice, closes-slice}
+use denote.Slice.{sliceVal, MutSlice, ShrSlice, heres, Room, finally, at-slice, codedHoleys}
+use denote.Lend.{Held, lends-slice, slice-back, lends-shr-slice}
+use denote.Index.{row, whole-out, whole-in, opens-slice, closes-slice}
 
 module _ (R : RattleType) (κ κ′ : Lft) (q : Share) (γ : GName) (b o : ℕ) where
   abbrev at-list : GName → List (R .Denot) → RefT (List (R .Denot))
@@ -52,3 +54,23 @@ module _ (R : RattleType) (κ κ′ : Lft) (q : Share) (γ : GName) (b o : ℕ) 
         qed W (‵ (fdead κ′) ∷ ‵ (LentShared ys) ∷ []) ∵ updating ! $ move ! (1 ∷ []) $ fsplit ! $ move ! (2 ∷ 0 ∷ []) $ lent-back ! tt $ fsplit ! $ drop ! $
         move ! (1 ∷ []) $ fsplit ! $ move ! (1 ∷ []) $ fsplit ! $ move ! (3 ∷ 2 ∷ 0 ∷ 1 ∷ []) $ closes-slice ! tt R ys ys refl b o $ at-once ! $
         fjoin ! $ pureI ! (at-slice R (at-list γ ys) vals) (tt, (tt, tt)) (refl, room) $ fjoin ! $ done !
+
+-- ---- the elements of an open borrow
+module _ (R : RattleType) (κ′ : Lft) (b o : ℕ) {M : Type 1} (𝓤 : URA M) (H : Heap 𝓤) (A : Atoms 𝓤) (W : Given 𝓤 H A) where
+  abbrev lent-list : GName → List (R .Denot) → RefT (List (R .Denot))
+  lent-list δ ys = record { ptr = (b, o); name = δ; now = ys }
+
+  -- the n elements ys  ⊢ ⇛ ∃ γ₁. own (the `&κ′ mut [T]`, named γ₁) ∗ the lender's part
+  pub lends-row : (ℓ′ : Lifetime) (ys : List (R .Denot)) (n : ℕ) → length ys ≡ n → Room R n → ent 𝓤 (sem 𝓤 H A (row R fullShare ys b o))
+      (H .⇛ (ex 𝓤 (λ (γ₁ : GName). sep 𝓤 (sem 𝓤 H A (MutSlice ℓ′ κ′ R .own (lent-list γ₁ ys) (sliceVal (b, o) n ∷ []))) (sem 𝓤 H A (flent κ′ (Held R (length ys) b o γ₁))))))
+  lends-row ℓ′ ys n e room =
+      qed W (‵ (row R fullShare ys b o) ∷ []) ∵ updating ! $ use1 W (‵ (cells (mem R) ys b o)) (whole-in 𝓤 H A W R ys b o) $
+      use1 W (later (some (λ (γ₁ : GName). ‵ (MutSlice ℓ′ κ′ R .own (lent-list γ₁ ys) (sliceVal (b, o) (length ys) ∷ [])) ⊛ ‵ (flent κ′ (Held R (length ys) b o γ₁))))) (lends-slice 𝓤 H A W R ℓ′ κ′ ys b o (subst (Room R) (sym e) room)) $ await ! tt $ pick ! (λ γ₁. split ! $
+      rewrite ! 0 (λ (k : ℕ). ‵ (MutSlice ℓ′ κ′ R .own (lent-list γ₁ ys) (sliceVal (b, o) k ∷ []))) e refl $
+      at-once ! $ show ! (λ (γ′ : GName). sep 𝓤 (sem 𝓤 H A (MutSlice ℓ′ κ′ R .own (lent-list γ′ ys) (sliceVal (b, o) n ∷ []))) (sem 𝓤 H A (flent κ′ (Held R (length ys) b o γ′)))) γ₁ $ done !)
+
+  -- [†κ′] ∗ the lender's part ∗ the last elements  ⊢ ⇛ those elements
+  pub row-back : (γ₁ : GName) (n : ℕ) (ys : List (R .Denot)) → ent 𝓤 (sep 𝓤 (A .dead κ′) (sep 𝓤 (sem 𝓤 H A (flent κ′ (Held R n b o γ₁))) (sem 𝓤 H A (finally R γ₁ ys)))) (H .⇛ (sem 𝓤 H A (row R fullShare ys b o)))
+  row-back γ₁ n ys =
+      qed W (‵ (fdead κ′) ∷ ‵ (flent κ′ (Held R n b o γ₁)) ∷ ‵ (finally R γ₁ ys) ∷ []) ∵ updating ! $ use3 W (later (‵ (Arr (mem R) n .lies ys b o))) (slice-back 𝓤 H A W R κ′ γ₁ ys n b o) $ await ! tt $
+      fsplit ! $ drop ! $ use1 W (‵ (row R fullShare ys b o)) (whole-out 𝓤 H A W R ys b o) $ at-once ! $ done !

@@ -27,18 +27,10 @@ zeros zero j = refl
 zeros (suc n) zero = refl
 zeros (suc n) (suc j) = zeros n j
 
--- the blank memory holds zeros, and so free records
+-- the blank memory holds zeros
 blank-zero : (j : ℕ) → getD blank j 0 ≡ 0
 unfolding blank
 blank-zero j = zeros memorySize j
-
-pub blank-record : (i : ℕ) → recordAt blank i ≡ freePlace
-blank-record i t = record {
-  vertex = blank-zero (4 * i) t;
-  before = blank-zero (4 * i + 1) t;
-  after = blank-zero (4 * i + 2) t;
-  «open» = ap isOne (blank-zero (4 * i + 3)) t;
-}
 
 -- the core's own numbers are zero where a call begins
 pub own-zero : (ps : List Place) (j : ℕ) → 4 * maxPlaces ≤ j → getD (memoryOf ps) j 0 ≡ 0

@@ -7,7 +7,7 @@ ghost use Prim.Native.Nat.{ℕ, _+_, _*_, _<_, _≤_};
 ghost use lib.ListN.{length, getD, set};
 ghost use Rattle.rules.specs.Limits.{maxPlaces};
 ghost use Rattle.rules.specs.View.{placeAt};
-ghost use Rattle.places.specs.Records.{linkedAt, freedAt};
+ghost use Rattle.places.specs.Records.{linkedAt, freedAt, clearedTo};
 ghost use Rattle.places.specs.Memory.{numberOf, isOne, storedAt, recordAt, loaded, saved, blank, countOf};
 
 // All loops together have at most so many places.
@@ -35,13 +35,12 @@ pub fn take(s: &[Place], i: usize) -> Place
     s[i]
 }
 
-// Record i gets these places before and after it, and keeps its vertex and whether its edge is open.
-pub fn link(s: &mut [Place], i: usize, before: u16, after: u16)
+// Record i becomes p, which names the places before and after it.
+pub fn link(s: &mut [Place], i: usize, p: Place)
     requires { ⌜ i < length (now s) ⌝ }
-    ensures { λ _. ⌜ now (s .exit) ≡ linkedAt (now (s .entry)) i before after ⌝ }
+    ensures { λ _. ⌜ now (s .exit) ≡ linkedAt (now (s .entry)) i p ⌝ }
 {
-    s[i].before = before;
-    s[i].after = after;
+    s[i] = p;
 }
 
 // Record i becomes zero, its edge not open.
@@ -50,6 +49,18 @@ pub fn free(s: &mut [Place], i: usize)
     ensures { λ _. ⌜ now (s .exit) ≡ freedAt (now (s .entry)) i ⌝ }
 {
     s[i] = FREE;
+}
+
+// The first n records become zero, their edges not open.
+pub fn clear(s: &mut [Place], n: usize)
+    requires { ⌜ n ≤ length (now s) ⌝ }
+    ensures { λ _. ⌜ now (s .exit) ≡ clearedTo n (now (s .entry)) ⌝ }
+{
+    let mut i = 0;
+    while i < n {
+        free(s, i);
+        i += 1;
+    }
 }
 
 // An edge's openness as a number: 1 for open, else 0.
@@ -130,7 +141,7 @@ pub fn load(s: &[Place], m: &mut Memory, n: usize)
 {
     let mut i = 0;
     while i < n {
-        store_record(&mut *m, i, s[i]);
+        store_record(&mut *m, i, take(s, i));
         i += 1;
     }
 }

@@ -1,11 +1,11 @@
--- What a core promises of the plain memory, carried to the lent list of place records.
+-- What a core promises, carried to the lent list of place records.
 -- Assumes nothing.
-use Prim.Native.Nat.{ℕ, zero, suc, _+_, _*_, _≤_, _<_}
+use Prim.Native.Nat.{ℕ, _*_, _≤_, _<_}
 use native.Mathlib.Omega.{arith}
 use mathlib.Core.Bool.{Bool, true, false, _&&_, false≢true}
-use mathlib.Core.List.{List, [], _∷_, _++_}
+use mathlib.Core.List.{List}
 use mathlib.Core.Path.{_≡_, refl, sym, ap, _∙_}
-use lib.ListN.{length, take, drop, getD, replicate}
+use lib.ListN.{length}
 use lib.Dec.{leb, ltb}
 use borrow.Author.Tests.{le-leb, leb-true, ltb-false}
 use Rattle.rules.specs.declared.Counts.{Counts}
@@ -17,23 +17,26 @@ use Rattle.rules.specs.declared.Begun.{Begun}
 use Rattle.rules.specs.declared.Performed.{Performed}
 use Rattle.rules.specs.declared.Finished.{Finished}
 use Rattle.rules.specs.Limits.{maxPlaces, inRange}
-use Rattle.rules.specs.Buffer.{freePlace}
+use Rattle.rules.specs.Answer.{unpackedAnswer}
+use Rattle.rules.specs.Buffer.{cleared}
+use Rattle.rules.specs.Unpack.{unpack}
 use Rattle.rules.specs.Fields.{Fields, no-pack, fields, fieldsOf}
 use Rattle.rules.specs.Book.{answerOf}
 use Rattle.memory.specs.Layout.{openOf}
-use Rattle.places.specs.Memory.{recordAt, records, saved, countOf, counted, memoryOf}
+use Rattle.places.specs.Memory.{saved, countOf, counted, memoryOf}
+use Rattle.places.specs.Records.{clearedTo}
 use Rattle.places.proofs.Counting.{count-within}
-use Rattle.places.proofs.Reading.{refused-same}
-use Rattle.places.proofs.Whole.{saved-cleared}
+use Rattle.places.proofs.Clearing.{cleared-to}
 use Rattle.reading.proofs.Flags.{loaded-open}
-use Rattle.unpacking.specs.Lent.{recordNumbers, isPast, ClearedIf}
-use Rattle.unpacking.proofs.Lending.{clearedIf, lend-places, lend-unpack}
+use Rattle.unpacking.specs.Lent.{unpackOn, isPast, clearedBy, UnpackedOn}
+use Rattle.unpacking.proofs.Lending.{Alike, clearedIf, lend-places, lend-unpack}
+use Rattle.unpacking.proofs.Cleared.{unpacked-clears}
 use Rattle.building.specs.Promised.{lentTo, Beginning, Operating, Finishing}
-use Rattle.finishing.specs.Promises.{BeginsOn, FinishesOn}
+use Rattle.finishing.specs.Promises.{BeginsOn, FinishesOn, clearedBy as clearedBegun}
 use Rattle.finishing.proofs.Lifting.{begins-lifted}
 use Rattle.performing.specs.Performing.{OperatesOn}
 use Rattle.performing.proofs.Lifting.{operates-lent, finishes-same}
-use Rattle.service.specs.Calls.{UnpacksOn, Unpacks}
+use Rattle.service.specs.Calls.{Unpacks}
 
 -- of a list's length only whether it is 1,024 counts
 pub counted-long : (k : ℕ) → leb maxPlaces k ≡ leb maxPlaces (countOf k)
@@ -43,33 +46,6 @@ counted-long k = go (ltb k maxPlaces) refl
     go : (t : Bool) → ltb k maxPlaces ≡ t → leb maxPlaces k ≡ leb maxPlaces (elim t [ true ↦ k | false ↦ maxPlaces ])
     go true e = refl
     go false e = le-leb maxPlaces k (ltb-false k maxPlaces e)
-
--- a number of the first n, where these are zero
-zero-front : (n j : ℕ) (m : List ℕ) → j < n → take n m ≡ replicate n 0 → getD m j 0 ≡ 0
-zero-front zero j m h e = absurd (omega arith)
-zero-front (suc n) zero [] h e = refl
-zero-front (suc n) zero (x ∷ m) h e = ap (λ (xs : List ℕ). getD xs 0 0) e
-zero-front (suc n) (suc j) [] h e = refl
-zero-front (suc n) (suc j) (x ∷ m) h e = zero-front n j m (omega arith) (ap (λ (xs : List ℕ). drop 1 xs) e)
-
-record-zero : (m : List ℕ) (i : ℕ) → i < maxPlaces → take recordNumbers m ≡ replicate recordNumbers 0 → recordAt m i ≡ freePlace
-record-zero m i h e =
-    rw (
-      zero-front recordNumbers (4 * i) m (omega arith) e,
-      zero-front recordNumbers (4 * i + 1) m (omega arith) e,
-      zero-front recordNumbers (4 * i + 2) m (omega arith) e,
-      zero-front recordNumbers (4 * i + 3) m (omega arith) e,
-    )
-
-snoc-replicate : (n : ℕ) (p : Place) → replicate n p ++ (p ∷ []) ≡ replicate (suc n) p
-snoc-replicate zero p = refl
-snoc-replicate (suc n) p = ap (λ (ps : List Place). p ∷ ps) (snoc-replicate n p)
-
-pub records-zero : (n : ℕ) (m : List ℕ) → n ≤ maxPlaces → take recordNumbers m ≡ replicate recordNumbers 0 → records n m ≡ replicate n freePlace
-unfolding records
-records-zero zero m h e = refl
-records-zero (suc n) m h e =
-    rw (records-zero n m (omega arith) e, record-zero m n (omega arith) e) (snoc-replicate n freePlace)
 
 -- only a list of 1,024 records gets past 14
 past-long : (f : Fields) (n k : ℕ) → isPast f n k ≡ true → maxPlaces ≤ n
@@ -81,41 +57,51 @@ past-long (fields s ops) n k e = leb-true maxPlaces n (last (inRange s) (leb (3 
     last true false c h = absurd (false≢true h)
     last false b c h = absurd (false≢true h)
 
-past-same : (f : Fields) (n n′ k : ℕ) → leb maxPlaces n ≡ leb maxPlaces n′ → isPast f n k ≡ isPast f n′ k
-past-same no-pack n n′ k e = refl
-past-same (fields s ops) n n′ k e = ap (λ (b : Bool). inRange s && (leb (3 * s .triangles) k && b)) e
+places-after : (t : Bool) (n : ℕ) (ps : List Place) → (t ≡ true → maxPlaces ≤ length ps) → n ≡ elim t [ true ↦ maxPlaces | false ↦ 0 ]
+    → clearedTo n ps ≡ clearedIf t ps
+unfolding cleared clearedTo
+places-after true n ps h e = ap (λ (k : ℕ). clearedTo k ps) e ∙ cleared-to maxPlaces ps (h refl)
+places-after false n ps h e = ap (λ (k : ℕ). clearedTo k ps) e
 
-places-after : (t : Bool) (ps : List Place) (m′ : List ℕ) → (t ≡ true → maxPlaces ≤ length ps) → ClearedIf t (memoryOf ps) m′
-    → saved (counted ps) m′ ps ≡ clearedIf t ps
-places-after true ps m′ h c = saved-cleared m′ ps (h refl) (records-zero maxPlaces m′ (omega arith) c)
-places-after false ps m′ h c = rw c (refused-same ps)
+-- no more than there are
+pub fits-after : (t : Bool) (n k : ℕ) → (t ≡ true → maxPlaces ≤ k) → n ≡ elim t [ true ↦ maxPlaces | false ↦ 0 ] → n ≤ k
+fits-after true n k h e = omega (arith, h refl, e)
+fits-after false n k h e = omega (arith, e)
 
-pub unpacks : (bytes ts : List ℕ) (ps : List Place) (r : Unpacked) (ts′ m′ : List ℕ) (ps′ : List Place)
-    → UnpacksOn bytes ts (memoryOf ps) (counted ps) r ts′ m′ → ps′ ≡ saved (counted ps) m′ ps → Unpacks bytes ts ps r ts′ ps′
-unpacks bytes ts ps r ts′ m′ ps′ p e =
-    let b = lentTo ts ps in
-    let h = counted-long (length ps) in
-    let l = lend-unpack bytes b (counted ps) h in
-    let f = fieldsOf bytes in
-    let k = length ts in
-    record {
-      answer = p .answer ∙ sym (l .answer);
-      triangles = p .triangles ∙ sym (l .triangles);
-      places =
-          e ∙ places-after (isPast f (counted ps) k) ps m′ (λ q. past-long f (length ps) k (past-same f (length ps) (counted ps) k h ∙ q)) (p .memory)
-          ∙ ap (λ (t : Bool). clearedIf t ps) (sym (past-same f (length ps) (counted ps) k h))
-          ∙ sym (lend-places f b);
-    }
+module _ (bytes ts : List ℕ) (ps : List Place) (r : Unpacked) (ts′ : List ℕ) (p : UnpackedOn bytes ts (counted ps) r ts′) where
+  same : Alike (unpack bytes (lentTo ts ps)) (unpackOn bytes (counted ps) ts)
+  same = lend-unpack bytes (lentTo ts ps) (counted ps) (counted-long (length ps))
+
+  answers : unpackedAnswer r ≡ unpack bytes (lentTo ts ps) .answer
+  answers = p .answer ∙ sym (same .answer)
+
+  past : Bool
+  past = isPast (fieldsOf bytes) (length ps) (length ts)
+
+  pub unpacks-fit : clearedBy r ≤ length ps
+  unfolding past
+  unpacks-fit =
+      fits-after past (clearedBy r) (length ps) (past-long (fieldsOf bytes) (length ps) (length ts)) (unpacked-clears bytes (lentTo ts ps) r answers)
+
+  pub unpacks : (ps′ : List Place) → ps′ ≡ clearedTo (clearedBy r) ps → Unpacks bytes ts ps r ts′ ps′
+  unfolding past
+  unpacks ps′ e = record {
+    answer = answers;
+    triangles = p .triangles ∙ sym (same .triangles);
+    places =
+        e ∙ places-after past (clearedBy r) ps (past-long (fieldsOf bytes) (length ps) (length ts)) (unpacked-clears bytes (lentTo ts ps) r answers)
+        ∙ sym (lend-places (fieldsOf bytes) (lentTo ts ps));
+  }
 
 -- what the cores of the operation and of the finish ask of the memory that a list is read into
 pub loaded-fits : (ps : List Place) → (counted ps ≤ 1024) × ((p : ℕ) → p < 1024 → openOf (memoryOf ps) p ≤ 1)
 loaded-fits ps = (count-within (length ps) .1, loaded-open ps)
 
 -- the building calls
-pub begins-as : (s : Counts) (ts : List ℕ) (ps : List Place) (r : Begun) (ts′ m′ : List ℕ) (ps′ : List Place)
-    → BeginsOn s ts (memoryOf ps) (counted ps) r ts′ m′ → ps′ ≡ saved (counted ps) m′ ps → Beginning s ts ps r ts′ ps′
-begins-as s ts ps r ts′ m′ ps′ p e =
-    let l = begins-lifted s ts ps r ts′ m′ ps′ p e in
+pub begins-as : (s : Counts) (ts : List ℕ) (ps : List Place) (r : Begun) (ts′ : List ℕ) → BeginsOn s ts (counted ps) r ts′ → (ps′ : List Place)
+    → ps′ ≡ clearedTo (clearedBegun r) ps → Beginning s ts ps r ts′ ps′
+begins-as s ts ps r ts′ p ps′ e =
+    let l = begins-lifted s ts ps r ts′ ps′ p e in
     record { answer = l .0; after = l .1 }
 
 pub operates-as : (b : Builder) (o : Operation) (ts : List ℕ) (ps : List Place) (r : Performed) (ts′ m′ : List ℕ) (ps′ : List Place)

@@ -1,7 +1,6 @@
--- What the packing's core promises of the plain memory, carried to the lent list of place records.
+-- What the packing's core promises, carried to the lent list of place records.
 -- Assumes nothing.
 use Prim.Native.Nat.{ℕ, _≤_}
-use native.Mathlib.Omega.{arith}
 use mathlib.Core.Bool.{Bool, true, false}
 use mathlib.Core.List.{List}
 use mathlib.Core.Path.{_≡_, refl, sym, ap, _∙_}
@@ -10,32 +9,46 @@ use Rattle.rules.specs.declared.Place.{Place}
 use Rattle.rules.specs.declared.Packed.{Packed}
 use Rattle.rules.specs.Limits.{maxPlaces}
 use Rattle.rules.specs.Check.{check}
-use Rattle.places.specs.Memory.{saved, counted, memoryOf}
-use Rattle.places.proofs.Reading.{refused-same}
-use Rattle.places.proofs.Whole.{saved-cleared}
-use Rattle.packing.specs.Lent.{isPast, ClearedIf, PackedOn}
-use Rattle.packing.proofs.Lending.{clearedIf, lend-pack, lend-places, past-long, past-same}
+use Rattle.rules.specs.Answer.{packedAnswer}
+use Rattle.rules.specs.Buffer.{cleared}
+use Rattle.rules.specs.Pack.{pack}
+use Rattle.places.specs.Memory.{counted}
+use Rattle.places.specs.Records.{clearedTo}
+use Rattle.places.proofs.Clearing.{cleared-to}
+use Rattle.packing.specs.Lent.{packOn, isPast, clearedBy, PackedOn}
+use Rattle.packing.proofs.Lending.{Alike, clearedIf, lentTo, lend-pack, lend-places, past-long}
+use Rattle.packing.proofs.Clearing.{packed-clears}
 use Rattle.service.specs.Packing.{Packs}
-use Rattle.service.proofs.Laws.{counted-long, records-zero}
+use Rattle.service.proofs.Laws.{counted-long, fits-after}
 
-places-packed : (t : Bool) (ps : List Place) (m′ : List ℕ) → (t ≡ true → maxPlaces ≤ length ps) → ClearedIf t (memoryOf ps) m′
-    → saved (counted ps) m′ ps ≡ clearedIf t ps
-places-packed true ps m′ h c = saved-cleared m′ ps (h refl) (records-zero maxPlaces m′ (omega arith) c)
-places-packed false ps m′ h c = rw c (refused-same ps)
+places-packed : (t : Bool) (n : ℕ) (ps : List Place) → (t ≡ true → maxPlaces ≤ length ps) → n ≡ elim t [ true ↦ maxPlaces | false ↦ 0 ]
+    → clearedTo n ps ≡ clearedIf t ps
+unfolding cleared clearedTo
+places-packed true n ps h e = ap (λ (k : ℕ). clearedTo k ps) e ∙ cleared-to maxPlaces ps (h refl)
+places-packed false n ps h e = ap (λ (k : ℕ). clearedTo k ps) e
 
-pub packs : (v : ℕ) (xs ns bs : List ℕ) (ps : List Place) (r : Packed) (ns′ bs′ m′ : List ℕ) (ps′ : List Place)
-    → PackedOn v xs ns bs (memoryOf ps) (counted ps) r ns′ bs′ m′ → ps′ ≡ saved (counted ps) m′ ps → Packs v xs ns bs ps r ns′ bs′ ps′
-packs v xs ns bs ps r ns′ bs′ m′ ps′ p e =
-    let h = counted-long (length ps) in
-    let l = lend-pack v xs ns bs ps (counted ps) h in
-    let c = check v xs in
-    let k = length ns in
-    record {
-      answer = p .answer ∙ sym (l .answer);
-      numbering = p .numbering ∙ sym (l .numbering);
-      bytes = p .bytes ∙ sym (l .bytes);
-      places =
-          e ∙ places-packed (isPast c v (counted ps) k) ps m′ (λ q. past-long c v (length ps) k (past-same c v (length ps) (counted ps) k h ∙ q)) (p .memory)
-          ∙ ap (λ (t : Bool). clearedIf t ps) (sym (past-same c v (length ps) (counted ps) k h))
-          ∙ sym (lend-places v xs ns bs ps);
-    }
+module _ (v : ℕ) (xs ns bs : List ℕ) (ps : List Place) (r : Packed) (ns′ bs′ : List ℕ) (p : PackedOn v xs ns bs (counted ps) r ns′ bs′) where
+  same : Alike (pack v xs (lentTo ns ps bs)) (packOn v xs (counted ps) ns bs)
+  same = lend-pack v xs ns bs ps (counted ps) (counted-long (length ps))
+
+  answers : packedAnswer r ≡ pack v xs (lentTo ns ps bs) .answer
+  answers = p .answer ∙ sym (same .answer)
+
+  past : Bool
+  past = isPast (check v xs) v (length ps) (length ns)
+
+  pub packs-fit : clearedBy r ≤ length ps
+  unfolding past
+  packs-fit =
+      fits-after past (clearedBy r) (length ps) (past-long (check v xs) v (length ps) (length ns)) (packed-clears v xs ns bs ps r answers)
+
+  pub packs : (ps′ : List Place) → ps′ ≡ clearedTo (clearedBy r) ps → Packs v xs ns bs ps r ns′ bs′ ps′
+  unfolding past
+  packs ps′ e = record {
+    answer = answers;
+    numbering = p .numbering ∙ sym (same .numbering);
+    bytes = p .bytes ∙ sym (same .bytes);
+    places =
+        e ∙ places-packed past (clearedBy r) ps (past-long (check v xs) v (length ps) (length ns)) (packed-clears v xs ns bs ps r answers)
+        ∙ sym (lend-places v xs ns bs ps);
+  }

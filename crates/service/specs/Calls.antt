@@ -11,15 +11,10 @@ use Rattle.rules.specs.Answer.{checkedAnswer, unpackedAnswer}
 use Rattle.rules.specs.Check.{checks}
 use Rattle.rules.specs.Unpack.{unpack}
 use Rattle.building.specs.Promised.{lentTo}
-use Rattle.unpacking.specs.Lent.{UnpackedOn}
 
 -- a check of the list xs for a model of v vertices: its answer; the list is only read
 pub record Checking (v : ℕ) (xs : List ℕ) (r : Checked) : Type 0 where
   pub answer : checkedAnswer r ≡ checks v xs
-
--- what the core promises, its arguments in the order of the call
-abbrev pub UnpacksOn : List ℕ → List ℕ → List ℕ → ℕ → Unpacked → List ℕ → List ℕ → Type 0
-UnpacksOn bytes ts m n r ts′ m′ = UnpackedOn bytes n ts m r ts′ m′
 
 -- an unpacking: its answer, and both buffers afterwards, accepted and refused alike
 pub record Unpacks (bytes ts : List ℕ) (ps : List Place) (r : Unpacked) (ts′ : List ℕ) (ps′ : List Place) : Type 0 where

@@ -1,5 +1,8 @@
-// The service's calls over a lent list of place records. Each loads the records into a plain memory, calls the core that works
-// there, and saves them, but for the finish, which changes nothing. The contracts cite specs/Calls.antt and specs/Packing.antt, and of the crate building specs/Promised.antt, on which demand 3 rests.
+// The service's calls over a lent list of place records. Packing, unpacking and a beginning read no record: each calls its core and
+// clears as many as the answer says. An operation and a finish load the records into a plain memory and call the core that works
+// there; the operation then saves them, the finish changes nothing. The contracts cite specs/Calls.antt and specs/Packing.antt, and
+// of the crate building specs/Promised.antt, on which demand 3 rests.
+use places::clear;
 use places::count;
 use places::empty;
 use places::load;
@@ -31,10 +34,8 @@ pub fn unpack(pack: &[u8], triangles: &mut [u16], places: &mut [Place]) -> Unpac
     ensures { λ r. ⌜ Unpacks (now (pack .entry)) (now (triangles .entry)) (now (places .entry)) r (now (triangles .exit)) (now (places .exit)) ⌝ }
 {
     let n = count(places.len());
-    let mut m = empty();
-    load(places, &mut m, n);
-    let r = unpacker::unpack_on(pack, triangles, &mut m, n);
-    save(&m, places, n);
+    let r = unpacker::unpack_on(pack, triangles, n);
+    clear(places, unpacker::cleared(r));
     r
 }
 
@@ -51,10 +52,8 @@ pub fn pack(
     ensures { λ r. ⌜ Packs v (now (list .entry)) (now (numbering .entry)) (now (buffer .entry)) (now (places .entry)) r (now (numbering .exit)) (now (buffer .exit)) (now (places .exit)) ⌝ }
 {
     let n = count(places.len());
-    let mut m = empty();
-    load(places, &mut m, n);
-    let r = packer::pack_on(v, list, numbering, buffer, &mut m, n);
-    save(&m, places, n);
+    let r = packer::pack_on(v, list, numbering, buffer, n);
+    clear(places, packer::cleared(r));
     r
 }
 
@@ -64,10 +63,8 @@ pub fn begin(stated: Counts, triangles: &mut [u16], places: &mut [Place]) -> Beg
     ensures { λ r. ⌜ Beginning stated (now (triangles .entry)) (now (places .entry)) r (now (triangles .exit)) (now (places .exit)) ⌝ }
 {
     let n = count(places.len());
-    let mut m = empty();
-    load(places, &mut m, n);
-    let r = calls::begin::begin_on(stated, triangles, &mut m, n);
-    save(&m, places, n);
+    let r = calls::begin::begin_on(stated, triangles, n);
+    clear(places, calls::begin::cleared(r));
     r
 }
 

@@ -15,11 +15,11 @@ use streams::say_failed;
 const MOST_BYTES: usize = 65536;
 
 // Unpacks what was read; more than the most bytes counts as 12.
-fn unpack_bytes(out: Output, pack: &[u8], triangles: &mut [u16], m: &mut [u16; 5320]) -> Output {
+fn unpack_bytes(out: Output, pack: &[u8], triangles: &mut [u16]) -> Output {
     if MOST_BYTES < pack.len() {
         return print_refusal(out, 12);
     }
-    let r = unpacker::unpack_on(pack, triangles, m, Builder::MAX_PLACES);
+    let r = unpacker::unpack_on(pack, triangles, Builder::MAX_PLACES);
     print_unpacked(out, r, triangles)
 }
 
@@ -27,15 +27,13 @@ fn unpack_bytes(out: Output, pack: &[u8], triangles: &mut [u16], m: &mut [u16; 5
 fn unpack_standard(
     out: Output,
     pack: &mut [u8],
-    triangles: &mut [u16],
-    m: &mut [u16; 5320],
-) -> Output {
+    triangles: &mut [u16]) -> Output {
     let r = read_full(STDIN_FILENO, pack);
     let Read::To(n) = r else {
         say_failed(b"unpack", b"cannot read standard input");
         return out;
     };
-    unpack_bytes(out, &pack[..n], triangles, m)
+    unpack_bytes(out, &pack[..n], triangles)
 }
 
 // Unpacks the file of a name, or says why it cannot be opened or read.
@@ -43,9 +41,7 @@ fn unpack_file(
     out: Output,
     name: &[u8],
     pack: &mut [u8],
-    triangles: &mut [u16],
-    m: &mut [u16; 5320],
-) -> Output {
+    triangles: &mut [u16]) -> Output {
     let fd = os::open_read(name);
     if fd < 0 {
         say_failed(b"unpack", name);
@@ -58,7 +54,7 @@ fn unpack_file(
         return out;
     };
     libc::close(fd);
-    unpack_bytes(out, &pack[..n], triangles, m)
+    unpack_bytes(out, &pack[..n], triangles)
 }
 
 // Whether a name stands for standard input.
@@ -71,9 +67,7 @@ fn unpack_named(
     out: Output,
     i: usize,
     pack: &mut [u8],
-    triangles: &mut [u16],
-    m: &mut [u16; 5320],
-) -> Output {
+    triangles: &mut [u16]) -> Output {
     let mut name = [0u8; 4096];
     let n = os::arg(i, &mut name);
     if os::errno() != 0 {
@@ -81,22 +75,20 @@ fn unpack_named(
         return out;
     }
     if is_standard(&name[..n]) {
-        return unpack_standard(out, pack, triangles, m);
+        return unpack_standard(out, pack, triangles);
     }
-    unpack_file(out, &name[..n], pack, triangles, m)
+    unpack_file(out, &name[..n], pack, triangles)
 }
 
 // Unpacks what each argument names; the program's own name is none.
 fn unpack_each(
     count: usize,
     pack: &mut [u8; MOST_BYTES + 1],
-    triangles: &mut [u16; 24576],
-    m: &mut [u16; 5320],
-) -> Output {
+    triangles: &mut [u16; 24576]) -> Output {
     let mut out = Output::fresh();
     let mut i = 1;
     while i < count {
-        out = unpack_named(out, i, pack, triangles, m);
+        out = unpack_named(out, i, pack, triangles);
         if out.failed {
             return out;
         }
@@ -108,11 +100,10 @@ fn unpack_each(
 fn main() {
     let mut pack = [0u8; MOST_BYTES + 1];
     let mut triangles = [0u16; 24576];
-    let mut m = [0u16; 5320];
     let count = os::arg_count();
     if count < 2 {
-        unpack_standard(Output::fresh(), &mut pack, &mut triangles, &mut m).end(b"unpack");
+        unpack_standard(Output::fresh(), &mut pack, &mut triangles).end(b"unpack");
         return;
     }
-    unpack_each(count, &mut pack, &mut triangles, &mut m).end(b"unpack");
+    unpack_each(count, &mut pack, &mut triangles).end(b"unpack");
 }

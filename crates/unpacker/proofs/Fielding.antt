@@ -1,24 +1,21 @@
 -- What is found of a pack's fields, for the unpacking: 12 and 13, or the counts and the operations.
 -- Assumes nothing.
-use Prim.Native.Nat.{ℕ, _+_, _*_, _-_, _≤_, _<_}
+use Prim.Native.Nat.{ℕ, _+_}
 use native.Mathlib.Omega.{arith}
-use mathlib.Core.Bool.{Bool, true, false, _&&_}
+use mathlib.Core.Bool.{Bool, true, false}
 use mathlib.Core.List.{List}
 use mathlib.Core.Path.{_≡_, refl, sym, ap, _∙_, subst}
-use lib.ListN.{length, take, drop}
-use lib.Dec.{leb}
+use lib.ListN.{length}
 use Rattle.rules.specs.declared.Counts.{Counts}
 use Rattle.rules.specs.declared.Unpacked.{Unpacked}
 use Rattle.rules.specs.declared.Unpacked.the-variants as U
 use Rattle.rules.specs.Limits.{inRange}
 use Rattle.rules.specs.Fields.{Fields, no-pack, fields, fieldsOf}
-use Rattle.rules.specs.Machine.{longEnough}
-use Rattle.rules.specs.Buffer.{lengths}
 use Rattle.rules.specs.Unpack.{turnedDown, unpackFields}
 use Rattle.wire.specs.declared.fields.PackFields.{PackFields}
 use Rattle.wire.specs.declared.fields.PackFields.the-variants.{Found, Refused}
 use Rattle.wire.specs.Fields.{ranged, tested, packFields, PartFound, Parted}
-use Rattle.unpacking.specs.Lent.{lent, unpackOn, isPast, UnpackedOn}
+use Rattle.unpacking.specs.Lent.{lent, UnpackedOn}
 use Rattle.unpacking.proofs.Unpacking.{turned-on}
 use Rattle.unpacking.proofs.Lending.{fields-13}
 
@@ -29,25 +26,20 @@ number : (j k : ℕ) → Refused j ≡ Refused k → j ≡ k
 number j k e = cc
 
 by-range : (n k : ℕ) (ts : List ℕ) (s : Counts) (ops : List ℕ) (b : Bool) → inRange s ≡ b → ranged b s ops ≡ Refused k
-    → (unpackFields (lent n ts) (fields s ops) ≡ turnedDown k (lent n ts)) × (isPast (fields s ops) n (length ts) ≡ false)
+    → unpackFields (lent n ts) (fields s ops) ≡ turnedDown k (lent n ts)
 by-range n k ts s ops true h e = absurd (out k s 14 (14 + length ops) e)
-by-range n k ts s ops false h e = (
-  fields-13 (lent n ts) s ops h ∙ ap (λ (j : ℕ). turnedDown j (lent n ts)) (number 13 k e),
-  ap (λ (b : Bool). b && (leb (3 * s .triangles) (length ts) && leb 1024 n)) h,
-)
+by-range n k ts s ops false h e = fields-13 (lent n ts) s ops h ∙ ap (λ (j : ℕ). turnedDown j (lent n ts)) (number 13 k e)
 
-by-fields : (n k : ℕ) (ts : List ℕ) (f : Fields) → tested f ≡ Refused k
-    → (unpackFields (lent n ts) f ≡ turnedDown k (lent n ts)) × (isPast f n (length ts) ≡ false)
+by-fields : (n k : ℕ) (ts : List ℕ) (f : Fields) → tested f ≡ Refused k → unpackFields (lent n ts) f ≡ turnedDown k (lent n ts)
 unfolding unpackFields
-by-fields n k ts no-pack e = (ap (λ (j : ℕ). turnedDown j (lent n ts)) (number 12 k e), refl)
+by-fields n k ts no-pack e = ap (λ (j : ℕ). turnedDown j (lent n ts)) (number 12 k e)
 by-fields n k ts (fields s ops) e = by-range n k ts s ops (inRange s) refl e
 
-pub refused-on : (bytes : List ℕ) (n : ℕ) (ts m : List ℕ) (f : PackFields) (k : ℕ) → f ≡ packFields bytes → f ≡ Refused k → (r : Unpacked)
-    → ((j : ℕ) → f ≡ Refused j → r ≡ U.Refused j) → UnpackedOn bytes n ts m r ts m
+pub refused-on : (bytes : List ℕ) (n : ℕ) (ts : List ℕ) (f : PackFields) (k : ℕ) → f ≡ packFields bytes → f ≡ Refused k → (r : Unpacked)
+    → ((j : ℕ) → f ≡ Refused j → r ≡ U.Refused j) → UnpackedOn bytes ts n r ts
 unfolding packFields
-refused-on bytes n ts m f k i e r h =
-    let w = by-fields n k ts (fieldsOf bytes) (sym i ∙ e) in
-    subst (λ (x : Unpacked). UnpackedOn bytes n ts m x ts m) (sym (h k e)) (turned-on bytes n ts m k (w .0) (w .1))
+refused-on bytes n ts f k i e r h =
+    subst (λ (x : Unpacked). UnpackedOn bytes ts n x ts) (sym (h k e)) (turned-on bytes n ts k (by-fields n k ts (fieldsOf bytes) (sym i ∙ e)))
 
 -- the part of the pack that holds the operations
 pub part-found : (bytes : List ℕ) (f : PackFields) (s : Counts) (a b : ℕ) → Parted bytes f → f ≡ Found s a b → PartFound bytes s a b

@@ -11,7 +11,6 @@ use crate::conclude::answer_of;
 use crate::step::run;
 use crate::tidy::tidy;
 use border::begin;
-use buffers::clear;
 use mesh::CORNERS;
 use mesh::VERTICES;
 use rules::Builder;
@@ -23,12 +22,10 @@ ghost use mathlib.Core.Path.{_≡_};
 ghost use Prim.Native.Nat.{ℕ};
 ghost use Rattle.rules.specs.declared.Unpacked.the-variants as Unpacks;
 ghost use Rattle.wire.specs.declared.fields.PackFields.the-variants as Packs;
-ghost use Rattle.unpacking.specs.Lent.{UnpackedOn, Fitting, RunGives};
+ghost use Rattle.unpacking.specs.Lent.{UnpackedOn, Fitting, RunGives, clearedBy};
 
-// How many places the memory has, how many numbers their records are, and how many all the memory has.
+// How many places the memory has, and how many numbers.
 const PLACES: usize = Builder::MAX_PLACES;
-
-const RECORDS: usize = 4096;
 
 const MEMORY: usize = 5320;
 
@@ -42,26 +39,25 @@ fn refusal_of(f: PackFields) -> Unpacked
     }
 }
 
-// Unpacks operations that got past 14: the model is built and tested, and the memory's records are left zero.
+// Unpacks operations that got past 14: the model is built and tested.
 fn unpack_operations(ops: &[u8], stated: Counts, triangles: &mut [u16], m: &mut [u16]) -> Unpacked
     requires { ⌜ Fitting stated (now ops) (now triangles) (now m) ⌝ }
-    ensures { λ r. ⌜ RunGives stated (now (ops .entry)) (now (triangles .entry)) r (now (triangles .exit)) (now (m .exit)) ⌝ }
+    ensures { λ r. ⌜ RunGives stated (now (ops .entry)) (now (triangles .entry)) r (now (triangles .exit)) ⌝ }
 {
     let mut chains = [0u16; VERTICES + CORNERS];
     let mut met = [0u16; VERTICES];
     let start = begin(m, PLACES, stated);
     let budget = 8 * ops.len() + 1;
     let end = run(ops, start, budget, triangles, m, &mut chains, &mut met);
-    clear(m, RECORDS);
     let answer = answer_of(ops, end, triangles, &chains, &met);
     tidy(triangles, 3 * (stated.triangles as usize), answer);
     answer
 }
 
-// Unpacks any bytes into any triangle buffer, with n place records that were lent: m has the first 1,024 of them as numbers, and
-// room after them to work in. Past 14 the records are left zero; before it nothing changes.
-pub fn unpack_on(pack: &[u8], triangles: &mut [u16], m: &mut [u16; MEMORY], n: usize) -> Unpacked
-    ensures { λ r. ⌜ UnpackedOn (now (pack .entry)) n (now (triangles .entry)) (now (m .entry)) r (now (triangles .exit)) (now (m .exit)) ⌝ }
+// Unpacks any bytes into any triangle buffer, where n place records were lent: of these only the number counts, for the unpacking
+// works in a memory of its own. Before 14 nothing changes.
+pub fn unpack_on(pack: &[u8], triangles: &mut [u16], n: usize) -> Unpacked
+    ensures { λ r. ⌜ UnpackedOn (now (pack .entry)) (now (triangles .entry)) n r (now (triangles .exit)) ⌝ }
 {
     let fields = fields_of(pack);
     let PackFields::Found(stated, from, to) = fields else {
@@ -73,5 +69,19 @@ pub fn unpack_on(pack: &[u8], triangles: &mut [u16], m: &mut [u16; MEMORY], n: u
     if n < PLACES {
         return Unpacked::Refused(14);
     }
-    unpack_operations(&pack[from..to], stated, triangles, m)
+    let mut m = [0u16; MEMORY];
+    unpack_operations(&pack[from..to], stated, triangles, &mut m)
+}
+
+// How many place records an unpacking clears, read off its answer: none after 12 to 14, and past 14 the first 1,024.
+pub fn cleared(r: Unpacked) -> usize
+    ensures { λ n. ⌜ n ≡ clearedBy r ⌝ }
+{
+    let Unpacked::Refused(k) = r else {
+        return PLACES;
+    };
+    if k <= 14 {
+        return 0;
+    }
+    PLACES
 }

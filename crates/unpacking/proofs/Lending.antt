@@ -138,19 +138,11 @@ module _ (bytes : List ℕ) (n : ℕ) (ts : List ℕ) (s : Counts) (ops : List �
       ∙ ap₂ (λ (a : Bool) (k : ℕ). pick a (leb (3 * s .triangles) (length ts) && leb maxPlaces k) (unpackRun s (lent n ts) (runOf s ops)) (turnedDown 14 (lent n ts)) (turnedDown 13 (lent n ts)))
       ranges (length-replicate n freePlace)
 
-  past-is : isPast (fieldsOf bytes) n (length ts) ≡ leb (3 * s .triangles) (length ts) && leb maxPlaces n
-  past-is =
-      ap (λ (f : Fields). isPast f n (length ts)) found
-      ∙ ap (λ (a : Bool). a && (leb (3 * s .triangles) (length ts) && leb maxPlaces n)) ranges
-
   -- one of the two is short
   module _ (short : leb (3 * s .triangles) (length ts) && leb maxPlaces n ≡ false) where
     pub short-is : unpackOn bytes n ts ≡ turnedDown 14 (lent n ts)
     short-is =
         on-pick ∙ ap (λ (b : Bool). pick true b (unpackRun s (lent n ts) (runOf s ops)) (turnedDown 14 (lent n ts)) (turnedDown 13 (lent n ts))) short
-
-    pub short-past : isPast (fieldsOf bytes) n (length ts) ≡ false
-    short-past = past-is ∙ short
 
   module _ (long : 3 * s .triangles ≤ length ts) (many : maxPlaces ≤ n) where
     both : leb (3 * s .triangles) (length ts) && leb maxPlaces n ≡ true
@@ -159,9 +151,6 @@ module _ (bytes : List ℕ) (n : ℕ) (ts : List ℕ) (s : Counts) (ops : List �
     pub enough-is : unpackOn bytes n ts ≡ unpackRun s (lent n ts) (runOf s ops)
     enough-is =
         on-pick ∙ ap (λ (b : Bool). pick true b (unpackRun s (lent n ts) (runOf s ops)) (turnedDown 14 (lent n ts)) (turnedDown 13 (lent n ts))) both
-
-    pub enough-past : isPast (fieldsOf bytes) n (length ts) ≡ true
-    enough-past = past-is ∙ both
 
 pub short-list : (k t n : ℕ) → t < k → leb k t && leb maxPlaces n ≡ false
 short-list k t n h = ap (λ (b : Bool). b && leb maxPlaces n) (lt-leb k t h)

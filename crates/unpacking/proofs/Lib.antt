@@ -9,6 +9,7 @@ pub mod Ruling
 pub mod Looping
 pub mod Leading
 pub mod Lending
+pub mod Cleared
 pub mod Clearing
 pub mod Concluding
 pub mod Euler

@@ -23,11 +23,10 @@ use Rattle.memory.specs.declared.Front.{Front}
 use Rattle.memory.specs.Fresh.{allFree, freshFront}
 use Rattle.unpacking.specs.declared.Stepped.{Stepped}
 use Rattle.unpacking.specs.Runs.{Runs, Held, Beyond, Ends, RunOf, Ended, Answers, tidied, bitsFrom}
-use Rattle.unpacking.specs.Lent.{lent, unpackOn, isPast, recordNumbers, ClearedIf, UnpackedOn, Fitting, RunGives}
+use Rattle.unpacking.specs.Lent.{lent, unpackOn, UnpackedOn, Fitting, RunGives}
 use Rattle.unpacking.proofs.Starting.{starts-empty}
 use Rattle.unpacking.proofs.Looping.{ends-ended}
-use Rattle.buffers.proofs.Filling.{filled-take}
-use Rattle.unpacking.proofs.Lending.{short-is, short-past, enough-is, enough-past, run-answer, run-triangles}
+use Rattle.unpacking.proofs.Lending.{short-is, enough-is, run-answer, run-triangles}
 
 -- the first state, as the code makes it
 module _ (c : Counts) (ops ts m : List ℕ) (f : Fitting c ops ts m) (s : Front) (es : s ≡ freshFront maxPlaces c) (m₁ : List ℕ)
@@ -51,34 +50,29 @@ module _ (c : Counts) (ops ts m : List ℕ) (f : Fitting c ops ts m) (s : Front)
     first-ended = ends-ended (runOf c ops) ops c e ts₁ m₂ cs₁ ks₁ ends
 
     pub run-gives : Beyond (s .stated) ts ts₁ → (r : Unpacked) → Answers ops e ts₁ cs₁ ks₁ (unpackedAnswer r) → (ts′ : List ℕ)
-        → ts′ ≡ tidied r (3 * c .triangles) ts₁ → (m′ : List ℕ) → m′ ≡ zeroed recordNumbers m₂ → RunGives c ops ts r ts′ m′
-    run-gives b r a ts′ et m′ ez = record {
+        → ts′ ≡ tidied r (3 * c .triangles) ts₁ → RunGives c ops ts r ts′
+    run-gives b r a ts′ et = record {
       answer = λ n. run-answer c ops ts n (runOf c ops) r e ts₁ m₂ cs₁ ks₁ ends a;
       triangles = λ n.
           et
           ∙ run-triangles c ops ts n (runOf c ops) r e ts₁ m₂ cs₁ ks₁ ends (subst (λ (d : Counts). Beyond d ts ts₁) (ap (λ (x : Front). x .stated) es) b) a;
-      memory = filled-take recordNumbers m₂ m′ ez;
     }
 
 -- an unpacking that is turned down changes nothing
-pub turned-on : (bytes : List ℕ) (n : ℕ) (ts m : List ℕ) (k : ℕ) → unpackOn bytes n ts ≡ turnedDown k (lent n ts)
-    → isPast (fieldsOf bytes) n (length ts) ≡ false → UnpackedOn bytes n ts m (U.Refused k) ts m
-turned-on bytes n ts m k e h = record {
+pub turned-on : (bytes : List ℕ) (n : ℕ) (ts : List ℕ) (k : ℕ) → unpackOn bytes n ts ≡ turnedDown k (lent n ts) → UnpackedOn bytes ts n (U.Refused k) ts
+turned-on bytes n ts k e = record {
   answer = sym (ap (λ (x : UnpackResult). x .answer) e);
   triangles = sym (ap (λ (x : UnpackResult). x .buffers .triangles) e);
-  memory = rw h refl;
 }
 
-module _ (bytes : List ℕ) (n : ℕ) (ts m : List ℕ) (c : Counts) (ops : List ℕ) (found : fieldsOf bytes ≡ fields c ops) (ranges : inRange c ≡ true) where
+module _ (bytes : List ℕ) (n : ℕ) (ts : List ℕ) (c : Counts) (ops : List ℕ) (found : fieldsOf bytes ≡ fields c ops) (ranges : inRange c ≡ true) where
   -- 14
-  pub short-on : leb (3 * c .triangles) (length ts) && leb maxPlaces n ≡ false → UnpackedOn bytes n ts m (U.Refused 14) ts m
-  short-on h = turned-on bytes n ts m 14 (short-is bytes n ts c ops found ranges h) (short-past bytes n ts c ops found ranges h)
+  pub short-on : leb (3 * c .triangles) (length ts) && leb maxPlaces n ≡ false → UnpackedOn bytes ts n (U.Refused 14) ts
+  short-on h = turned-on bytes n ts 14 (short-is bytes n ts c ops found ranges h)
 
   -- past it
-  pub run-on : 3 * c .triangles ≤ length ts → maxPlaces ≤ n → (r : Unpacked) (ts′ m′ : List ℕ) → RunGives c ops ts r ts′ m′
-      → UnpackedOn bytes n ts m r ts′ m′
-  run-on l k r ts′ m′ g = record {
+  pub run-on : 3 * c .triangles ≤ length ts → maxPlaces ≤ n → (r : Unpacked) (ts′ : List ℕ) → RunGives c ops ts r ts′ → UnpackedOn bytes ts n r ts′
+  run-on l k r ts′ g = record {
     answer = g .answer n ∙ sym (ap (λ (x : UnpackResult). x .answer) (enough-is bytes n ts c ops found ranges l k));
     triangles = g .triangles n ∙ sym (ap (λ (x : UnpackResult). x .buffers .triangles) (enough-is bytes n ts c ops found ranges l k));
-    memory = rw (enough-past bytes n ts c ops found ranges l k) (g .memory);
   }

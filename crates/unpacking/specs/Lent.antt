@@ -4,11 +4,12 @@ use Prim.Native.Nat.{ℕ, _*_, _≤_, _<_}
 use mathlib.Core.Bool.{Bool, true, false, _&&_}
 use mathlib.Core.List.{List}
 use mathlib.Core.Path.{_≡_}
-use lib.ListN.{length, take, replicate}
+use lib.ListN.{length, replicate}
 use lib.Dec.{leb}
 use Rattle.rules.specs.declared.Counts.{Counts}
 use Rattle.rules.specs.declared.Place.{Place}
 use Rattle.rules.specs.declared.Unpacked.{Unpacked}
+use Rattle.rules.specs.declared.Unpacked.the-variants as U
 use Rattle.rules.specs.Limits.{maxPlaces, inRange}
 use Rattle.rules.specs.Answer.{unpackedAnswer}
 use Rattle.rules.specs.Buffer.{freePlace, Buffers, lengths}
@@ -27,22 +28,17 @@ abbrev pub isPast : Fields → ℕ → ℕ → Bool
 isPast no-pack n k = false
 isPast (fields s ops) n k = inRange s && (leb (3 * s .triangles) k && leb maxPlaces n)
 
--- how many numbers 1,024 place records are
-abbrev pub recordNumbers : ℕ
-recordNumbers = 4096
+-- how many place records an unpacking clears, read off its answer: none after 12 to 14, and past 14 the first 1,024
+abbrev pub clearedBy : Unpacked → ℕ
+clearedBy (U.Model m) = maxPlaces
+clearedBy (U.Refused k) = elim (leb k 14) [ true ↦ 0 | false ↦ maxPlaces ]
 
--- the memory afterwards: its records are zero, or it is as it was
-abbrev pub ClearedIf : Bool → List ℕ → List ℕ → Type 0
-ClearedIf true m m′ = take recordNumbers m′ ≡ replicate recordNumbers 0
-ClearedIf false m m′ = m′ ≡ m
-
--- an unpacking of any bytes, in any buffers: the answer r, the triangle buffer and the memory afterwards
-pub record UnpackedOn (bytes : List ℕ) (n : ℕ) (ts m : List ℕ) (r : Unpacked) (ts′ m′ : List ℕ) : Type 0 where
+-- an unpacking of any bytes, in any buffers: the answer r, and the triangle buffer afterwards
+pub record UnpackedOn (bytes ts : List ℕ) (n : ℕ) (r : Unpacked) (ts′ : List ℕ) : Type 0 where
   pub answer : unpackedAnswer r ≡ unpackOn bytes n ts .answer
   pub triangles : ts′ ≡ unpackOn bytes n ts .buffers .triangles
-  pub memory : ClearedIf (isPast (fieldsOf bytes) n (length ts)) m m′
 
--- the operations and the buffers that get past 14
+-- the operations and the buffers that get past 14, and the plain memory
 pub record Fitting (c : Counts) (ops ts m : List ℕ) : Type 0 where
   pub ranges : inRange c ≡ true
   pub short : length ops < 65536
@@ -50,7 +46,6 @@ pub record Fitting (c : Counts) (ops ts m : List ℕ) : Type 0 where
   pub whole : length m ≡ 5320
 
 -- the run of the operations ops, with any number of place records
-pub record RunGives (c : Counts) (ops ts : List ℕ) (r : Unpacked) (ts′ m′ : List ℕ) : Type 0 where
+pub record RunGives (c : Counts) (ops ts : List ℕ) (r : Unpacked) (ts′ : List ℕ) : Type 0 where
   pub answer : (n : ℕ) → unpackedAnswer r ≡ unpackRun c (lent n ts) (runOf c ops) .answer
   pub triangles : (n : ℕ) → ts′ ≡ unpackRun c (lent n ts) (runOf c ops) .buffers .triangles
-  pub memory : take recordNumbers m′ ≡ replicate recordNumbers 0

@@ -25,11 +25,8 @@ add-run c = let a = c .before .before .before .before .before .before .before .b
 run-requires : tie.Need-run-requires
 run-requires c κs = let a = c .before .before .before .before .before .before .before .before .before .before .before .before .before .before .before .before .before .args in (begin-held (a .v) (a .list .now) (a .chains .now) (a .numbering .now) (a .m .now) (c .before .before .before .before .before .before .before .before .before .before .before .before .before .before .before .before .before .pre) _ refl _ (c .before .before .before .before .before .before .before .before .before .before .before .stated-for .ensures) (c .before .before .before .before .before .before .before .before .before .before .begin .result) (c .before .before .before .before .before .before .before .before .before .before .begin .ensures .0) _ (c .before .before .before .before .before .before .before .before .before .before .begin .ensures .1) _ (c .before .before .before .before .before .before .fill .ensures), omega (arith, few-counts (a .v) (a .list .now) (a .chains .now) (a .numbering .now) (a .m .now) (c .before .before .before .before .before .before .before .before .before .before .before .before .before .before .before .before .before .pre) _ refl .1))
 
-clear-requires : tie.Need-clear-requires
-clear-requires c κs = omega (arith, c .before .before .before .before .before .before .before .run .kept .1 .1 .1 .1 .1 .1 .1 .0, c .before .before .before .before .before .before .before .before .before .before .before .before .before .before .before .before .before .before .begin .kept .0, c .before .before .before .before .before .before .before .before .before .before .before .before .before .before .before .before .before .before .before .before .before .before .before .before .before .pre .whole)
-
 finish-requires : tie.Need-finish-requires
-finish-requires c κs = let a = c .before .before .before .before .before .before .before .before .before .before .before .before .before .before .before .before .before .before .before .before .before .before .before .before .before .before .before .before .before .before .args in (few-counts (a .v) (a .list .now) (a .chains .now) (a .numbering .now) (a .m .now) (c .before .before .before .before .before .before .before .before .before .before .before .before .before .before .before .before .before .before .before .before .before .before .before .before .before .before .before .before .before .before .pre) _ refl .0, few-counts (a .v) (a .list .now) (a .chains .now) (a .numbering .now) (a .m .now) (c .before .before .before .before .before .before .before .before .before .before .before .before .before .before .before .before .before .before .before .before .before .before .before .before .before .before .before .before .before .before .pre) _ refl .1, run-enough (a .v) (a .list .now) (a .chains .now) (a .numbering .now) (a .m .now) (c .before .before .before .before .before .before .before .before .before .before .before .before .before .before .before .before .before .before .before .before .before .before .before .before .before .before .before .before .before .before .pre) _ refl _ (c .before .before .before .before .before .before .before .before .before .before .before .before .before .before .before .before .before .before .before .before .before .before .before .before .stated-for .ensures) (c .before .before .before .before .before .before .before .before .before .before .before .before .before .before .before .before .before .before .before .before .before .before .before .begin .result) (c .before .before .before .before .before .before .before .before .before .before .before .before .before .before .before .before .before .before .before .before .before .before .before .begin .ensures .0) _ (c .before .before .before .before .before .before .before .before .before .before .before .before .before .before .before .before .before .before .before .before .before .before .before .begin .ensures .1) _ (c .before .before .before .before .before .before .before .before .before .before .before .before .before .before .before .before .before .before .before .fill .ensures) (a .buffer .now) (c .before .before .before .before .before .before .before .before .before .before .before .before .run .result) _ _ _ _ (c .before .before .before .before .before .before .before .before .before .before .before .before .run .ensures), run-sized (a .v) (a .list .now) (a .chains .now) (a .numbering .now) (a .m .now) (c .before .before .before .before .before .before .before .before .before .before .before .before .before .before .before .before .before .before .before .before .before .before .before .before .before .before .before .before .before .before .pre) _ refl _ (c .before .before .before .before .before .before .before .before .before .before .before .before .before .before .before .before .before .before .before .before .before .before .before .before .stated-for .ensures) (c .before .before .before .before .before .before .before .before .before .before .before .before .before .before .before .before .before .before .before .before .before .before .before .begin .result) (c .before .before .before .before .before .before .before .before .before .before .before .before .before .before .before .before .before .before .before .before .before .before .before .begin .ensures .0) _ (c .before .before .before .before .before .before .before .before .before .before .before .before .before .before .before .before .before .before .before .before .before .before .before .begin .ensures .1) _ (c .before .before .before .before .before .before .before .before .before .before .before .before .before .before .before .before .before .before .before .fill .ensures) (a .buffer .now) (c .before .before .before .before .before .before .before .before .before .before .before .before .run .result) _ _ _ _ (c .before .before .before .before .before .before .before .before .before .before .before .before .run .ensures))
+finish-requires c κs = let a = c .before .before .before .before .before .before .before .before .before .before .before .before .before .before .before .before .before .before .before .before .before .before .before .before .before .before .args in (few-counts (a .v) (a .list .now) (a .chains .now) (a .numbering .now) (a .m .now) (c .before .before .before .before .before .before .before .before .before .before .before .before .before .before .before .before .before .before .before .before .before .before .before .before .before .before .pre) _ refl .0, few-counts (a .v) (a .list .now) (a .chains .now) (a .numbering .now) (a .m .now) (c .before .before .before .before .before .before .before .before .before .before .before .before .before .before .before .before .before .before .before .before .before .before .before .before .before .before .pre) _ refl .1, run-enough (a .v) (a .list .now) (a .chains .now) (a .numbering .now) (a .m .now) (c .before .before .before .before .before .before .before .before .before .before .before .before .before .before .before .before .before .before .before .before .before .before .before .before .before .before .pre) _ refl _ (c .before .before .before .before .before .before .before .before .before .before .before .before .before .before .before .before .before .before .before .before .stated-for .ensures) (c .before .before .before .before .before .before .before .before .before .before .before .before .before .before .before .before .before .before .before .begin .result) (c .before .before .before .before .before .before .before .before .before .before .before .before .before .before .before .before .before .before .before .begin .ensures .0) _ (c .before .before .before .before .before .before .before .before .before .before .before .before .before .before .before .before .before .before .before .begin .ensures .1) _ (c .before .before .before .before .before .before .before .before .before .before .before .before .before .before .before .fill .ensures) (a .buffer .now) (c .before .before .before .before .before .before .before .before .run .result) _ _ _ _ (c .before .before .before .before .before .before .before .before .run .ensures), run-sized (a .v) (a .list .now) (a .chains .now) (a .numbering .now) (a .m .now) (c .before .before .before .before .before .before .before .before .before .before .before .before .before .before .before .before .before .before .before .before .before .before .before .before .before .before .pre) _ refl _ (c .before .before .before .before .before .before .before .before .before .before .before .before .before .before .before .before .before .before .before .before .stated-for .ensures) (c .before .before .before .before .before .before .before .before .before .before .before .before .before .before .before .before .before .before .before .begin .result) (c .before .before .before .before .before .before .before .before .before .before .before .before .before .before .before .before .before .before .before .begin .ensures .0) _ (c .before .before .before .before .before .before .before .before .before .before .before .before .before .before .before .before .before .before .before .begin .ensures .1) _ (c .before .before .before .before .before .before .before .before .before .before .before .before .before .before .before .fill .ensures) (a .buffer .now) (c .before .before .before .before .before .before .before .before .run .result) _ _ _ _ (c .before .before .before .before .before .before .before .before .run .ensures))
 
 same-length : tie.Need-same-length
 same-length c = search needs
@@ -41,7 +38,7 @@ same-length-3 : tie.Need-same-length-3
 same-length-3 c = search needs
 
 returns : tie.Need-returns
-returns c = let a = c .before .before .before .before .before .before .before .before .before .before .before .before .before .before .before .before .before .before .before .before .before .before .before .before .before .before .before .before .before .before .before .before .before .before .before .args in run-gives (a .v) (a .list .now) (a .chains .now) (a .numbering .now) (a .m .now) (c .before .before .before .before .before .before .before .before .before .before .before .before .before .before .before .before .before .before .before .before .before .before .before .before .before .before .before .before .before .before .before .before .before .before .before .pre) _ refl _ (c .before .before .before .before .before .before .before .before .before .before .before .before .before .before .before .before .before .before .before .before .before .before .before .before .before .before .before .before .before .stated-for .ensures) (c .before .before .before .before .before .before .before .before .before .before .before .before .before .before .before .before .before .before .before .before .before .before .before .before .before .before .before .before .begin .result) (c .before .before .before .before .before .before .before .before .before .before .before .before .before .before .before .before .before .before .before .before .before .before .before .before .before .before .before .before .begin .ensures .0) _ (c .before .before .before .before .before .before .before .before .before .before .before .before .before .before .before .before .before .before .before .before .before .before .before .before .before .before .before .before .begin .ensures .1) _ (c .before .before .before .before .before .before .before .before .before .before .before .before .before .before .before .before .before .before .before .before .before .before .before .before .fill .ensures) (a .buffer .now) (c .before .before .before .before .before .before .before .before .before .before .before .before .before .before .before .before .before .run .result) _ _ _ _ (c .before .before .before .before .before .before .before .before .before .before .before .before .before .before .before .before .before .run .ensures) (c .before .before .before .before .before .before .before .before .before .before .before .before .before .before .before .before .before .run .kept .1 .1 .1 .1 .1 .1 .0) _ (c .before .before .before .before .finish .ensures .0) _ (c .before .before .before .before .finish .ensures .1 .0) _ (c .before .before .before .before .finish .ensures .1 .1) _ (c .before .before .before .before .before .before .before .before .before .clear .ensures)
+returns c = let a = c .before .before .before .before .before .before .before .before .before .before .before .before .before .before .before .before .before .before .before .before .before .before .before .before .before .before .before .before .before .before .before .args in run-gives (a .v) (a .list .now) (a .chains .now) (a .numbering .now) (a .m .now) (c .before .before .before .before .before .before .before .before .before .before .before .before .before .before .before .before .before .before .before .before .before .before .before .before .before .before .before .before .before .before .before .pre) _ refl _ (c .before .before .before .before .before .before .before .before .before .before .before .before .before .before .before .before .before .before .before .before .before .before .before .before .before .stated-for .ensures) (c .before .before .before .before .before .before .before .before .before .before .before .before .before .before .before .before .before .before .before .before .before .before .before .before .begin .result) (c .before .before .before .before .before .before .before .before .before .before .before .before .before .before .before .before .before .before .before .before .before .before .before .before .begin .ensures .0) _ (c .before .before .before .before .before .before .before .before .before .before .before .before .before .before .before .before .before .before .before .before .before .before .before .before .begin .ensures .1) _ (c .before .before .before .before .before .before .before .before .before .before .before .before .before .before .before .before .before .before .before .before .fill .ensures) (a .buffer .now) (c .before .before .before .before .before .before .before .before .before .before .before .before .before .run .result) _ _ _ _ (c .before .before .before .before .before .before .before .before .before .before .before .before .before .run .ensures) (c .before .before .before .before .before .before .before .before .before .before .before .before .before .run .kept .1 .1 .1 .1 .1 .1 .0) _ (c .before .before .before .before .finish .ensures .0) _ (c .before .before .before .before .finish .ensures .1 .0) _ (c .before .before .before .before .finish .ensures .1 .1)
 
 pub pack-accepted-spec : {M : Type 1} → statement M
 pack-accepted-spec =
@@ -53,7 +50,6 @@ pack-accepted-spec =
     mul-run
     add-run
     run-requires
-    clear-requires
     finish-requires
     same-length
     same-length-2

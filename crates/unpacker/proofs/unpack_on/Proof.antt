@@ -23,7 +23,7 @@ refusal-of-requires : tie.Need-refusal-of-requires
 refusal-of-requires c κs = search needs
 
 returns : tie.Need-returns
-returns c = let a = c .before .before .before .before .before .before in let k = c .before .before .before .fields-of in refused-on (a .args .pack .now) (a .args .n) (a .args .triangles .now) (a .args .m .now) (k .result) _ (k .ensures .0) (c .before .enum-told .given .1) (c .refusal-of .result) (c .refusal-of .ensures)
+returns c = let a = c .before .before .before .before .before .before in let k = c .before .before .before .fields-of in refused-on (a .args .pack .now) (a .args .n) (a .args .triangles .now) (k .result) _ (k .ensures .0) (c .before .enum-told .given .1) (c .refusal-of .result) (c .refusal-of .ensures)
 
 cast-if1 : tie.Need-cast-if1
 cast-if1 c = search needs
@@ -35,13 +35,13 @@ returns-2 : tie.Need-returns-2
 returns-2 c =
     let a = c .before .before .before .before .before .before .before .before in
     let k = c .before .before .before .before .before .fields-of in let q = c .before .before .before .fields .given in let p = part-found (a .args .pack .now) (k .result) (q .0 .0) (q .0 .1 .0) (q .0 .1 .1 .0) (k .ensures .1) (q .1) in
-    short-on (a .args .pack .now) (a .args .n) (a .args .triangles .now) (a .args .m .now) (q .0 .0) _ (p .found) (p .ranges) (short-list (3 * q .0 .0 .triangles) (length (a .args .triangles .now)) (a .args .n) (c .if1 .taken))
+    short-on (a .args .pack .now) (a .args .n) (a .args .triangles .now) (q .0 .0) _ (p .found) (p .ranges) (short-list (3 * q .0 .0 .triangles) (length (a .args .triangles .now)) (a .args .n) (c .if1 .taken))
 
 returns-3 : tie.Need-returns-3
 returns-3 c =
     let a = c .before .before .before .before .before .before .before .before .before in
     let k = c .before .before .before .before .before .before .fields-of in let q = c .before .before .before .before .fields .given in let p = part-found (a .args .pack .now) (k .result) (q .0 .0) (q .0 .1 .0) (q .0 .1 .1 .0) (k .ensures .1) (q .1) in
-    short-on (a .args .pack .now) (a .args .n) (a .args .triangles .now) (a .args .m .now) (q .0 .0) _ (p .found) (p .ranges) (short-places (3 * q .0 .0 .triangles) (length (a .args .triangles .now)) (a .args .n) (c .if2 .taken))
+    short-on (a .args .pack .now) (a .args .n) (a .args .triangles .now) (q .0 .0) _ (p .found) (p .ranges) (short-places (3 * q .0 .0 .triangles) (length (a .args .triangles .now)) (a .args .n) (c .if2 .taken))
 
 sub-unpack-operations : tie.Need-sub-unpack-operations
 sub-unpack-operations c = let a = c .before .before .before .before .before .before .before .before .before in let k = c .before .before .before .before .before .before .fields-of in let q = c .before .before .before .before .fields .given in let p = part-found (a .args .pack .now) (k .result) (q .0 .0) (q .0 .1 .0) (q .0 .1 .1 .0) (k .ensures .1) (q .1) in p .order
@@ -51,6 +51,9 @@ part-unpack-operations-start c = let a = c .before .before .before .before .befo
 
 part-unpack-operations-end : tie.Need-part-unpack-operations-end
 part-unpack-operations-end c = let a = c .before .before .before .before .before .before .before .before .before in let k = c .before .before .before .before .before .before .fields-of in let q = c .before .before .before .before .fields .given in let p = part-found (a .args .pack .now) (k .result) (q .0 .0) (q .0 .1 .0) (q .0 .1 .1 .0) (k .ensures .1) (q .1) in p .within
+
+slice-aggregate-unpack-operations : tie.Need-slice-aggregate-unpack-operations
+slice-aggregate-unpack-operations c = search needs
 
 unpack-operations-requires : tie.Need-unpack-operations-requires
 unpack-operations-requires c κs =
@@ -63,9 +66,9 @@ same-length c = search needs
 
 returns-4 : tie.Need-returns-4
 returns-4 c =
-    let a = c .before .before .before .before .before .before .before .before .before .before .before .before .before .before .before in
-    let k = c .before .before .before .before .before .before .before .before .before .before .before .before .fields-of in let q = c .before .before .before .before .before .before .before .before .before .before .fields .given in let p = part-found (a .args .pack .now) (k .result) (q .0 .0) (q .0 .1 .0) (q .0 .1 .1 .0) (k .ensures .1) (q .1) in
-    run-on (a .args .pack .now) (a .args .n) (a .args .triangles .now) (a .args .m .now) (q .0 .0) _ (p .found) (p .ranges) (c .before .before .before .before .before .before .before .if1 .left) (c .before .before .before .before .before .before .if2 .left) (c .before .before .unpack-operations .result) _ _ (c .before .before .unpack-operations .ensures)
+    let a = c .before .before .before .before .before .before .before .before .before .before .before .before .before .before .before .before in
+    let k = c .before .before .before .before .before .before .before .before .before .before .before .before .before .fields-of in let q = c .before .before .before .before .before .before .before .before .before .before .before .fields .given in let p = part-found (a .args .pack .now) (k .result) (q .0 .0) (q .0 .1 .0) (q .0 .1 .1 .0) (k .ensures .1) (q .1) in
+    run-on (a .args .pack .now) (a .args .n) (a .args .triangles .now) (q .0 .0) _ (p .found) (p .ranges) (c .before .before .before .before .before .before .before .before .if1 .left) (c .before .before .before .before .before .before .before .if2 .left) (c .before .before .before .unpack-operations .result) _ (c .before .before .before .unpack-operations .ensures)
 
 pub unpack-on-spec : {M : Type 1} → statement M
 unpack-on-spec =
@@ -83,6 +86,7 @@ unpack-on-spec =
     sub-unpack-operations
     part-unpack-operations-start
     part-unpack-operations-end
+    slice-aggregate-unpack-operations
     unpack-operations-requires
     same-length
     returns-4)

@@ -25,14 +25,11 @@ run-requires c κs =
     let a = c .before .before .before .before .before .before .before .before .before .before .before in
     (first-held (a .args .stated) (a .args .ops .now) (a .args .triangles .now) (a .args .m .now) (a .pre) (g .result) (g .ensures .0) (g .last .0) (g .ensures .1) _ (zeros-none _ _ refl) _ (length-replicate {A = ℕ} 4096 0), a .pre .short)
 
-clear-requires : tie.Need-clear-requires
-clear-requires c κs = search needs
-
 answer-of-requires : tie.Need-answer-of-requires
 answer-of-requires c κs =
-    let k = c .before .before .before .before .before .before .before .before .before .before .before .run in
-    let g = c .before .before .before .before .before .before .before .before .before .before .before .before .before .before .before .before .before .before .begin in
-    let a = c .before .before .before .before .before .before .before .before .before .before .before .before .before .before .before .before .before .before .before .before .before .before .before in
+    let k = c .before .before .before .before .before .before .before .run in
+    let g = c .before .before .before .before .before .before .before .before .before .before .before .before .before .before .begin in
+    let a = c .before .before .before .before .before .before .before .before .before .before .before .before .before .before .before .before .before .before .before in
     first-ended (a .args .stated) (a .args .ops .now) (a .args .triangles .now) (a .args .m .now) (a .pre) (g .result) (g .ensures .0) (g .last .0) (g .ensures .1) _ (zeros-none _ _ refl) _ (length-replicate {A = ℕ} 4096 0) _ refl (k .result) _ _ _ _ (k .ensures .0)
 
 cast-tidy : tie.Need-cast-tidy
@@ -42,7 +39,7 @@ mul-tidy : tie.Need-mul-tidy
 mul-tidy c = search needs
 
 tidy-requires : tie.Need-tidy-requires
-tidy-requires c κs = omega (arith, c .before .before .before .before .before .before .before .before .before .before .before .before .before .before .before .before .before .before .before .before .before .before .before .before .before .before .pre .room, c .before .before .before .before .before .before .before .before .before .before .before .before .before .before .run .kept .1 .1 .1 .0)
+tidy-requires c κs = omega (arith, c .before .before .before .before .before .before .before .before .before .before .before .before .before .before .before .before .before .before .before .before .before .before .pre .room, c .before .before .before .before .before .before .before .before .before .before .run .kept .1 .1 .1 .0)
 
 same-length : tie.Need-same-length
 same-length c = search needs
@@ -52,11 +49,11 @@ same-length-2 c = search needs
 
 returns : tie.Need-returns
 returns c =
-    let k = c .before .before .before .before .before .before .before .before .before .before .before .before .before .before .before .before .before .run in
-    let g = c .before .before .before .before .before .before .before .before .before .before .before .before .before .before .before .before .before .before .before .before .before .before .before .before .begin in
-    let a = c .before .before .before .before .before .before .before .before .before .before .before .before .before .before .before .before .before .before .before .before .before .before .before .before .before .before .before .before .before in
+    let k = c .before .before .before .before .before .before .before .before .before .before .before .before .before .run in
+    let g = c .before .before .before .before .before .before .before .before .before .before .before .before .before .before .before .before .before .before .before .before .begin in
+    let a = c .before .before .before .before .before .before .before .before .before .before .before .before .before .before .before .before .before .before .before .before .before .before .before .before .before in
     let r = c .before .before .before .before .before .answer-of in
-    run-gives (a .args .stated) (a .args .ops .now) (a .args .triangles .now) (a .args .m .now) (a .pre) (g .result) (g .ensures .0) (g .last .0) (g .ensures .1) _ (zeros-none _ _ refl) _ (length-replicate {A = ℕ} 4096 0) _ refl (k .result) _ _ _ _ (k .ensures .0) (k .ensures .1) (r .result) (r .ensures) _ (c .before .before .tidy .ensures) _ (c .before .before .before .before .before .before .before .before .before .before .before .clear .ensures)
+    run-gives (a .args .stated) (a .args .ops .now) (a .args .triangles .now) (a .args .m .now) (a .pre) (g .result) (g .ensures .0) (g .last .0) (g .ensures .1) _ (zeros-none _ _ refl) _ (length-replicate {A = ℕ} 4096 0) _ refl (k .result) _ _ _ _ (k .ensures .0) (k .ensures .1) (r .result) (r .ensures) _ (c .before .before .tidy .ensures)
 
 pub unpack-operations-spec : {M : Type 1} → statement M
 unpack-operations-spec =
@@ -66,7 +63,6 @@ unpack-operations-spec =
     mul-budget
     add-budget
     run-requires
-    clear-requires
     answer-of-requires
     cast-tidy
     mul-tidy

@@ -62,6 +62,9 @@ returns c =
 enum-told : tie.Need-enum-told
 enum-told c = search needs
 
+empty-requires : tie.Need-empty-requires
+empty-requires c κs = search needs
+
 slice-aggregate-print : tie.Need-slice-aggregate-print
 slice-aggregate-print c = search needs
 
@@ -95,6 +98,7 @@ begin-spec =
     same-length
     returns
     enum-told
+    empty-requires
     slice-aggregate-print
     print-requires
     same-length-2

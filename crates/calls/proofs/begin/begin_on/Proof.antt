@@ -1,4 +1,4 @@
--- `calls::begin::begin_on` meets its contract: 13, 14, or a blank memory and the builder that holds nothing.
+-- `calls::begin::begin_on` meets its contract: 13, 14, or the builder that holds nothing.
 -- Assumes nothing.
 use borrow.Author.Needs.{needs}
 use Rattle.finishing.proofs.Beginning.{begins-range, begins-triangles, begins-places, begins-done}
@@ -15,7 +15,7 @@ returns : tie.Need-returns
 returns c =
     let k = c .before .before in
     let a = k .before .before .args in
-    begins-range (a .stated) (a .triangles .now) (a .m .now) (a .n) _ (k .is-in-range .ensures) (c .before .if1 .taken) _
+    begins-range (a .stated) (a .triangles .now) (a .n) _ (k .is-in-range .ensures) (c .before .if1 .taken) _
     (c .refused .ensures)
 
 cast-if2 : tie.Need-cast-if2
@@ -31,7 +31,7 @@ returns-2 : tie.Need-returns-2
 returns-2 c =
     let i = c .before .before .before in
     let a = i .before .before .before .args in
-    begins-triangles (a .stated) (a .triangles .now) (a .m .now) (a .n) _ (i .before .is-in-range .ensures) (i .if1 .left)
+    begins-triangles (a .stated) (a .triangles .now) (a .n) _ (i .before .is-in-range .ensures) (i .if1 .left)
     (c .before .if2 .taken) _ (c .refused2 .ensures)
 
 refused-requires-3 : tie.Need-refused-requires-3
@@ -42,23 +42,20 @@ returns-3 c =
     let j = c .before .before in
     let i = j .before .before in
     let a = i .before .before .before .args in
-    begins-places (a .stated) (a .triangles .now) (a .m .now) (a .n) _ (i .before .is-in-range .ensures) (i .if1 .left) (j .if2 .left)
+    begins-places (a .stated) (a .triangles .now) (a .n) _ (i .before .is-in-range .ensures) (i .if1 .left) (j .if2 .left)
     (c .before .if3 .taken) _ (c .refused3 .ensures)
-
-empty-requires : tie.Need-empty-requires
-empty-requires c κs = search needs
 
 begun-requires : tie.Need-begun-requires
 begun-requires c κs = search needs
 
 returns-4 : tie.Need-returns-4
 returns-4 c =
-    let k = c .before .before in
+    let k = c .before in
     let j = k .before in
     let i = j .before .before in
     let a = i .before .before .before .args in
-    begins-done (a .stated) (a .triangles .now) (a .m .now) (a .n) _ (i .before .is-in-range .ensures) (i .if1 .left) (j .if2 .left)
-    (k .if3 .left) _ (c .begun .ensures) _ (c .before .empty .ensures)
+    begins-done (a .stated) (a .triangles .now) (a .n) _ (i .before .is-in-range .ensures) (i .if1 .left) (j .if2 .left)
+    (k .if3 .left) _ (c .begun .ensures)
 
 pub begin-on-spec : {M : Type 1} → statement M
 begin-on-spec =
@@ -73,6 +70,5 @@ begin-on-spec =
     returns-2
     refused-requires-3
     returns-3
-    empty-requires
     begun-requires
     returns-4)

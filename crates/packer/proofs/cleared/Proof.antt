@@ -1,0 +1,24 @@
+-- `packer::cleared` meets its contract: 1 to 8 clear none, any other answer all.
+-- Assumes nothing.
+use borrow.Author.Needs.{needs}
+use Rattle.packing.proofs.Clearing.{cleared-early, cleared-late}
+use Rattle.packer.proofs.cleared.Statement.{statement}
+use Rattle.packer.proofs.cleared.Tie as tie
+
+enum-known-r : tie.Need-enum-known-r
+enum-known-r c = search needs
+
+enum-told : tie.Need-enum-told
+enum-told c = search needs
+
+returns : tie.Need-returns
+returns c = search needs
+
+returns-2 : tie.Need-returns-2
+returns-2 c = cleared-early _ _ (c .before .before .r .given .1) (c .if1 .taken)
+
+returns-3 : tie.Need-returns-3
+returns-3 c = cleared-late _ _ (c .before .before .r .given .1) (c .if1 .left)
+
+pub cleared-spec : {M : Type 1} → statement M
+cleared-spec = tie.close (tie.spec enum-known-r enum-told returns returns-2 returns-3)
