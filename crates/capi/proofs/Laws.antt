@@ -95,7 +95,7 @@ operates-for b p o ts ps xs r n b′ ts′ ps′ xs′ eo k eb e =
     subst (λ (q : Operation). Operates b q ts ps xs n b′ ts′ ps′ xs′) eo (record {
       number = e .0 ∙ ap numberOf (k .answer);
       built = e .1 ∙ ap (λ (a : Answer). builtAfter xs a) (k .answer);
-      after = subst (λ (d : Builder). OperatedBy b (lentTo ts ps) (operates b (lentTo ts ps) o) d (lentTo ts′ ps′)) (sym eb) (k .after);
+      after = subst (λ (d : Builder). OperatedBy b (lentTo ts ps) o (operates b (lentTo ts ps) o) d (lentTo ts′ ps′)) (sym eb) (k .after);
     })
 
 pub finishes-for : (b : Builder) (ts : List ℕ) (ps : List Place) (xs : List ℕ) (e : ℤ) (r : Finished) (n : ℕ) (xs′ : List ℕ) (e′ : ℤ)

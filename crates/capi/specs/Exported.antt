@@ -51,7 +51,7 @@ pub record Begins (s : Counts) (ts : List ℕ) (ps : List Place) (b : Builder) (
 pub record Operates (b : Builder) (o : Operation) (ts : List ℕ) (ps : List Place) (xs : List ℕ) (n : ℕ) (b′ : Builder) (ts′ : List ℕ) (ps′ : List Place) (xs′ : List ℕ) : Type 0 where
   pub number : n ≡ numberOf (answerOf (operates b (lentTo ts ps) o))
   pub built : xs′ ≡ builtAfter xs (answerOf (operates b (lentTo ts ps) o))
-  pub after : OperatedBy b (lentTo ts ps) (operates b (lentTo ts ps) o) b′ (lentTo ts′ ps′)
+  pub after : OperatedBy b (lentTo ts ps) o (operates b (lentTo ts ps) o) b′ (lentTo ts′ ps′)
 
 -- a finish of the builder b: xs and e are the memory for the totals and the Euler number; the rest is only read
 pub record Finishes (b : Builder) (ts : List ℕ) (ps : List Place) (xs : List ℕ) (e : ℤ) (n : ℕ) (xs′ : List ℕ) (e′ : ℤ) : Type 0 where
