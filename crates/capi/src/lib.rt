@@ -140,7 +140,7 @@ pub extern "C" fn core_write(
 pub extern "C" fn core_unpack(
     pack: &[u8],
     triangles: &mut [u16],
-    m: &mut [u16; 5320],
+    m: &mut places::Memory,
     n: usize,
     out: &mut [i32; 6],
 ) -> u32 {
@@ -175,7 +175,7 @@ pub extern "C" fn core_pack(
     list: &[u16],
     numbering: &mut [u16],
     room: &mut [u8],
-    m: &mut [u16; 5320],
+    m: &mut places::Memory,
     n: usize,
     out: &mut [u32; 1],
 ) -> u32 {

@@ -1,4 +1,4 @@
--- The core's plain memory: 5,320 numbers, of which the first 4,096 are four for each of 1,024 records; and how a list of records
+-- The core's plain memory: 5,328 numbers, of which the first 4,096 are four for each of 1,024 records; and how a list of records
 -- is read into it and written back.
 -- Assumes nothing.
 use Prim.Native.Nat.{ℕ, zero, suc, _+_, _*_}
@@ -12,7 +12,7 @@ use Rattle.rules.specs.View.{placeAt}
 
 -- how many numbers the plain memory has
 abbrev pub memorySize : ℕ
-memorySize = 5320
+memorySize = 5328
 
 -- an edge's openness as a number, and a number read as one: what is not 1 is not open
 abbrev pub numberOf : Bool → ℕ

@@ -9,7 +9,7 @@ use cutborder::ops::{Counts, Op};
 use cutborder::{Answer, Place, Refusal, MAX_INPUT};
 
 /// The plain memory of an unpacking: four numbers for each of 1,024 place records, and room to work in.
-pub const MEMORY: usize = 5_320;
+pub const MEMORY: usize = 5_328;
 pub const RECORDS: usize = 4_096;
 
 /// A builder's state: the four counts stated, vertices, triangles, both peaks, edges, starts, unions, rims, live loops, then the
