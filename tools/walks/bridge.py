@@ -2,7 +2,7 @@
 """Writes the walk of a public function over a lent list of place records.
 
 The borrow checker covers no function that is lent a slice of structs, so such a function is proved by a walk of its MIR. Every
-public function over the list has one of three bodies, and this program writes the walk of each from its signature:
+public function over the list has one of four bodies, and this program writes the walk of each from its signature:
 
     pub fn NAME(PARAMETERS, places: &mut [Place]) -> RESULT {       pub fn NAME(PARAMETERS, places: &[Place]) -> RESULT {
         let n = count(places.len());                                    let n = count(places.len());
@@ -11,17 +11,23 @@ public function over the list has one of three bodies, and this program writes t
         let r = CORE(PARAMETERS, &mut m, n);                            CORE(PARAMETERS, &mut m, n)
         save(&m, places, n);                                        }
         r
-    }                                                               pub fn NAME(PARAMETERS, places: &mut [Place]) -> RESULT {
-                                                                        let n = count(places.len());
-                                                                        let r = CORE(PARAMETERS, n);
-                                                                        clear(places, CLEARS(r));
-                                                                        r
-                                                                    }
+    }
+
+    pub fn NAME(PARAMETERS, places: &mut [Place]) -> RESULT {       pub fn NAME(PARAMETERS, places: &mut [Place]) -> RESULT {
+        let n = count(places.len());                                    let n = count(places.len());
+        let mut m = empty();                                            let r = CORE(PARAMETERS, n);
+        load(places, &mut m, n);                                        clear(places, CLEARS(r));
+        let r = CORE(PARAMETERS, &mut m, n);                            r
+        link_all(&m, places);                                       }
+        free_all(&m, places);
+        r
+    }
 
 PARAMETERS, in any order: numbers (u8 to u64, usize), structs and enums by value, `&[u8]`, `&[u16]`, `&mut [u8]`, `&mut [u16]`
-(rooms). RESULT is a struct or an enum. `count`, `empty`, `load`, `save` and `clear` are those of the crate places. CORE is a covered
-function with the same PARAMETERS, then `m: &mut Memory` (in the first two) and `n: usize`. What it requires, if anything, is what
-ASKS proves of every list: a lemma of the crate's proofs, (ps) → what CORE requires of M and k. NAME requires nothing.
+(rooms). RESULT is a struct or an enum. `count`, `empty`, `load`, `save`, `clear`, `link_all` and `free_all` are those of the crate
+places. CORE is a covered function with the same PARAMETERS, then `m: &mut Memory`, but for the last body, and `n: usize`. What it
+requires, if anything, is what ASKS proves of every list: a lemma of the crate's proofs, (ps) → what CORE requires of M and k. NAME
+requires nothing.
 
 What the two contracts say, with a for the parameters' values in order (`now (x .entry)` of a slice), M for `memoryOf ps`, k for
 `counted ps`, ps for `now (places .entry)`, and one equation for each room in order:
@@ -33,6 +39,8 @@ What the two contracts say, with a for the parameters' values in order (`now (x 
                    NAME   whatever LAW proves, a lemma of the crate's proofs:
                           (a) (ps) (r) (rooms′) (m′) (ps′) → PROMISE a M k r rooms′ m′ → ps′ ≡ saved k m′ ps → what NAME ensures
                           and without ps′ and its equation where the list is only read
+    by touching    the same promise, with ps′ ≡ freedAll m′ (linkedAll m′ ps) in LAW, and TOUCHES:
+                          (a) (ps) (r) (rooms′) (m′) → PROMISE a M k r rooms′ m′ → Linkable m′ (length ps) × Freeable m′ (length ps)
     by clearing    CORE   PROMISE a n r (now (room .exit))
                    CLEARS n ≡ CLEARED r, and FITS: (a) (ps) (r) (rooms′) → PROMISE a k r rooms′ → CLEARED r ≤ length ps
                    NAME   whatever LAW proves:
@@ -57,13 +65,13 @@ import os
 from pieces import chain, laid_out, sub, trimmed, tuple_of
 from signature import ROOT, Declared, Parameter, bare, function, memory_size, parsed
 from statements import asking, binding, closing, contracts, exits, frame, heading, types
-from stretches import beginning, clearing, loading, saving, stepping, walk
+from stretches import beginning, clearing, freeing, linking, loading, saving, stepping, walk
 
 
 class Bridge:
     """A public function over the list: its parameters, its locals, its core, and what the two contracts say."""
 
-    def __init__(self, crate, signature, core, answer, rooms, memory, promise, law, asks, clears, cleared, fits):
+    def __init__(self, crate, signature, core, answer, rooms, memory, promise, law, asks, clears, cleared, fits, touches):
         self.path, types, result = parsed(signature)
         self.crate, self.ident = crate, self.path[-1].replace('_', '-')
         if not types or types[-1] not in ('&mut [Place]', '&[Place]'):
@@ -80,11 +88,14 @@ class Bridge:
         self.lives, self.last = len(self.slices) + 1, len(self.slices)
         self.size, self.core = memory_size(), function(core, crate)
         self.clears, self.cleared, self.fits = function(clears, crate) if clears else None, cleared, fits
+        self.touches = touches
         self.promise, self.answer, self.outs, self.memory, self.law, self.asks = promise, answer, list(rooms), memory, law, asks
         if bool(promise) == bool(answer) or bool(promise) != bool(law) or bool(answer) != bool(memory):
             raise SystemExit(f'{signature}: either an answer, rooms and a memory, or a promise and a law')
         if bool(clears) != bool(cleared) or bool(clears) != bool(fits) or clears and not (law and self.saves):
             raise SystemExit(f'{signature}: what clears, how many and that they fit, over a list that is changed by a law')
+        if touches and (clears or not (law and self.saves)):
+            raise SystemExit(f'{signature}: what is touched is of a list that is changed by a law')
         if answer and len(self.outs) != len(self.rooms):
             raise SystemExit(f'{signature}: {len(self.rooms)} rooms, and definitions of {len(self.outs)}')
         self.number_locals()
@@ -102,11 +113,13 @@ class Bridge:
         if self.clears:
             names += ['unit', 'clear-ptr', 'clear-slice']
         else:
-            names += ['core-m'] + (['save-m', 'save-ptr', 'save-slice'] if self.saves else [])
+            names += ['core-m']
+            for call in ['link', 'free'] if self.touches else ['save'] if self.saves else []:
+                names += [f'{call}-m', f'{call}-ptr', f'{call}-slice']
         self.locals = {name: p + 1 + k for k, name in enumerate(names)}
         self.many = p + 1 + len(names)
         self.answered = self.locals['r'] if self.saves else 0
-        # the statements of the body where `load`'s, the core's and the last stretch, `save`'s or `clear`'s, begin
+        # the statements of the body where `load`'s, the core's and the stretch after it begin; `free_all`'s is four further
         self.at_load, self.at_core = 5, 3 if self.clears else 9 if self.saves else 7
         self.at_last = self.at_core + 2 * len(self.rooms) + (1 if self.clears else 2)
 
@@ -119,6 +132,8 @@ class Bridge:
         if self.clears:
             return [('places', ['count'], 'Count'), (*self.core, 'Core'), (*self.clears, 'Cleared'), ('places', ['clear'], 'Clear')]
         out = [('places', ['count'], 'Count'), ('places', ['empty'], 'Empty'), ('places', ['load'], 'Load'), (*self.core, 'Core')]
+        if self.touches:
+            return out + [('places', ['link_all'], 'Link'), ('places', ['free_all'], 'Free')]
         return out + ([('places', ['save'], 'Save')] if self.saves else [])
 
     def kappa(self, j):
@@ -197,14 +212,16 @@ class Bridge:
 
     def text(self):
         """The whole walk."""
-        body = [clearing, stepping] if self.clears else [saving] * self.saves + [stepping, loading]
+        after = [freeing, linking] if self.touches else [saving] if self.saves else []
+        body = [clearing, stepping] if self.clears else after + [stepping, loading]
         parts = [heading, types, contracts, binding, exits, asking, frame] + body + [beginning, walk, closing]
         return ''.join(part(self) for part in parts)
 
 
-def bridge(crate, signature, core, answer=None, rooms=(), memory=None, promise=None, law=None, asks=None, clears=None, cleared=None, fits=None):
-    """Writes the walk of one public function: by equations (answer, rooms, memory), or by a promise and its law, also by clearing."""
-    b = Bridge(crate, signature, core, answer, rooms, memory, promise, law, asks, clears, cleared, fits)
+def bridge(crate, signature, core, answer=None, rooms=(), memory=None, promise=None, law=None, asks=None, clears=None, cleared=None, fits=None,
+           touches=None):
+    """Writes the walk of one public function: by equations (answer, rooms, memory), or by a promise and its law, also by clearing or touching."""
+    b = Bridge(crate, signature, core, answer, rooms, memory, promise, law, asks, clears, cleared, fits, touches)
     folder = os.path.join(ROOT, 'crates', crate, 'proofs', *b.path)
     os.makedirs(folder, exist_ok=True)
     with open(os.path.join(folder, 'Proof.antt'), 'w', encoding='utf-8') as f:

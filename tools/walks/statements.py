@@ -10,7 +10,7 @@ def heading(b):
     way = 'the core answers, and\n-- as many records are cleared as that says' if b.clears else f'the records are read into a local array,\n-- {way}'
     out = [f'''-- `{'::'.join([user] + b.path)}` meets its contract, by a walk that tools/walks/bridge.py wrote: {way}. In each context what is owned stands first, then the locals from _0 on, then that each local dies.
 -- Assumes nothing.
-use mathlib.Core.Path.{{_≡_, refl, ap, _∙_}}
+use mathlib.Core.Path.{{_≡_, refl, sym, ap, _∙_, subst}}
 use Prim.Native.Nat.{{ℕ, zero, suc, _<_, _≤_, _^_}}
 use native.Mathlib.Omega.{{arith}}
 use mathlib.Core.List.{{List, [], _∷_}}
@@ -64,12 +64,14 @@ use Rattle.rules.proofs.Place.Laws as T′
         out.append(f'use {d.record}.{{{d.name}}}\nuse {d.proofs} as M{d.name}\nuse {d.proofs}.Laws as M{d.name}′\n')
     specs, proofs = library('places', user, 'specs'), library('places', user, 'proofs')
     out.append(f'use {specs}.Memory.{{countOf, loaded, saved, blank, counted, memoryOf}}\nuse {proofs}.Counting.{{count-within, count-fits}}\nuse {proofs}.Walking.{{tyAt}}\n')
-    if b.clears:
+    if b.touches:
+        out.append(f'use {specs}.Touched.{{Linkable, Freeable, linkedAll, freedAll}}\nuse {proofs}.Lent.{{LentShared, lends-shared, shared-back, LentList, lends-list, list-back}}\n')
+    elif b.clears:
         out.append(f'use {specs}.Records.{{clearedTo}}\n')
     elif b.saves:
         out.append(f'use {proofs}.Lent.{{LentShared, lends-shared, shared-back}}\n')
     out.append(brought([x for x in (b.promise, b.cleared) if x] if b.promise else [b.answer] + b.outs + [b.memory], user, 'specs'))
-    out.append(brought([x for x in (b.law, b.asks, b.fits) if x], user, 'proofs'))
+    out.append(brought([x for x in (b.law, b.asks, b.fits, b.touches) if x], user, 'proofs'))
     for crate, rest, short in b.callees():
         path, s = '.'.join([library(crate, user, 'proofs')] + rest), short.lower()
         out.append(f'use {path} as {s}′\nuse {path}.Symbol as {s}-def\nuse {path}.Symbol.{{name as #{s}}}\nuse {path}.Met as {s}-thm\n')
@@ -194,7 +196,7 @@ def exits(b):
     c.join('list', 'had', 'had', rule='fjoin')
     b.held(c, 'had')
     c.move('had', 'result')
-    memory, left = ('', f'clearedTo ({bare(b.cleared)} r) ps') if b.clears else (' (m′ : List ℕ)', 'saved n m′ ps')
+    memory, left = ('', f'clearedTo ({bare(b.cleared)} r) ps') if b.clears else (' (m′ : List ℕ)', 'freedAll m′ (linkedAll m′ ps)' if b.touches else 'saved n m′ ps')
     return f'''  exits : (r : {b.result.name}){binders}{memory}{' (ps′ : List Place)' if b.saves else ''} (u : Val) → {b.promised('r', ys.split(), 'm′')}{
             f' → ps′ ≡ {left}' if b.saves else ''}{lengths}{' → length ps′ ≡ length ps' if b.saves else ''}
       → ent 𝓤 (⋆ 𝓤 H A ({given})) (Post u)
@@ -279,7 +281,9 @@ def asking(b):
         {c.text}done !
 
 ''']
-    if b.saves:
+    if b.touches:
+        out.append(asking_touch(b))
+    elif b.saves:
         k, q = b.kappa(j), b.share(j)
         out.append(f'''    abbrev to-save : List ℕ → ℕ → GName → Save 𝓤 H A at-mem run .Ghost
     to-save m′ ν ε = (((ν ∷ [], ({k}, tt)), (fullShare, ({q}, tt)), tt, (ref ε m′, (rp γ, (n, tt))), (vptr c 0 ∷ [], (sp ∷ [], (vint w64 n ∷ [], tt)))), tt)
@@ -335,6 +339,39 @@ def asking_clear(b, kappas, shares, x, vs, given, core):
   goes-clear r l =
       qed W ({b.token(j)} ∷ ‵ Lent ∷ []) ∵ says ! l $ nothing ! $ move ! (1 ∷ 0 ∷ []) $ join ! $ frame ! $
       nothing ! $ owned ! usize (Is usize) (uint-makes 𝓤 H A W w64) ({many} r) _ (refl, few r l) $ fjoin ! $ move ! (1 ∷ 0 ∷ []) $ fjoin ! $ done !
+
+'''
+
+
+def asking_touch(b):
+    """What `link_all` asks, which is lent the list again for a lifetime ν′ of the call, and `free_all`, which is given it."""
+    j = b.last
+    k, q = b.kappa(j), b.share(j)
+    m = 'ShrRef (named 0) (ν ∷ []) N .own (ref ε m′) (vptr c 0 ∷ [])'
+    join = '''nothing ! $ move ! (2 ∷ 0 ∷ []) $ join ! $ move ! (1 ∷ 0 ∷ []) $ join ! $ frame ! $
+        nothing ! $ move ! (2 ∷ 0 ∷ []) $ fjoin ! $ move ! (1 ∷ 0 ∷ []) $ fjoin ! $ done !'''
+    lent = 'MutSlice (named 1) (ν′ ∷ []) R .own (rp δ) (sp ∷ [])'
+    left = f'MutSlice (named {j}) {k} R .own (at-list ps₁) (sp ∷ [])'
+    return f'''    abbrev to-link : List ℕ → ℕ → ℕ → GName → GName → Link 𝓤 H A at-mem run .Ghost
+    to-link m′ ν ν′ ε δ = (((ν ∷ [], (ν′ ∷ [], tt)), (fullShare, (fullShare, tt)), tt, (ref ε m′, (rp δ, tt)), (vptr c 0 ∷ [], (sp ∷ [], tt))), tt)
+
+    goes-link : (m′ : List ℕ) (ν ν′ : ℕ) (ε δ : GName) → Linkable m′ (length ps) → ent 𝓤 (sep 𝓤 (sep 𝓤 (A .lft (ν ∷ []) fullShare) (A .lft (ν′ ∷ []) fullShare)) (sep 𝓤 (sem 𝓤 H A ({m})) (sem 𝓤 H A ({lent}))))
+        (Link 𝓤 H A at-mem run .pre (to-link m′ ν ν′ ε δ))
+    goes-link m′ ν ν′ ε δ can =
+        qed W ((‵ (flft (ν ∷ []) fullShare) ⊛ ‵ (flft (ν′ ∷ []) fullShare)) ∷ ‵ ({m}) ∷ ‵ ({lent}) ∷ []) ∵
+        says ! can $ split ! $ {join}
+
+    abbrev at-list : List Place → RefT (List Place)
+    at-list ps₁ = record {{ ptr = (b, o); name = γ; now = ps₁ }}
+
+    abbrev to-free : List ℕ → List Place → ℕ → GName → Free 𝓤 H A at-mem run .Ghost
+    to-free m′ ps₁ ν ε = (((ν ∷ [], ({k}, tt)), (fullShare, ({q}, tt)), tt, (ref ε m′, (at-list ps₁, tt)), (vptr c 0 ∷ [], (sp ∷ [], tt))), tt)
+
+    goes-free : (m′ : List ℕ) (ps₁ : List Place) (ν : ℕ) (ε : GName) → Freeable m′ (length ps₁) → ent 𝓤 (sep 𝓤 (sep 𝓤 (A .lft (ν ∷ []) fullShare) (A .lft {k} {q})) (sep 𝓤 (sem 𝓤 H A ({m})) (sem 𝓤 H A ({left}))))
+        (Free 𝓤 H A at-mem run .pre (to-free m′ ps₁ ν ε))
+    goes-free m′ ps₁ ν ε can =
+        qed W ((‵ (flft (ν ∷ []) fullShare) ⊛ {b.token(j)}) ∷ ‵ ({m}) ∷ ‵ ({left}) ∷ []) ∵
+        says ! can $ split ! $ {join}
 
 '''
 

@@ -101,7 +101,8 @@ def returning(b, c, exit_):
         c.bind('pick ! (λ v.')
         c.split('cell', f'_{m}', 'm-owns')
         c.line()
-        filled += [m] + ([b.locals[x] for x in ('r', 'unit', 'save-m', 'save-ptr', 'save-slice')] if b.saves else [])
+        call = 'free' if b.touches else 'save'
+        filled += [m] + ([b.locals[x] for x in ('r', 'unit', f'{call}-m', f'{call}-ptr', f'{call}-slice')] if b.saves else [])
     if b.saves:
         c.step(f'assigns ! (of-opd ! {load_of(b, c, "r")}) {initial(b, c, 0, "wu")}')
         c.line()
@@ -166,6 +167,124 @@ def saving(b):
     saving : (r : {b.result.name}){binders} (m′ : List ℕ) (u : Val) → {b.promised('r', ys.split(), 'm′')}{lengths} → Holds (hasTy (ty {b.locals['r']}) u) × WT u → ent 𝓤 (⋆ 𝓤 H A (Ctx-save r {ys} m′ u)) (Wp 𝓤 H C Λ En pieces.t-{b.at_last} (atReturn 𝓤 H En Post))
     saving r {ys} m′ u e {ls} wu =
         qed W (Ctx-save r {ys} m′ u) ∵ exec ! C Λ En pieces.t-{b.at_last} (atRet En Post) $
+        ''' + c.text)
+
+
+def after_core(b, lent):
+    """The items and their names once the core has answered, with the list as it is then, and the filled locals."""
+    filled = passed(b)
+    filled[b.locals['n']], filled[b.locals['r']] = 'vint w64 n', 'u'
+    owned = ['‵ (Lies m′)'] + [b.token(i) for i in range(b.lives)] + [f'‵ ({b.result.row()} .own r (u ∷ []))']
+    owned += [f'‵ (finally {p.type} γ{p.s} ys{p.s})' for p in b.rooms] + [f'‵ ({p.own(b)})' for p in b.shared] + [f'‵ ({lent})']
+    names = ['lies'] + b.token_names() + ['result'] + [f's{p.i}' for p in b.rooms] + [f's{p.i}' for p in b.shared] + ['lent']
+    return owned, names, filled
+
+
+def lend_memory(b, c):
+    """The array is lent as a `&` for a lifetime ν of the call."""
+    lm = local(b.locals['m'])
+    c.bind('lft-new ! tt (λ ν.', 0, ['tν'])
+    c.move('lies')
+    c.step(f'use1 W (later (some (λ (ε : GName). ‵ (ShrRef (named 0) (ν ∷ []) N .own (ref {lm} ε m′) (vptr {lm} 0 ∷ [])) ⊛ ‵ (flent (ν ∷ []) (Lies m′))))) (lends-shr 𝓤 H A W N (named 0) (ν ∷ []) fullShare m′ {lm} 0)', 1, ['m'])
+    c.bind('await ! tt $ pick ! (λ ε.')
+    c.split('m', 'm', 'm-lent')
+    c.line()
+
+
+def touched(b, c, contract, args, kappas, x, tokens, fact, call):
+    """The call of `link_all` or `free_all`, as far as the list's last value and its length."""
+    s = contract.lower()
+    c.line()
+    c.bind(f'calls-at ! fm ({contract} 𝓤 H A at-mem run) k-{s} {args} {arguments(b, c, [f"{call}-m", f"{call}-slice"])} (λ w.')
+    unit_answer(b, c, 'z', f'ensured 𝓤 H A {s}′.ended ({s}′.clauses 𝓤 H A at-mem run) {kappas} {x}', tokens,
+                'Unit {0} × (List Place × Unit {0})', f'lasts {s}′.ended {kappas} {x}', fact)
+    c.bind(f'heard ! ({fact}) (λ ep.', 1)
+    c.split('lasts', 'none', 'lasts', rule='fsplit')
+    c.drop('none')
+    c.split('lasts', 'last', 'lasts', rule='fsplit')
+    c.split('last', 'list', 'long', rule='fsplit')
+    c.move('long')
+    c.bind('feqL ! (λ lp.', 1)
+    unit_lands(b, c)
+    c.split('tokens', 'tν', 'rest')
+    c.step('lft-end ! tt', 1, ['dead'])
+    c.move('dead', 'm-lent')
+    c.step('lent-back ! tt', 2, ['lies'])
+
+
+def linking(b):
+    """From `link_all` on: the list is lent again, and comes back."""
+    lm, j = local(b.locals['m']), b.last
+    k, q = b.kappa(j), b.share(j)
+    binders, ys, lengths, ls = b.ends()
+    owned, names, filled = after_core(b, 'Lent')
+    without = (b.locals['m'],)
+    c = Context(names + cell_names(b, without))
+    address(b, c, 'link-m')
+    reborrow(b, c, b.list, 'link-ptr', 'link-slice', 'gn .0')
+    lend_memory(b, c)
+    c.bind('lft-new ! tt (λ ν′.', 0, ['tν′'])
+    c.move('lent', 'tP')
+    c.step(f'use2 W (later (some (λ (δ : GName). ‵ (MutSlice (named 1) (ν′ ∷ []) R .own (rp δ) (sp ∷ [])) ⊛ ‵ (LentList R {k} (ν′ ∷ []) {q} γ b o δ ps)))) (lends-list R {k} (ν′ ∷ []) {q} γ b o 𝓤 H A W (named {j}) (named 1) ps)', 2, ['list'])
+    c.bind('await ! tt $ pick ! (λ δ.')
+    c.split('list', 'list', 'list-lent')
+    c.line()
+    c.move('tν', 'tν′', 'm', 'list')
+    c.step('join !', 2, ['tokens'])
+    a = ' '.join(p.plain() for p in b.params)
+    c.step(f'use3 W (raw (Link 𝓤 H A at-mem run .pre (to-link {lm} m′ ν ν′ ε δ))) (goes-link {lm} m′ ν ν′ ε δ ({bare(b.touches)} {a} ps r {ys} m′ e .0))', 3, ['asked'])
+    touched(b, c, 'Link', f'(to-link {lm} m′ ν ν′ ε δ)', '(ν ∷ [], (ν′ ∷ [], tt))', f'(ref {lm} ε m′, (rp δ, tt))', '(‵ (flft (ν ∷ []) fullShare) ⊛ (‵ (flft (ν′ ∷ []) fullShare) ⊛ ‵ ftrue))',
+            'zs .1 .0 ≡ linkedAll m′ ps', 'link')
+    c.line()
+    c.split('rest', 'tν′', 'true')
+    c.step('lft-end ! tt', 1, ['dead'])
+    c.move('dead', 'list-lent', 'list')
+    c.step(f'use3 W (later (‵ (MutSlice (named {j}) {k} R .own (at-list {lm} (zs .1 .0)) (sp ∷ [])) ⊛ {b.token(j)})) (list-back R {k} (ν′ ∷ []) {q} γ b o 𝓤 H A W (named {j}) (named 1) ps δ (zs .1 .0) lp gn)', 3, ['back'])
+    c.step('await ! tt')
+    c.split('back', 'lent', 'tP')
+    c.line()
+    forget(b, c, ['unit', 'link-m', 'link-ptr', 'link-slice'])
+    c.line()
+    c.keep(names + cell_names(b, without))
+    c.say(f'by ! (freeing r {ys} m′ (zs .1 .0) u e {ls} ep lp wu)')
+    return closed(f'''    -- `link_all`
+    abbrev Ctx-link : {b.result.name} →{' List ℕ →' * len(b.rooms)} List ℕ → Val → List (Item 𝓤)
+    Ctx-link r {ys} m′ u = {' ∷ '.join(owned + cells(b, filled, without))} ∷ Dies
+
+    linking : (r : {b.result.name}){binders} (m′ : List ℕ) (u : Val) → {b.promised('r', ys.split(), 'm′')}{lengths} → Holds (hasTy (ty {b.locals['r']}) u) × WT u → ent 𝓤 (⋆ 𝓤 H A (Ctx-link r {ys} m′ u)) (Wp 𝓤 H C Λ En pieces.t-{b.at_last} (atReturn 𝓤 H En Post))
+    linking r {ys} m′ u e {ls} wu =
+        qed W (Ctx-link r {ys} m′ u) ∵ exec ! C Λ En pieces.t-{b.at_last} (atRet En Post) $
+        ''' + c.text)
+
+
+def freeing(b):
+    """From `free_all` on."""
+    lm, j = local(b.locals['m']), b.last
+    k = b.kappa(j)
+    binders, ys, lengths, ls = b.ends()
+    owned, names, filled = after_core(b, f'MutSlice (named {j}) {k} R .own (at-list {lm} ps₁) (sp ∷ [])')
+    without = (b.locals['m'],)
+    c = Context(names + cell_names(b, without))
+    address(b, c, 'free-m')
+    reborrow(b, c, b.list, 'free-ptr', 'free-slice', 'gn .0')
+    lend_memory(b, c)
+    c.move('tν', 'tP', 'm', 'lent')
+    c.step('join !', 2, ['tokens'])
+    a = ' '.join(p.plain() for p in b.params)
+    can = f'(subst (λ (z : ℕ). Freeable m′ z) (sym l₁) ({bare(b.touches)} {a} ps r {ys} m′ e .1))'
+    c.step(f'use3 W (raw (Free 𝓤 H A at-mem run .pre (to-free {lm} m′ ps₁ ν ε))) (goes-free {lm} m′ ps₁ ν ε {can})', 3, ['asked'])
+    touched(b, c, 'Free', f'(to-free {lm} m′ ps₁ ν ε)', f'(ν ∷ [], ({k}, tt))', f'(ref {lm} ε m′, (at-list {lm} ps₁, tt))', f'(‵ (flft (ν ∷ []) fullShare) ⊛ ({b.token(j)} ⊛ ‵ ftrue))',
+            'zs .1 .0 ≡ freedAll m′ ps₁', 'free')
+    c.split('rest', 'tP', 'true')
+    c.move('lies')
+    returning(b, c, f'by ! (exits r {ys} m′ (zs .1 .0) u e (ep ∙ ap (freedAll m′) e₁) {ls} (lp ∙ l₁))')
+    return closed(f'''    -- `free_all`, and the return
+    abbrev Ctx-free : {b.result.name} →{' List ℕ →' * len(b.rooms)} List ℕ → List Place → Val → List (Item 𝓤)
+    Ctx-free r {ys} m′ ps₁ u = {' ∷ '.join(owned + cells(b, filled, without))} ∷ Dies
+
+    freeing : (r : {b.result.name}){binders} (m′ : List ℕ) (ps₁ : List Place) (u : Val) → {b.promised('r', ys.split(), 'm′')}{lengths} → ps₁ ≡ linkedAll m′ ps → length ps₁ ≡ length ps → Holds (hasTy (ty {b.locals['r']}) u) × WT u → ent 𝓤 (⋆ 𝓤 H A (Ctx-free r {ys} m′ ps₁ u)) (Wp 𝓤 H C Λ En pieces.t-{b.at_last + 4} (atReturn 𝓤 H En Post))
+    freeing r {ys} m′ ps₁ u e {ls} e₁ l₁ wu =
+        qed W (Ctx-free r {ys} m′ ps₁ u) ∵ exec ! C Λ En pieces.t-{b.at_last + 4} (atRet En Post) $
         ''' + c.text)
 
 
@@ -331,6 +450,10 @@ def stepping(b):
     if b.clears:
         c.keep(b.token_names() + ['result'] + [f's{p.i}' for p in b.rooms] + [f's{p.i}' for p in b.shared] + ['lent'] + cell_names(b))
         c.say(f'by ! (clearing r {ends} u e {ls} is wu)')
+    elif b.touches:
+        c.keep(['lies'] + b.token_names() + ['result'] + [f's{p.i}' for p in b.rooms] + [f's{p.i}' for p in b.shared] + ['lent']
+               + cell_names(b, without))
+        c.say(f'by ! (linking r {ends} {memory} u e {ls} wu)')
     elif b.saves:
         c.keep(['lies'] + b.token_names() + ['result'] + [f's{p.i}' for p in b.rooms] + [f's{p.i}' for p in b.shared] + ['lent']
                + cell_names(b, without))
