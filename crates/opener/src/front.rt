@@ -20,7 +20,7 @@ fn unmarked(flag: u8) -> usize
 
 // The places that are not marked go on the stack of free places, and their count is answered. A marked place is written over.
 pub(crate) fn free_rest(flags: &Flags, m: &mut [u16]) -> u16
-    requires { ⌜ length (now m) ≡ 5328 ⌝ }
+    requires { ⌜ 5320 ≤ length (now m) ⌝ }
     ensures { λ r. ⌜ Freed (now (flags .entry)) (now (m .entry)) r (now (m .exit)) ⌝ }
 {
     let mut free = 0;
@@ -35,7 +35,7 @@ pub(crate) fn free_rest(flags: &Flags, m: &mut [u16]) -> u16
 
 // The live loops are written as waiting ones, the oldest first; the current one, the last of them, does not count as waiting.
 pub(crate) fn wait_loops(b: Builder, m: &mut [u16])
-    requires { ⌜ (b .live ≤ 100) × (length (now m) ≡ 5328) ⌝ }
+    requires { ⌜ (b .live ≤ 100) × (5320 ≤ length (now m)) ⌝ }
     ensures { λ _. ⌜ Waited b (now (m .entry)) (b .live) (now (m .exit)) ⌝ }
 {
     let n = b.live as usize;

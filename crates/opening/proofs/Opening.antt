@@ -160,7 +160,7 @@ once-or-free (suc (suc o)) f e h = absurd (omega (arith, h))
 module _ (b : Builder) (xs m s : List ℕ) (k : ℕ) (m₁ m₂ : List ℕ) (ones : (p : ℕ) → p < maxPlaces → openOf m p ≤ 1)
     (fits : numbersFit b xs maxPlaces ≡ true) (marks : loopsMark b (records maxPlaces m) (replicate maxPlaces 0) (b .live) ≡ true)
     (flags : s ≡ allFlagged b (records maxPlaces m) (replicate maxPlaces 0) (b .live)) (freed : Freed s m k m₁) (waited : Waited b m₁ (b .live) m₂)
-    (long : length m ≡ 5328) where
+    (long : 5320 ≤ length m) where
   abbrev ps : List Place
   ps = records maxPlaces m
 
@@ -185,8 +185,8 @@ module _ (b : Builder) (xs m s : List ℕ) (k : ℕ) (m₁ m₂ : List ℕ) (one
   all-fit : AllFit ps (b .used) (replicate maxPlaces 0) (λ x. 0) is
   all-fit = marked-fit ps (b .used) (replicate maxPlaces 0) (λ x. 0) is no-flags (fit .places)
 
-  long₂ : length m₂ ≡ 5328
-  long₂ = waited .lengths ∙ freed .lengths ∙ long
+  long₂ : 5320 ≤ length m₂
+  long₂ = omega (arith, waited .lengths, freed .lengths, long)
 
   flag-at : (x : ℕ) → x < maxPlaces → getD s x 0 ≡ occurs x is + 0
   flag-at x l =
@@ -336,7 +336,7 @@ pub opens : (b : Builder) (xs : List ℕ) (n : ℕ) (m s : List ℕ) (k : ℕ) (
     → ((p : ℕ) → p < maxPlaces → openOf m p ≤ 1) → r ≡ numbersFit b xs n → r ≡ true
     → Marked (loopsMark b (records maxPlaces m) (replicate maxPlaces 0) (b .live))
     (allFlagged b (records maxPlaces m) (replicate maxPlaces 0) (b .live)) t s
-    → t ≡ true → Freed s m k m₁ → Waited b m₁ (b .live) m₂ → length m ≡ 5328 → f ≡ frontOf b k → Passes b xs n m f m₂
+    → t ≡ true → Freed s m k m₁ → Waited b m₁ (b .live) m₂ → 5320 ≤ length m → f ≡ frontOf b k → Passes b xs n m f m₂
 opens b xs n m s k m₁ m₂ f r t few ones e h g q freed waited long ef =
     let w = all-places b xs n few (sym e ∙ h) in
     subst (λ (z : Front). Passes b xs n m z m₂) (sym ef)

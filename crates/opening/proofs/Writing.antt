@@ -149,7 +149,7 @@ module _ (b : Builder) (m : List ℕ) (w : ℕ) (m′ : List ℕ) (f : Waited b 
   }
 
 -- there is room for a loop's second number
-pub second-inside : (b : Builder) (m : List ℕ) (w : ℕ) (m′ : List ℕ) → Waited b m w m′ → length m ≡ 5328 → w < 100 → (x : ℕ)
+pub second-inside : (b : Builder) (m : List ℕ) (w : ℕ) (m′ : List ℕ) → Waited b m w m′ → 5320 ≤ length m → w < 100 → (x : ℕ)
     → 5 * maxPlaces + 2 * w + 1 < length (set m′ (5 * maxPlaces + 2 * w) x)
 second-inside b m w m′ f l h x = lt-length-set m′ (5 * maxPlaces + 2 * w) x (omega (arith, f .lengths, l, h))
 

@@ -1,7 +1,7 @@
 -- A `&κ mut [T]` that is lent as a `&κ′ [T]` for a lifetime κ′ of a call, and comes back as it was; and one that is open, whose elements
--- are lent as a `&κ′ mut [T]`, and come back as they were left. It says nothing of the crate.
+-- are lent as a `&κ′ mut [T]`, and come back as they were left; and one that is lent again so as a whole. It says nothing of the crate.
 -- Assumes `Given`.
-use mathlib.Core.Path.{_≡_, refl, sym, subst}
+use mathlib.Core.Path.{_≡_, refl, sym, ap, subst}
 use Prim.Native.Nat.{ℕ}
 use mathlib.Core.List.{List, [], _∷_}
 use lib.ListN.{length}
@@ -74,3 +74,35 @@ module _ (R : RattleType) (κ′ : Lft) (b o : ℕ) {M : Type 1} (𝓤 : URA M) 
   row-back γ₁ n ys =
       qed W (‵ (fdead κ′) ∷ ‵ (flent κ′ (Held R n b o γ₁)) ∷ ‵ (finally R γ₁ ys) ∷ []) ∵ updating ! $ use3 W (later (‵ (Arr (mem R) n .lies ys b o))) (slice-back 𝓤 H A W R κ′ γ₁ ys n b o) $ await ! tt $
       fsplit ! $ drop ! $ use1 W (‵ (row R fullShare ys b o)) (whole-out 𝓤 H A W R ys b o) $ at-once ! $ done !
+
+-- ---- a `&κ mut [T]` that is lent again
+module _ (R : RattleType) (κ κ′ : Lft) (q : Share) (γ : GName) (b o : ℕ) where
+  abbrev whole-list : GName → List (R .Denot) → RefT (List (R .Denot))
+  whole-list δ ys = record { ptr = (b, o); name = δ; now = ys }
+
+  -- what the holder keeps meanwhile
+  abbrev pub LentList : GName → List (R .Denot) → Fml
+  LentList γ₁ ys = fsep (flent κ′ (Held R (length ys) b o γ₁)) (fsep (fobor κ q (Held R (length ys) b o γ)) (fsep (fobs γ (codedHoleys R .code (heres R ys))) (fauth γ (codedHoleys R .code (heres R ys)))))
+
+  module _ {M : Type 1} (𝓤 : URA M) (H : Heap 𝓤) (A : Atoms 𝓤) (W : Given 𝓤 H A) (ℓ ℓ′ : Lifetime) (ys : List (R .Denot)) where
+    abbrev list-vals : List Val
+    list-vals = sliceVal (b, o) (length ys) ∷ []
+
+    -- own (the `&κ mut [T]`) ∗ [κ]_q  ⊢ ⇛ ∃ γ₁. own (the `&κ′ mut [T]`, named γ₁) ∗ LentList
+    pub lends-list : ent 𝓤 (sep 𝓤 (sem 𝓤 H A (MutSlice ℓ κ R .own (whole-list γ ys) list-vals)) (A .lft κ q))
+        (H .⇛ (ex 𝓤 (λ (γ₁ : GName). sep 𝓤 (sem 𝓤 H A (MutSlice ℓ′ κ′ R .own (whole-list γ₁ ys) list-vals)) (sem 𝓤 H A (LentList γ₁ ys)))))
+    lends-list =
+        qed W (‵ (MutSlice ℓ κ R .own (whole-list γ ys) list-vals) ∷ ‵ (flft κ q) ∷ []) ∵ updating ! $ fsplit ! $ pureL ! (at-slice R (whole-list γ ys) list-vals) (λ p. fsplit ! $ opens-slice ! tt R ys b o $
+        use1 W (later (some (λ (γ₁ : GName). ‵ (MutSlice ℓ′ κ′ R .own (whole-list γ₁ ys) list-vals) ⊛ ‵ (flent κ′ (Held R (length ys) b o γ₁))))) (lends-row R κ′ b o 𝓤 H A W ℓ′ ys (length ys) refl (p .1)) $ await ! tt $ pick ! (λ γ₁. split ! $
+        -- [the slice lent; the lender's part at κ′; the open borrow at κ; obs γ; auth γ]
+        at-once ! $ show ! (λ (γ′ : GName). sep 𝓤 (sem 𝓤 H A (MutSlice ℓ′ κ′ R .own (whole-list γ′ ys) list-vals)) (sem 𝓤 H A (LentList γ′ ys))) γ₁ $ frame ! $
+        move ! (2 ∷ 3 ∷ []) $ fjoin ! $ move ! (2 ∷ 0 ∷ []) $ fjoin ! $ move ! (1 ∷ 0 ∷ []) $ fjoin ! $ done !))
+
+    -- [†κ′] ∗ LentList ∗ the last elements  ⊢ ⇛ (own (the `&κ mut [T]`) ∗ [κ]_q), at these
+    pub list-back : (γ₁ : GName) (zs : List (R .Denot)) → length zs ≡ length ys → Room R (length ys)
+        → ent 𝓤 (sep 𝓤 (A .dead κ′) (sep 𝓤 (sem 𝓤 H A (LentList γ₁ ys)) (sem 𝓤 H A (finally R γ₁ zs)))) (H .⇛ (sep 𝓤 (sem 𝓤 H A (MutSlice ℓ κ R .own (whole-list γ zs) list-vals)) (A .lft κ q)))
+    list-back γ₁ zs e room =
+        qed W (‵ (fdead κ′) ∷ ‵ (LentList γ₁ ys) ∷ ‵ (finally R γ₁ zs) ∷ []) ∵ updating ! $ move ! (1 ∷ []) $ fsplit ! $ move ! (2 ∷ 0 ∷ 3 ∷ []) $
+        use3 W (later (‵ (row R fullShare zs b o))) (row-back R κ′ b o 𝓤 H A W γ₁ (length ys) zs) $ await ! tt $
+        move ! (1 ∷ []) $ fsplit ! $ move ! (1 ∷ []) $ fsplit ! $ move ! (3 ∷ 2 ∷ 0 ∷ 1 ∷ []) $ closes-slice ! tt R ys zs e b o $ at-once ! $
+        fjoin ! $ pureI ! (at-slice R (whole-list γ zs) list-vals) (tt, (tt, tt)) (ap (λ (n : ℕ). sliceVal (b, o) n ∷ []) (sym e), subst (Room R) (sym e) room) $ fjoin ! $ done !

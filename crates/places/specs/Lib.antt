@@ -1,3 +1,4 @@
 pub mod Records
 pub mod Memory
 pub mod Noted
+pub mod Touched

@@ -8,13 +8,23 @@ ghost use lib.ListN.{length, getD, set};
 ghost use Rattle.rules.specs.Limits.{maxPlaces};
 ghost use Rattle.rules.specs.View.{placeAt};
 ghost use Rattle.places.specs.Records.{linkedAt, freedAt, clearedTo};
+ghost use Rattle.places.specs.Touched.{linkedCount, linkedPlace, freedStart, freedEnd, freedPlace, Linkable, Freeable, linkedAll, freedAll};
 ghost use Rattle.places.specs.Memory.{numberOf, isOne, storedAt, recordAt, loaded, saved, blank, countOf};
 
 // All loops together have at most so many places.
 pub const PLACES: usize = Builder::MAX_PLACES;
 
-// How many numbers the core's plain memory has: four for each of 1,024 records, then 1,224 that are the core's own, then eight notes.
+// How many numbers the core's plain memory has: four for each of 1,024 records, then 1,224 that are the core's own, of which the
+// first 1,024 are its stack of free places, and then eight in which an operation notes what it touched.
 pub const NUMBERS: usize = 5328;
+
+// Where the core's own numbers start, and where it notes how many records it linked, which they are, and from where to where the
+// stack holds those that it freed.
+const OWN: usize = 4096;
+
+const LINKED: usize = 5320;
+
+const FREED: usize = 5326;
 
 // The core's plain memory.
 pub type Memory = [u16; NUMBERS];
@@ -143,6 +153,77 @@ pub fn load(s: &[Place], m: &mut Memory, n: usize)
     while i < n {
         store_record(&mut *m, i, take(s, i));
         i += 1;
+    }
+}
+
+// A number of the memory as an index.
+fn wide(x: u16) -> usize
+    ensures { λ r. ⌜ r ≡ x ⌝ }
+{
+    x as usize
+}
+
+// How many records an operation linked.
+pub fn linked_count(m: &Memory) -> usize
+    ensures { λ r. ⌜ r ≡ linkedCount (now (m .entry)) ⌝ }
+{
+    wide(m[LINKED])
+}
+
+// The record that it linked as number k, from 0 on.
+pub fn linked_at(m: &Memory, k: usize) -> usize
+    requires { ⌜ k < 5 ⌝ }
+    ensures { λ r. ⌜ r ≡ linkedPlace (now (m .entry)) k ⌝ }
+{
+    wide(m[LINKED + 1 + k])
+}
+
+// Where the records that it freed start on the stack of free places, and where they end.
+pub fn freed_start(m: &Memory) -> usize
+    ensures { λ r. ⌜ r ≡ freedStart (now (m .entry)) ⌝ }
+{
+    wide(m[FREED])
+}
+
+pub fn freed_end(m: &Memory) -> usize
+    ensures { λ r. ⌜ r ≡ freedEnd (now (m .entry)) ⌝ }
+{
+    wide(m[FREED + 1])
+}
+
+// The record at k on that stack.
+pub fn freed_at(m: &Memory, k: usize) -> usize
+    requires { ⌜ k < maxPlaces ⌝ }
+    ensures { λ r. ⌜ r ≡ freedPlace (now (m .entry)) k ⌝ }
+{
+    wide(m[OWN + k])
+}
+
+// The records that an operation linked go into the list, out of the plain memory.
+pub fn link_all(m: &Memory, s: &mut [Place])
+    requires { ⌜ Linkable (now m) (length (now s)) ⌝ }
+    ensures { λ _. ⌜ now (s .exit) ≡ linkedAll (now (m .entry)) (now (s .entry)) ⌝ }
+{
+    let n = linked_count(m);
+    let mut k = 0;
+    while k < n {
+        let i = linked_at(m, k);
+        link(s, i, record_at(m, i));
+        k += 1;
+    }
+}
+
+// The records that an operation freed become zero, their edges not open.
+pub fn free_all(m: &Memory, s: &mut [Place])
+    requires { ⌜ Freeable (now m) (length (now s)) ⌝ }
+    ensures { λ _. ⌜ now (s .exit) ≡ freedAll (now (m .entry)) (now (s .entry)) ⌝ }
+{
+    let end = freed_end(m);
+    let mut k = freed_start(m);
+    while k < end {
+        let i = freed_at(m, k);
+        free(s, i);
+        k += 1;
     }
 }
 

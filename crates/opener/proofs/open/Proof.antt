@@ -1,11 +1,17 @@
 -- `opener::open` meets its contract: the tests in their order, and what is made of a state that passes.
 -- Assumes nothing.
 use borrow.Author.Needs.{needs}
-use mathlib.Core.Path.{_∙_}
+use Prim.Native.Nat.{ℕ, _≤_}
+use native.Mathlib.Omega.{arith}
+use mathlib.Core.Path.{_≡_, _∙_}
 use borrow.Author.Tests.{not-true, not-false}
 use Rattle.opening.proofs.Opening.{fails-first, fails-second, live-few, opens}
 use Rattle.opener.proofs.open.Statement.{statement}
 use Rattle.opener.proofs.open.Tie as tie
+
+-- the memory has the numbers that are asked for
+enough : (n : ℕ) → n ≡ 5328 → 5320 ≤ n
+enough n e = omega (arith, e)
 
 numbers-fit-requires : tie.Need-numbers-fit-requires
 numbers-fit-requires c κs = search needs
@@ -42,7 +48,7 @@ wait-loops-requires c κs =
     let start = after-numbers-fit .before .before in
     let a = start .args in
     let few = live-few (a .b) (a .triangles .now) (a .n) _ (after-numbers-fit .numbers-fit .ensures) (not-false _ (left1 .if1 .left)) in
-    (few, after-free-rest .free-rest .ensures .lengths ∙ after-free-rest-arg .free-rest-arg .given .0 .1)
+    (few, enough _ (after-free-rest .free-rest .ensures .lengths ∙ after-free-rest-arg .free-rest-arg .given .0 .1))
 
 front-of-requires : tie.Need-front-of-requires
 front-of-requires c κs =
@@ -66,7 +72,7 @@ returns-3 c =
     opens (a .b) (a .triangles .now) (a .n) (a .m .now) _ _ _ _ _ _ _ (start .pre .0) (start .pre .1)
     (after-numbers-fit .numbers-fit .ensures) (not-false _ (left1 .if1 .left)) (after-mark-loops .mark-loops .ensures)
     (not-false _ (left2 .if2 .left)) (after-free-rest .free-rest .ensures) (after-wait-loops .wait-loops .ensures)
-    (after-free-rest-arg .free-rest-arg .given .0 .1) (c .front-of .ensures)
+    (enough _ (after-free-rest-arg .free-rest-arg .given .0 .1)) (c .front-of .ensures)
 
 pub open-spec : {M : Type 1} → statement M
 open-spec =
