@@ -24,27 +24,27 @@ public function over the list has one of four bodies, and this program writes th
     }
 
 PARAMETERS, in any order: numbers (u8 to u64, usize), structs and enums by value, `&[u8]`, `&[u16]`, `&mut [u8]`, `&mut [u16]`
-(rooms). RESULT is a struct or an enum. `count`, `empty`, `load`, `save`, `clear`, `link_all` and `free_all` are those of the crate
+(buffers). RESULT is a struct or an enum. `count`, `empty`, `load`, `save`, `clear`, `link_all` and `free_all` are those of the crate
 places. CORE is a covered function with the same PARAMETERS, then `m: &mut Memory`, but for the last body, and `n: usize`. What it
 requires, if anything, is what ASKS proves of every list: a lemma of the crate's proofs, (ps) → what CORE requires of M and k. NAME
 requires nothing.
 
 What the two contracts say, with a for the parameters' values in order (`now (x .entry)` of a slice), M for `memoryOf ps`, k for
-`counted ps`, ps for `now (places .entry)`, and one equation for each room in order:
+`counted ps`, ps for `now (places .entry)`, and one equation for each buffer in order:
 
-    by equations   CORE   (r ≡ ANSWER a m n) × ((now (room .exit) ≡ ROOM a m n) × (now (m .exit) ≡ MEMORY a m n))
-                   NAME   (r ≡ ANSWER a M k) × ((now (room .exit) ≡ ROOM a M k) × (now (places .exit) ≡ saved k (MEMORY a M k) ps))
+    by equations   CORE   (r ≡ ANSWER a m n) × ((now (buffer .exit) ≡ BUFFER a m n) × (now (m .exit) ≡ MEMORY a m n))
+                   NAME   (r ≡ ANSWER a M k) × ((now (buffer .exit) ≡ BUFFER a M k) × (now (places .exit) ≡ saved k (MEMORY a M k) ps))
                           and without the last equation where the list is only read
-    by a promise   CORE   PROMISE a m n r (now (room .exit)) (now (m .exit))
+    by a promise   CORE   PROMISE a m n r (now (buffer .exit)) (now (m .exit))
                    NAME   whatever LAW proves, a lemma of the crate's proofs:
-                          (a) (ps) (r) (rooms′) (m′) (ps′) → PROMISE a M k r rooms′ m′ → ps′ ≡ saved k m′ ps → what NAME ensures
+                          (a) (ps) (r) (buffers′) (m′) (ps′) → PROMISE a M k r buffers′ m′ → ps′ ≡ saved k m′ ps → what NAME ensures
                           and without ps′ and its equation where the list is only read
     by touching    the same promise, with ps′ ≡ freedAll m′ (linkedAll m′ ps) in LAW, and TOUCHES:
-                          (a) (ps) (r) (rooms′) (m′) → PROMISE a M k r rooms′ m′ → Linkable m′ (length ps) × Freeable m′ (length ps)
-    by clearing    CORE   PROMISE a n r (now (room .exit))
-                   CLEARS n ≡ CLEARED r, and FITS: (a) (ps) (r) (rooms′) → PROMISE a k r rooms′ → CLEARED r ≤ length ps
+                          (a) (ps) (r) (buffers′) (m′) → PROMISE a M k r buffers′ m′ → Linkable m′ (length ps) × Freeable m′ (length ps)
+    by clearing    CORE   PROMISE a n r (now (buffer .exit))
+                   CLEARS n ≡ CLEARED r, and FITS: (a) (ps) (r) (buffers′) → PROMISE a k r buffers′ → CLEARED r ≤ length ps
                    NAME   whatever LAW proves:
-                          (a) (ps) (r) (rooms′) → PROMISE a k r rooms′ → (ps′) → ps′ ≡ clearedTo (CLEARED r) ps → what NAME ensures
+                          (a) (ps) (r) (buffers′) → PROMISE a k r buffers′ → (ps′) → ps′ ≡ clearedTo (CLEARED r) ps → what NAME ensures
 
 A definition is named `Module.name`, of the crate's specs (a law: of its proofs), or `crate::Module.name`; a core `name` or
 `crate::name`; the core and NAME have `module::` in front where they stand in a module. The declared types are found in the sources.
@@ -54,7 +54,7 @@ Use: a script beside this file with one call of `bridge` for each public functio
     from bridge import bridge
 
     bridge('build', 'operation(state: Builder, op: Operation, triangles: &mut [u16], places: &mut [Place]) -> Stepped',
-           core='operation_on', answer='Core.steppedAnswer', rooms=['Core.steppedTriangles'], memory='Core.steppedMemory')
+           core='operation_on', answer='Core.steppedAnswer', buffers=['Core.steppedTriangles'], memory='Core.steppedMemory')
     bridge('build', 'unpack(pack: &[u8], triangles: &mut [u16], places: &mut [Place]) -> Unpacked',
            core='unpack_on', promise='Core.Promised', law='Unpacking.unpacks', clears='cleared', cleared='Core.clearedBy', fits='Unpacking.fits')
 
@@ -71,7 +71,7 @@ from stretches import beginning, clearing, freeing, linking, loading, saving, st
 class Bridge:
     """A public function over the list: its parameters, its locals, its core, and what the two contracts say."""
 
-    def __init__(self, crate, signature, core, answer, rooms, memory, promise, law, asks, clears, cleared, fits, touches):
+    def __init__(self, crate, signature, core, answer, buffers, memory, promise, law, asks, clears, cleared, fits, touches):
         self.path, types, result = parsed(signature)
         self.crate, self.ident = crate, self.path[-1].replace('_', '-')
         if not types or types[-1] not in ('&mut [Place]', '&[Place]'):
@@ -80,7 +80,7 @@ class Bridge:
         self.params = [Parameter(i + 1, t, crate) for i, t in enumerate(types[:-1])]
         self.result = Declared(result, crate)
         self.slices = [p for p in self.params if p.slice]
-        self.rooms = [p for p in self.params if p.kind == 'room']
+        self.buffers = [p for p in self.params if p.kind == 'buffer']
         self.shared = [p for p in self.params if p.kind == 'shared']
         # the declared types, each once
         self.values = list({v.name: v for v in [p.type for p in self.params if p.kind == 'value'] + [self.result]}.values())
@@ -89,15 +89,15 @@ class Bridge:
         self.size, self.core = memory_size(), function(core, crate)
         self.clears, self.cleared, self.fits = function(clears, crate) if clears else None, cleared, fits
         self.touches = touches
-        self.promise, self.answer, self.outs, self.memory, self.law, self.asks = promise, answer, list(rooms), memory, law, asks
+        self.promise, self.answer, self.outs, self.memory, self.law, self.asks = promise, answer, list(buffers), memory, law, asks
         if bool(promise) == bool(answer) or bool(promise) != bool(law) or bool(answer) != bool(memory):
-            raise SystemExit(f'{signature}: either an answer, rooms and a memory, or a promise and a law')
+            raise SystemExit(f'{signature}: either an answer, buffers and a memory, or a promise and a law')
         if bool(clears) != bool(cleared) or bool(clears) != bool(fits) or clears and not (law and self.saves):
             raise SystemExit(f'{signature}: what clears, how many and that they fit, over a list that is changed by a law')
         if touches and (clears or not (law and self.saves)):
             raise SystemExit(f'{signature}: what is touched is of a list that is changed by a law')
-        if answer and len(self.outs) != len(self.rooms):
-            raise SystemExit(f'{signature}: {len(self.rooms)} rooms, and definitions of {len(self.outs)}')
+        if answer and len(self.outs) != len(self.buffers):
+            raise SystemExit(f'{signature}: {len(self.buffers)} buffers, and definitions of {len(self.outs)}')
         self.number_locals()
 
     def number_locals(self):
@@ -108,7 +108,7 @@ class Bridge:
         names += (['r'] if self.saves else []) + ['len']
         if not self.clears:
             names += ['blank', 'unit'] + (['load-ptr', 'load-slice'] if self.saves else []) + ['load-m']
-        for q in self.rooms:
+        for q in self.buffers:
             names += [f'ptr{q.i}', f'slice{q.i}']
         if self.clears:
             names += ['unit', 'clear-ptr', 'clear-slice']
@@ -121,7 +121,7 @@ class Bridge:
         self.answered = self.locals['r'] if self.saves else 0
         # the statements of the body where `load`'s, the core's and the stretch after it begin; `free_all`'s is four further
         self.at_load, self.at_core = 5, 3 if self.clears else 9 if self.saves else 7
-        self.at_last = self.at_core + 2 * len(self.rooms) + (1 if self.clears else 2)
+        self.at_last = self.at_core + 2 * len(self.buffers) + (1 if self.clears else 2)
 
     def life(self, p):
         """The number of a slice's lifetime."""
@@ -157,13 +157,13 @@ class Bridge:
         return [f't{j}' for j in range(self.last)] + ['tP']
 
     def ends(self):
-        """The rooms' last values, bound; their names; and the names of the facts that they keep their lengths."""
-        binders = ''.join(f' (ys{p.s} : List ℕ)' for p in self.rooms)
-        lengths = ''.join(f' → length ys{p.s} ≡ length xs{p.s}' for p in self.rooms)
-        return binders, ' '.join(f'ys{p.s}' for p in self.rooms), lengths, ' '.join(f'l′{p.s}' for p in self.rooms)
+        """The buffers' last values, bound; their names; and the names of the facts that they keep their lengths."""
+        binders = ''.join(f' (ys{p.s} : List ℕ)' for p in self.buffers)
+        lengths = ''.join(f' → length ys{p.s} ≡ length xs{p.s}' for p in self.buffers)
+        return binders, ' '.join(f'ys{p.s}' for p in self.buffers), lengths, ' '.join(f'l′{p.s}' for p in self.buffers)
 
     def promised(self, r, ys, m):
-        """What the core promises of an answer, last rooms and a last memory."""
+        """What the core promises of an answer, last buffers and a last memory."""
         a = ' '.join(p.plain() for p in self.params)
         if self.clears:
             return ' '.join([bare(self.promise), a, 'n', r] + ys)
@@ -175,14 +175,14 @@ class Bridge:
     def said(self):
         """What the public function ensures, out of what the core promised (e) and, where it saves, the list's last value (ep)."""
         if self.clears:
-            names = [p.plain() for p in self.params] + ['ps', 'r'] + [f'ys{p.s}' for p in self.rooms] + ['e', 'ps′', 'ep']
+            names = [p.plain() for p in self.params] + ['ps', 'r'] + [f'ys{p.s}' for p in self.buffers] + ['e', 'ps′', 'ep']
             return f'({bare(self.law)} {" ".join(names)})'
         if self.promise:
-            names = [p.plain() for p in self.params] + ['ps', 'r'] + [f'ys{p.s}' for p in self.rooms] + ['m′']
+            names = [p.plain() for p in self.params] + ['ps', 'r'] + [f'ys{p.s}' for p in self.buffers] + ['m′']
             return f'({bare(self.law)} {" ".join(names + (["ps′", "e", "ep"] if self.saves else ["e"]))})'
-        parts = ['e' + ' .1' * j + ' .0' for j in range(len(self.rooms) + 1)]
+        parts = ['e' + ' .1' * j + ' .0' for j in range(len(self.buffers) + 1)]
         if self.saves:
-            parts.append(f'ep ∙ ap (λ (z : List ℕ). saved n z ps) (e{" .1" * (len(self.rooms) + 1)})')
+            parts.append(f'ep ∙ ap (λ (z : List ℕ). saved n z ps) (e{" .1" * (len(self.buffers) + 1)})')
         out = parts[-1]
         for x in reversed(parts[:-1]):
             out = f'({x}, {out})'
@@ -218,10 +218,10 @@ class Bridge:
         return ''.join(part(self) for part in parts)
 
 
-def bridge(crate, signature, core, answer=None, rooms=(), memory=None, promise=None, law=None, asks=None, clears=None, cleared=None, fits=None,
+def bridge(crate, signature, core, answer=None, buffers=(), memory=None, promise=None, law=None, asks=None, clears=None, cleared=None, fits=None,
            touches=None):
-    """Writes the walk of one public function: by equations (answer, rooms, memory), or by a promise and its law, also by clearing or touching."""
-    b = Bridge(crate, signature, core, answer, rooms, memory, promise, law, asks, clears, cleared, fits, touches)
+    """Writes the walk of one public function: by equations (answer, buffers, memory), or by a promise and its law, also by clearing or touching."""
+    b = Bridge(crate, signature, core, answer, buffers, memory, promise, law, asks, clears, cleared, fits, touches)
     folder = os.path.join(ROOT, 'crates', crate, 'proofs', *b.path)
     os.makedirs(folder, exist_ok=True)
     with open(os.path.join(folder, 'Proof.antt'), 'w', encoding='utf-8') as f:

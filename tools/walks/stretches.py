@@ -4,7 +4,7 @@ from signature import bare
 
 
 def cells(b, filled, without=()):
-    """The locals' cells: what each filled one holds, and room in the others."""
+    """The locals' cells: what each filled one holds, and buffer in the others."""
     out = []
     for i in range(b.many):
         if i in without:
@@ -65,7 +65,7 @@ def address(b, c, to):
 
 
 def forget(b, c, names):
-    """Filled locals become room again."""
+    """Filled locals become buffer again."""
     for name in names:
         c.step(f'forget ! {c.at(f"_{b.at(name)}")} refl')
 
@@ -126,8 +126,8 @@ def saving(b):
     filled = passed(b)
     filled[b.locals['n']], filled[b.locals['r']] = 'vint w64 n', 'u'
     owned = ['‵ (Lies m′)'] + [b.token(i) for i in range(b.lives)] + [f'‵ ({b.result.row()} .own r (u ∷ []))']
-    owned += [f'‵ (finally {p.type} γ{p.s} ys{p.s})' for p in b.rooms] + [f'‵ ({p.own(b)})' for p in b.shared] + ['‵ Lent']
-    names = ['lies'] + b.token_names() + ['result'] + [f's{p.i}' for p in b.rooms] + [f's{p.i}' for p in b.shared] + ['lent']
+    owned += [f'‵ (finally {p.type} γ{p.s} ys{p.s})' for p in b.buffers] + [f'‵ ({p.own(b)})' for p in b.shared] + ['‵ Lent']
+    names = ['lies'] + b.token_names() + ['result'] + [f's{p.i}' for p in b.buffers] + [f's{p.i}' for p in b.shared] + ['lent']
     without = (b.locals['m'],)
     c = Context(names + cell_names(b, without))
     address(b, c, 'save-m')
@@ -161,7 +161,7 @@ def saving(b):
     c.step('lent-back ! tt', 2, ['lies'])
     returning(b, c, f'by ! (exits r {ys} m′ (zs .1 .0) u e ep {ls} lp)')
     return closed(f'''    -- `save`, and the return
-    abbrev Ctx-save : {b.result.name} →{' List ℕ →' * len(b.rooms)} List ℕ → Val → List (Item 𝓤)
+    abbrev Ctx-save : {b.result.name} →{' List ℕ →' * len(b.buffers)} List ℕ → Val → List (Item 𝓤)
     Ctx-save r {ys} m′ u = {' ∷ '.join(owned + cells(b, filled, without))} ∷ Dies
 
     saving : (r : {b.result.name}){binders} (m′ : List ℕ) (u : Val) → {b.promised('r', ys.split(), 'm′')}{lengths} → Holds (hasTy (ty {b.locals['r']}) u) × WT u → ent 𝓤 (⋆ 𝓤 H A (Ctx-save r {ys} m′ u)) (Wp 𝓤 H C Λ En pieces.t-{b.at_last} (atReturn 𝓤 H En Post))
@@ -175,8 +175,8 @@ def after_core(b, lent):
     filled = passed(b)
     filled[b.locals['n']], filled[b.locals['r']] = 'vint w64 n', 'u'
     owned = ['‵ (Lies m′)'] + [b.token(i) for i in range(b.lives)] + [f'‵ ({b.result.row()} .own r (u ∷ []))']
-    owned += [f'‵ (finally {p.type} γ{p.s} ys{p.s})' for p in b.rooms] + [f'‵ ({p.own(b)})' for p in b.shared] + [f'‵ ({lent})']
-    names = ['lies'] + b.token_names() + ['result'] + [f's{p.i}' for p in b.rooms] + [f's{p.i}' for p in b.shared] + ['lent']
+    owned += [f'‵ (finally {p.type} γ{p.s} ys{p.s})' for p in b.buffers] + [f'‵ ({p.own(b)})' for p in b.shared] + [f'‵ ({lent})']
+    names = ['lies'] + b.token_names() + ['result'] + [f's{p.i}' for p in b.buffers] + [f's{p.i}' for p in b.shared] + ['lent']
     return owned, names, filled
 
 
@@ -248,7 +248,7 @@ def linking(b):
     c.keep(names + cell_names(b, without))
     c.say(f'by ! (freeing r {ys} m′ (zs .1 .0) u e {ls} ep lp wu)')
     return closed(f'''    -- `link_all`
-    abbrev Ctx-link : {b.result.name} →{' List ℕ →' * len(b.rooms)} List ℕ → Val → List (Item 𝓤)
+    abbrev Ctx-link : {b.result.name} →{' List ℕ →' * len(b.buffers)} List ℕ → Val → List (Item 𝓤)
     Ctx-link r {ys} m′ u = {' ∷ '.join(owned + cells(b, filled, without))} ∷ Dies
 
     linking : (r : {b.result.name}){binders} (m′ : List ℕ) (u : Val) → {b.promised('r', ys.split(), 'm′')}{lengths} → Holds (hasTy (ty {b.locals['r']}) u) × WT u → ent 𝓤 (⋆ 𝓤 H A (Ctx-link r {ys} m′ u)) (Wp 𝓤 H C Λ En pieces.t-{b.at_last} (atReturn 𝓤 H En Post))
@@ -279,7 +279,7 @@ def freeing(b):
     c.move('lies')
     returning(b, c, f'by ! (exits r {ys} m′ (zs .1 .0) u e (ep ∙ ap (freedAll m′) e₁) {ls} (lp ∙ l₁))')
     return closed(f'''    -- `free_all`, and the return
-    abbrev Ctx-free : {b.result.name} →{' List ℕ →' * len(b.rooms)} List ℕ → List Place → Val → List (Item 𝓤)
+    abbrev Ctx-free : {b.result.name} →{' List ℕ →' * len(b.buffers)} List ℕ → List Place → Val → List (Item 𝓤)
     Ctx-free r {ys} m′ ps₁ u = {' ∷ '.join(owned + cells(b, filled, without))} ∷ Dies
 
     freeing : (r : {b.result.name}){binders} (m′ : List ℕ) (ps₁ : List Place) (u : Val) → {b.promised('r', ys.split(), 'm′')}{lengths} → ps₁ ≡ linkedAll m′ ps → length ps₁ ≡ length ps → Holds (hasTy (ty {b.locals['r']}) u) × WT u → ent 𝓤 (⋆ 𝓤 H A (Ctx-free r {ys} m′ ps₁ u)) (Wp 𝓤 H C Λ En pieces.t-{b.at_last + 4} (atReturn 𝓤 H En Post))
@@ -319,8 +319,8 @@ def clearing(b):
     filled = passed(b)
     filled[b.locals['n']], filled[b.locals['r']] = 'vint w64 n', 'u'
     owned = [b.token(i) for i in range(b.lives)] + [f'‵ ({d.row()} .own r (u ∷ []))']
-    owned += [f'‵ (finally {p.type} γ{p.s} ys{p.s})' for p in b.rooms] + [f'‵ ({p.own(b)})' for p in b.shared] + ['‵ Lent']
-    names = b.token_names() + ['result'] + [f's{p.i}' for p in b.rooms] + [f's{p.i}' for p in b.shared] + ['lent']
+    owned += [f'‵ (finally {p.type} γ{p.s} ys{p.s})' for p in b.buffers] + [f'‵ ({p.own(b)})' for p in b.shared] + ['‵ Lent']
+    names = b.token_names() + ['result'] + [f's{p.i}' for p in b.buffers] + [f's{p.i}' for p in b.shared] + ['lent']
     c = Context(names + cell_names(b))
     reborrow(b, c, b.list, 'clear-ptr', 'clear-slice', 'gn .0')
     c.step('nothing !', 0, ['true'])
@@ -345,7 +345,7 @@ def clearing(b):
     c.split('tokens', 'tP', 'true')
     returning(b, c, f'by ! (exits r {ys} (zs .0) u e ep {ls} lp)')
     return closed(f'''    -- `clear`, and the return
-    abbrev Ctx-clear : {d.name} →{' List ℕ →' * len(b.rooms)} Val → List (Item 𝓤)
+    abbrev Ctx-clear : {d.name} →{' List ℕ →' * len(b.buffers)} Val → List (Item 𝓤)
     Ctx-clear r {ys} u = {' ∷ '.join(owned + cells(b, filled))} ∷ Dies
 
     clearing : (r : {d.name}){binders} (u : Val) → {b.promised('r', ys.split(), '')}{lengths} → Is {d.row()} r (u ∷ []) → Holds (hasTy (ty {b.locals['r']}) u) × WT u → ent 𝓤 (⋆ 𝓤 H A (Ctx-clear r {ys} u)) (Wp 𝓤 H C Λ En pieces.t-{b.at_last} (atReturn 𝓤 H En Post))
@@ -376,7 +376,7 @@ def stepping(b):
     to = f'(to-core {lm} μ ε)' if array else 'to-core'
     goes = f'(goes-core {lm} μ ε)' if array else 'goes-core'
     c = Context(names + cell_names(b, without))
-    for p in b.rooms:
+    for p in b.buffers:
         reborrow(b, c, p.i, f'ptr{p.i}', f'slice{p.i}', f'g{p.s} .0')
     if array:
         address(b, c, 'core-m')
@@ -393,19 +393,19 @@ def stepping(b):
         whole = 'asked'
     c.step(f'use1 W (raw (Core 𝓤 H A at-mem run .pre {to})) {goes}', 1, ['asked'])
     c.line()
-    given = [f'slice{p.i}' if p.kind == 'room' else p.i for p in b.params] + ['core-m'] * array + ['n']
+    given = [f'slice{p.i}' if p.kind == 'buffer' else p.i for p in b.params] + ['core-m'] * array + ['n']
     c.bind(f'calls-at ! fm (Core 𝓤 H A at-mem run) k-core {to} {arguments(b, c, given)} (λ u.')
     c.line()
     tokens = chain([b.token(i) for i in range(j)] + ['‵ (flft (μ ∷ []) fullShare)'] * array + ['‵ ftrue'], '⊛')
     c.step(f'use1 W (later (some (λ (r : {d.name}). (({tokens}) ⊛ ‵ ({d.row()} .own r (u ∷ []))) ⊛ raw (ensured 𝓤 H A core′.ended (core′.clauses 𝓤 H A at-mem run) {kappas} {x} tt r)))) (id⊢ 𝓤 _)', 1, ['got'])
     c.bind('await ! tt $ pick ! (λ r.')
     c.line()
-    # the last values of the rooms and of the memory, and what is promised of them
-    ends = ['List ℕ' if p.kind == 'room' else 'Unit {0}' for p in b.params] + ['List ℕ'] * array + ['Unit {0}', 'Unit {0}']
+    # the last values of the buffers and of the memory, and what is promised of them
+    ends = ['List ℕ' if p.kind == 'buffer' else 'Unit {0}' for p in b.params] + ['List ℕ'] * array + ['Unit {0}', 'Unit {0}']
     def end(i):
         return '(zs' + ' .1' * (i - 1) + ' .0)'
     memory = end(b.list)
-    promised = b.promised('r', [end(p.i) for p in b.rooms], memory)
+    promised = b.promised('r', [end(p.i) for p in b.buffers], memory)
     c.split('got', 'answer', 'ensured')
     c.move('ensured')
     c.step(f'use1 W (some (λ (zs : {chain(ends, "×")}). ‵ (lasts core′.ended {kappas} {x} zs) ⊛ raw (fact 𝓤 ({promised})))) (id⊢ 𝓤 _)', 1, ['both'])
@@ -415,7 +415,7 @@ def stepping(b):
     c.move('fact')
     c.bind(f'heard ! ({promised}) (λ e.', 1)
     for p in b.params:
-        if p.kind == 'room':
+        if p.kind == 'buffer':
             c.split('lasts', 'last', 'lasts', rule='fsplit')
             c.split('last', f's{p.i}', 'long', rule='fsplit')
             c.move('long')
@@ -443,19 +443,19 @@ def stepping(b):
         c.step(f'use3 W (later (‵ (Lies {memory}))) (ref-back 𝓤 H A W N (μ ∷ []) ε {memory} {lm} 0)', 3, ['lies'])
         c.step('await ! tt')
         c.line()
-    forget(b, c, [x for p in b.rooms for x in (f'ptr{p.i}', f'slice{p.i}')] + ['core-m'] * array)
+    forget(b, c, [x for p in b.buffers for x in (f'ptr{p.i}', f'slice{p.i}')] + ['core-m'] * array)
     c.line()
     binders, ys, _, ls = b.ends()
-    ends = ' '.join(end(p.i) for p in b.rooms)
+    ends = ' '.join(end(p.i) for p in b.buffers)
     if b.clears:
-        c.keep(b.token_names() + ['result'] + [f's{p.i}' for p in b.rooms] + [f's{p.i}' for p in b.shared] + ['lent'] + cell_names(b))
+        c.keep(b.token_names() + ['result'] + [f's{p.i}' for p in b.buffers] + [f's{p.i}' for p in b.shared] + ['lent'] + cell_names(b))
         c.say(f'by ! (clearing r {ends} u e {ls} is wu)')
     elif b.touches:
-        c.keep(['lies'] + b.token_names() + ['result'] + [f's{p.i}' for p in b.rooms] + [f's{p.i}' for p in b.shared] + ['lent']
+        c.keep(['lies'] + b.token_names() + ['result'] + [f's{p.i}' for p in b.buffers] + [f's{p.i}' for p in b.shared] + ['lent']
                + cell_names(b, without))
         c.say(f'by ! (linking r {ends} {memory} u e {ls} wu)')
     elif b.saves:
-        c.keep(['lies'] + b.token_names() + ['result'] + [f's{p.i}' for p in b.rooms] + [f's{p.i}' for p in b.shared] + ['lent']
+        c.keep(['lies'] + b.token_names() + ['result'] + [f's{p.i}' for p in b.buffers] + [f's{p.i}' for p in b.shared] + ['lent']
                + cell_names(b, without))
         c.say(f'by ! (saving r {ends} {memory} u e {ls} wu)')
     else:

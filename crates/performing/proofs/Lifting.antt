@@ -1,14 +1,14 @@
 -- From the core's promise over the plain memory to the lent list, to which the records that are noted are written back.
 -- Assumes nothing.
-use Prim.Native.Nat.{ℕ, zero, suc, _-_, _*_, _≤_, _<_}
+use Prim.Native.Nat.{ℕ, zero, suc, _+_, _-_, _*_, _≤_, _<_}
 use native.Mathlib.Omega.{arith}
 use mathlib.Core.Bool.{Bool, true, false, _&&_}
 use mathlib.Core.List.{List, [], _∷_}
 use mathlib.Core.Path.{_≡_, refl, sym, ap, ap₂, _∙_, subst}
 use lib.ListN.{length, take}
 use lib.Seq.{getD-take}
-use lib.Dec.{ltb, leb}
-use borrow.Author.Tests.{leb-true, le-leb, ltb-true, ltb-false}
+use lib.Dec.{eqb, ltb, leb}
+use borrow.Author.Tests.{le-leb, ltb-true, ltb-false, eqb-true, eqb-false}
 use Rattle.rules.specs.declared.Operation.{Operation}
 use Rattle.rules.specs.declared.Place.{Place}
 use Rattle.rules.specs.declared.Builder.{Builder}
@@ -26,7 +26,8 @@ use Rattle.rules.specs.Build.{viewed, operates, finishes, withTriangle, InLoop,
 use Rattle.book.proofs.Counting.{and-left, and-right, same-yes, same-is}
 use Rattle.links.specs.Memory.{placed}
 use Rattle.places.specs.Memory.{recordAt, records, countOf, counted, memoryOf}
-use Rattle.places.specs.Noted.{linkedPart, freedPart, toLink, toFree, linkedAll, freedAll, writtenBack}
+use Rattle.places.specs.Touched.{linkedPlace, freedPlace, linkedTo, freedTo, Linkable, Freeable}
+use Rattle.performing.specs.Noted.{linkedPart, freedPart, toLink, toFree, writtenBack}
 use Rattle.places.proofs.Counting.{count-short, count-within}
 use Rattle.places.proofs.Reading.{length-records, memory-reads}
 use Rattle.memory.specs.Layout.{at}
@@ -38,7 +39,7 @@ use Rattle.reading.proofs.Lifting.{loaded-sound, loaded-view}
 use Rattle.reading.proofs.Rings.{places-placed}
 use Rattle.building.specs.Promised.{lentTo, Operating}
 use Rattle.performing.specs.Performing.{ringsOf, Written, Accepts, Refuses, Done, OperatesOn}
-use Rattle.performing.proofs.Back.{length-linked, length-freed, freed-in, freed-out, linked-in, linked-out}
+use Rattle.performing.proofs.Back.{linkedList, freedList, back-is, length-linked, length-freed, freed-in, freed-out, linked-in, linked-out}
 
 -- a call that tests 21 first comes to the same, on the list and on the records that are read from it
 module _ (b : Builder) (xs : List ℕ) (ps : List Place) (g : Machine → Step) where
@@ -61,12 +62,11 @@ module _ (b : Builder) (xs : List ℕ) (ps : List Place) (g : Machine → Step) 
 
 -- a memory that notes nothing
 nothing-back : (m : List ℕ) (ps : List Place) → at m 5320 ≡ 0 → at m 5327 ≡ 0 → writtenBack m ps ≡ ps
-unfolding linkedPart freedPart linkedAll freedAll
-nothing-back m ps c e =
-    ap₂ (λ (k l : ℕ). freedAll (freedPart m (at m 5326) (l - at m 5326)) (linkedAll m (linkedPart m k) ps)) c e ∙ none (at m 5326)
+unfolding linkedTo freedTo
+nothing-back m ps c e = ap₂ (λ (k l : ℕ). freedTo (l - at m 5326) (at m 5326) m (linkedTo k m ps)) c e ∙ none (at m 5326)
   where
-    none : (a : ℕ) → freedAll (freedPart m a (0 - a)) ps ≡ ps
-    none a = let z : 0 - a ≡ 0 = omega arith in ap (λ (k : ℕ). freedAll (freedPart m a k) ps) z
+    none : (a : ℕ) → freedTo (0 - a) a m ps ≡ ps
+    none a = let z : 0 - a ≡ 0 = omega arith in ap (λ (k : ℕ). freedTo k a m ps) z
 
 -- each number of a list is in it
 all-of : (js is : List ℕ) → ((i : ℕ) → 1 ≤ occurs i is → 1 ≤ occurs i js) → All (λ i. 1 ≤ occurs i js) is
@@ -156,17 +156,23 @@ module _ (b : Builder) (o : Operation) (xs ys : List ℕ) (ps : List Place) (M :
   now-in i = places-placed b′ (records maxPlaces m′) (b′ .live) i
 
   -- the list afterwards, record by record
+  back : writtenBack m′ ps ≡ freedList (toFree m′) (linkedList m′ (toLink m′) ps)
+  back = back-is m′ ps
+
+  back-at : (i : ℕ) → placeAt (writtenBack m′ ps) i ≡ placeAt (freedList (toFree m′) (linkedList m′ (toLink m′) ps)) i
+  back-at i = ap (λ (qs : List Place). placeAt qs i) back
+
   same-long : length (writtenBack m′ ps) ≡ length ps
-  same-long = length-freed (toFree m′) (linkedAll m′ (toLink m′) ps) ∙ length-linked m′ (toLink m′) ps
+  same-long = ap (λ (qs : List Place). length qs) back ∙ length-freed (toFree m′) (linkedList m′ (toLink m′) ps) ∙ length-linked m′ (toLink m′) ps
 
   freed-at : (i : ℕ) → i < maxPlaces → 1 ≤ occurs i (toFree m′) → placeAt (writtenBack m′ ps) i ≡ freePlace
-  freed-at i h l = freed-in (toFree m′) (linkedAll m′ (toLink m′) ps) i l (omega (arith, h, long, length-linked m′ (toLink m′) ps))
+  freed-at i h l = back-at i ∙ freed-in (toFree m′) (linkedList m′ (toLink m′) ps) i l (omega (arith, h, long, length-linked m′ (toLink m′) ps))
 
   kept-by : (i k : ℕ) → occurs i (toLink m′) ≡ k → occurs i (toFree m′) ≡ 0 → i < maxPlaces → placeAt (writtenBack m′ ps) i ≡ placeAt (records maxPlaces m′) i
   kept-by i zero e z h =
-      freed-out (toFree m′) (linkedAll m′ (toLink m′) ps) i z ∙ linked-out m′ (toLink m′) ps i e ∙ sym (first-at i h) ∙ sym (w .others i e)
+      back-at i ∙ freed-out (toFree m′) (linkedList m′ (toLink m′) ps) i z ∙ linked-out m′ (toLink m′) ps i e ∙ sym (first-at i h) ∙ sym (w .others i e)
   kept-by i (suc k) e z h =
-      freed-out (toFree m′) (linkedAll m′ (toLink m′) ps) i z
+      back-at i ∙ freed-out (toFree m′) (linkedList m′ (toLink m′) ps) i z
       ∙ linked-in m′ (toLink m′) ps i (omega (arith, e)) (omega (arith, h, long)) ∙ sym (records-at maxPlaces m′ i h)
 
   kept-at : (i : ℕ) → occurs i (toFree m′) ≡ 0 → i < maxPlaces → placeAt (writtenBack m′ ps) i ≡ placeAt (records maxPlaces m′) i
@@ -178,7 +184,7 @@ module _ (b : Builder) (o : Operation) (xs ys : List ℕ) (ps : List Place) (M :
 
   -- beyond the first 1,024 nothing is written
   high-by : (i k l : ℕ) → occurs i (toLink m′) ≡ k → occurs i (toFree m′) ≡ l → maxPlaces ≤ i → placeAt (writtenBack m′ ps) i ≡ placeAt ps i
-  high-by i zero zero e z h = freed-out (toFree m′) (linkedAll m′ (toLink m′) ps) i z ∙ linked-out m′ (toLink m′) ps i e
+  high-by i zero zero e z h = back-at i ∙ freed-out (toFree m′) (linkedList m′ (toLink m′) ps) i z ∙ linked-out m′ (toLink m′) ps i e
   high-by i (suc k) l e z h = absurd (omega (arith, h, w .near i (omega (arith, e))))
   high-by i zero (suc l) e z h = absurd (omega (arith, h, low-place i (omega (arith, was i, w .left i (omega (arith, z)) .0))))
 
@@ -276,3 +282,52 @@ operates-lent b o xs ps r xs′ m′ ps′ p e =
 -- a finish
 pub finishes-same : (b : Builder) (xs : List ℕ) (ps : List Place) → finishes b (lentTo xs ps) ≡ finishes b (lent xs (counted ps) (memoryOf ps))
 finishes-same b xs ps = same-step b xs ps finishing
+
+-- what is noted can be written back to the list
+linked-part : (m : List ℕ) (n k : ℕ) → k < n → 1 ≤ occurs (linkedPlace m k) (linkedPart m n)
+unfolding linkedPart occurs
+linked-part m zero k h = absurd (omega (arith, h))
+linked-part m (suc n) k h = go (eqb k n) refl (λ l. linked-part m n k l)
+  where
+    go : (t : Bool) → eqb k n ≡ t → (k < n → 1 ≤ occurs (linkedPlace m k) (linkedPart m n))
+        → 1 ≤ same (linkedPlace m k) (linkedPlace m n) + occurs (linkedPlace m k) (linkedPart m n)
+    go true e r = omega (arith, ap (λ (j : ℕ). same (linkedPlace m k) (linkedPlace m j)) (eqb-true k n e), same-yes (linkedPlace m k))
+    go false e r = omega (arith, r (omega (arith, h, eqb-false k n e)))
+
+freed-part : (m : List ℕ) (a n k : ℕ) → a ≤ k → k < a + n → 1 ≤ occurs (freedPlace m k) (freedPart m a n)
+unfolding freedPart occurs
+freed-part m a zero k l h = absurd (omega (arith, l, h))
+freed-part m a (suc n) k l h = go (eqb k (a + n)) refl (λ g. freed-part m a n k l g)
+  where
+    go : (t : Bool) → eqb k (a + n) ≡ t → (k < a + n → 1 ≤ occurs (freedPlace m k) (freedPart m a n))
+        → 1 ≤ same (freedPlace m k) (freedPlace m (a + n)) + occurs (freedPlace m k) (freedPart m a n)
+    go true e r = omega (arith, ap (λ (j : ℕ). same (freedPlace m k) (freedPlace m j)) (eqb-true k (a + n) e), same-yes (freedPlace m k))
+    go false e r = omega (arith, r (omega (arith, h, eqb-false k (a + n) e)))
+
+module _ (b : Builder) (o : Operation) (xs : List ℕ) (ps : List Place) (b′ : Builder) (xs′ m′ : List ℕ) where
+  accepts-fit : (ys : List ℕ) (M : Machine) → linksFit b ps ≡ true → Accepts b o ys (memoryOf ps) (counted ps) M b′ xs′ m′
+      → Linkable m′ (length ps) × Freeable m′ (length ps)
+  accepts-fit ys M links a =
+      let l : maxPlaces ≤ length ps = long b o xs ys ps M b′ xs′ m′ links a in
+      (
+        (a .noted .few, λ k h. let n = a .written .near (linkedPlace m′ k) (linked-part m′ (at m′ 5320) k h) in (n, omega (arith, n, l))),
+        (a .noted .low, λ k g h.
+            let z = a .written .left (freedPlace m′ k) (freed-part m′ (at m′ 5326) (at m′ 5327 - at m′ 5326) k g (omega (arith, g, h))) .0 in
+            omega (arith, l, low-place b o xs ys ps M b′ xs′ m′ links a (freedPlace m′ k) (omega (arith, z, was b o xs ys ps M b′ xs′ m′ links a (freedPlace m′ k))))),
+      )
+
+  done-fit : (sound b (lentTo xs ps) ≡ true → linksFit b ps ≡ true) → (x : Step) → (isBuilt x → sound b (lentTo xs ps) ≡ true)
+      → Done b o xs (memoryOf ps) (counted ps) x b′ xs′ m′ → Linkable m′ (length ps) × Freeable m′ (length ps)
+  done-fit links (refused n) f d =
+      ((omega (arith, d .links), λ k h. absurd (omega (arith, h, d .links))), (omega (arith, d .frees), λ k g h. absurd (omega (arith, h, d .frees))))
+  done-fit links (begun m) f d = absurd d
+  done-fit links (built t m) f d = accepts-fit (withTriangle (b .built) t xs) m (links (f tt)) d
+  done-fit links (declared x m) f d = accepts-fit xs m (links (f tt)) d
+  done-fit links (finished x) f d = absurd d
+
+pub touches-fit : (b : Builder) (o : Operation) (xs : List ℕ) (ps : List Place) (r : Performed) (xs′ m′ : List ℕ)
+    → OperatesOn b o xs (memoryOf ps) (counted ps) r xs′ m′ → Linkable m′ (length ps) × Freeable m′ (length ps)
+touches-fit b o xs ps r xs′ m′ p =
+    let s : operates b (lentTo xs ps) o ≡ operates b (lent xs (counted ps) (memoryOf ps)) o = same-step b xs ps (λ m. operation m o) in
+    done-fit b o xs ps (r .state) xs′ m′ (λ h. sound-links b (lentTo xs ps) h) (operates b (lentTo xs ps) o) (only-sound b xs ps o)
+    (subst (λ (x : Step). Done b o xs (memoryOf ps) (counted ps) x (r .state) xs′ m′) (sym s) (p .after))

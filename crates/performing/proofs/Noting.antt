@@ -8,7 +8,7 @@ use lib.ListN.{length, getD, set, length-set}
 use lib.Seq.{getD-set-same, getD-set-other}
 use Rattle.rules.specs.Limits.{maxPlaces}
 use Rattle.rules.specs.Count.{same, occurs}
-use Rattle.places.specs.Noted.{linkedPart, freedPart, toLink, toFree}
+use Rattle.performing.specs.Noted.{linkedPart, freedPart, toLink, toFree}
 use Rattle.memory.specs.declared.Touched.{Touched}
 use Rattle.memory.specs.Layout.{at}
 use Rattle.memory.specs.Touched.{listed, noted, stackPart}

@@ -59,7 +59,7 @@ use Rattle.memory.proofs.Room.{room as places-room}
 use Rattle.memory.specs.Performs.{Performs}
 use Rattle.memory.proofs.Performed.{performs}
 use Rattle.memory.proofs.Tidy.{built-tidy, marked-tidy}
-use Rattle.places.specs.Noted.{toLink, toFree}
+use Rattle.performing.specs.Noted.{toLink, toFree}
 use Rattle.performing.proofs.Noting.{nothing-linked, nothing-freed, noted-before, noted-end, noted-count, noted-links, noted-frees}
 use Rattle.performing.proofs.Leaving.{unused, rings-are, stays, idle, others, near, left, gone, few-touched, rewritten}
 

@@ -25,7 +25,7 @@ use Rattle.rules.specs.Test21.{soundElse}
 use Rattle.rules.specs.Build.{viewed, operates, withTriangle}
 use Rattle.links.specs.Memory.{placed}
 use Rattle.places.specs.Memory.{records}
-use Rattle.places.specs.Noted.{toLink, toFree}
+use Rattle.performing.specs.Noted.{toLink, toFree}
 use Rattle.memory.specs.declared.Front.{Front}
 use Rattle.memory.specs.Layout.{at}
 use Rattle.memory.specs.Moves.{markedHeld}

@@ -1,4 +1,3 @@
 pub mod Records
 pub mod Memory
-pub mod Noted
 pub mod Touched

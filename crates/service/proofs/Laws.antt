@@ -23,7 +23,8 @@ use Rattle.rules.specs.Unpack.{unpack}
 use Rattle.rules.specs.Fields.{Fields, no-pack, fields, fieldsOf}
 use Rattle.rules.specs.Book.{answerOf}
 use Rattle.memory.specs.Layout.{openOf}
-use Rattle.places.specs.Memory.{saved, countOf, counted, memoryOf}
+use Rattle.places.specs.Memory.{countOf, counted, memoryOf}
+use Rattle.places.specs.Touched.{linkedAll, freedAll}
 use Rattle.places.specs.Records.{clearedTo}
 use Rattle.places.proofs.Counting.{count-within}
 use Rattle.places.proofs.Clearing.{cleared-to}
@@ -105,7 +106,7 @@ begins-as s ts ps r ts′ p ps′ e =
     record { answer = l .0; after = l .1 }
 
 pub operates-as : (b : Builder) (o : Operation) (ts : List ℕ) (ps : List Place) (r : Performed) (ts′ m′ : List ℕ) (ps′ : List Place)
-    → OperatesOn b o ts (memoryOf ps) (counted ps) r ts′ m′ → ps′ ≡ saved (counted ps) m′ ps → Operating b o ts ps r ts′ ps′
+    → OperatesOn b o ts (memoryOf ps) (counted ps) r ts′ m′ → ps′ ≡ freedAll m′ (linkedAll m′ ps) → Operating b o ts ps r ts′ ps′
 operates-as b o ts ps r ts′ m′ ps′ p e = operates-lent b o ts ps r ts′ m′ ps′ p e
 
 pub finishes-as : (b : Builder) (ts : List ℕ) (ps : List Place) (r : Finished) (m′ : List ℕ)

@@ -1,12 +1,13 @@
 // The service's calls over a lent list of place records. Packing, unpacking and a beginning read no record: each calls its core and
 // clears as many as the answer says. An operation and a finish load the records into a plain memory and call the core that works
-// there; the operation then saves them, the finish changes nothing. The contracts cite specs/Calls.antt and specs/Packing.antt, and
+// there; of these the operation then links and frees those that it touched, the finish changes nothing. The contracts cite specs/Calls.antt and specs/Packing.antt, and
 // of the crate building specs/Promised.antt, on which demand 3 rests.
 use places::clear;
 use places::count;
 use places::empty;
+use places::free_all;
+use places::link_all;
 use places::load;
-use places::save;
 use rules::Begun;
 use rules::Builder;
 use rules::Checked;
@@ -82,7 +83,8 @@ pub fn operation(
     let mut m = empty();
     load(places, &mut m, n);
     let r = calls::operation::operation_on(state, op, triangles, &mut m, n);
-    save(&m, places, n);
+    link_all(&m, places);
+    free_all(&m, places);
     r
 }
 
