@@ -205,11 +205,7 @@ fn wide(x: u16) -> usize {
 }
 
 // Packs the list of n numbers, the first of which is V.
-fn pack_numbers(
-    numbers: &[u16],
-    n: usize,
-    numbering: &mut [u16],
-    buffer: &mut [u8]) -> Output {
+fn pack_numbers(numbers: &[u16], n: usize, numbering: &mut [u16], buffer: &mut [u8]) -> Output {
     if numbers.len() < n {
         return Output::fresh();
     }
@@ -228,11 +224,7 @@ fn print_no_model() -> Output {
 }
 
 // Reads a model and packs it.
-fn run(
-    part: &mut [u8],
-    numbers: &mut [u16],
-    numbering: &mut [u16],
-    buffer: &mut [u8]) -> Output {
+fn run(part: &mut [u8], numbers: &mut [u16], numbering: &mut [u16], buffer: &mut [u8]) -> Output {
     let t = read_text(part, numbers);
     match t {
         Told::Numbers(n) => pack_numbers(numbers, n, numbering, buffer),

@@ -308,12 +308,14 @@ module _ (b : Builder) (o : Operation) (xs : List ℕ) (ps : List Place) (b′ :
   accepts-fit : (ys : List ℕ) (M : Machine) → linksFit b ps ≡ true → Accepts b o ys (memoryOf ps) (counted ps) M b′ xs′ m′
       → Linkable m′ (length ps) × Freeable m′ (length ps)
   accepts-fit ys M links a =
-      let l : maxPlaces ≤ length ps = long b o xs ys ps M b′ xs′ m′ links a in
-      (
+      let l : maxPlaces ≤ length ps = long b o xs ys ps M b′ xs′ m′ links a in (
         (a .noted .few, λ k h. let n = a .written .near (linkedPlace m′ k) (linked-part m′ (at m′ 5320) k h) in (n, omega (arith, n, l))),
-        (a .noted .low, λ k g h.
-            let z = a .written .left (freedPlace m′ k) (freed-part m′ (at m′ 5326) (at m′ 5327 - at m′ 5326) k g (omega (arith, g, h))) .0 in
-            omega (arith, l, low-place b o xs ys ps M b′ xs′ m′ links a (freedPlace m′ k) (omega (arith, z, was b o xs ys ps M b′ xs′ m′ links a (freedPlace m′ k))))),
+        (
+          a .noted .low,
+          λ k g h.
+              let z = a .written .left (freedPlace m′ k) (freed-part m′ (at m′ 5326) (at m′ 5327 - at m′ 5326) k g (omega (arith, g, h))) .0 in
+              omega (arith, l, low-place b o xs ys ps M b′ xs′ m′ links a (freedPlace m′ k) (omega (arith, z, was b o xs ys ps M b′ xs′ m′ links a (freedPlace m′ k)))),
+        ),
       )
 
   done-fit : (sound b (lentTo xs ps) ≡ true → linksFit b ps ≡ true) → (x : Step) → (isBuilt x → sound b (lentTo xs ps) ≡ true)

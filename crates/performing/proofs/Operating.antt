@@ -287,7 +287,7 @@ module _ (b : Builder) (o : Operation) (xs m : List ℕ) (f : Front) (w : Open b
         → OperatesOn b o xs m maxPlaces r xs m′
     rule-fails h m′ em =
         refuses b o xs m maxPlaces m′ 18 (goes-on ∙ rule-refused maxPlaces f m M o (w .keeps) ranges p e (rule-is ∙ not-true t h)) (ap (λ (z : List ℕ). at z 5320) em ∙ nothing-linked m)
-      (ap (λ (z : List ℕ). at z 5327) em ∙ nothing-freed m)
+        (ap (λ (z : List ℕ). at z 5327) em ∙ nothing-freed m)
 
     module _ (h : not t ≡ false) where
       abbrev M₁ : Machine

@@ -16,11 +16,12 @@ use Rattle.rules.specs.declared.Begun.{Begun}
 use Rattle.rules.specs.declared.Performed.{Performed}
 use Rattle.rules.specs.declared.Finished.{Finished}
 use Rattle.rules.specs.Answer.{Answer, begunAnswer, operatedAnswer, finishedAnswer}
-use Rattle.rules.specs.Book.{Call, begin, operate, end}
+use Rattle.rules.specs.Book.{Call, begin, operate, finish}
+use Rattle.rules.specs.Calls.{lastState}
 use Rattle.rules.specs.Buffer.{Buffers}
 use Rattle.rules.specs.Build.{emptyBuilder, BegunBy}
 use Rattle.building.specs.Promised.{lentTo, Beginning, Operating, Finishing}
-use Rattle.building.specs.Building.{World, lastState, Called, Run}
+use Rattle.building.specs.Building.{World, Called, Run}
 use Rattle.rehearsal.specs.Rehearsal.{operations, world, lentWorld, Rehearsed}
 
 -- one call more
@@ -110,6 +111,6 @@ module _ (s : Counts) (ts : List ℕ) (ps : List Place) (b : Builder) (ts₁ : L
         answers = k .answers;
         state = b;
         run =
-            run-more (begin s ∷ operations os) (lentWorld ts ps) (k .answers) v end (finishedAnswer r) v (k .run)
+            run-more (begin s ∷ operations os) (lentWorld ts ps) (k .answers) v finish (finishedAnswer r) v (k .run)
             (record { result = r; promised = h; answer = refl; same = refl });
       }

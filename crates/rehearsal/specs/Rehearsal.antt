@@ -13,10 +13,10 @@ use Rattle.rules.specs.declared.Place.{Place}
 use Rattle.rules.specs.declared.Builder.{Builder}
 use Rattle.rules.specs.declared.Finished.{Finished}
 use Rattle.rules.specs.Limits.{maxPlaces, inRange}
-use Rattle.rules.specs.Machine.{Rooms}
 use Rattle.rules.specs.Answer.{Answer, numbers, finishedAnswer}
-use Rattle.rules.specs.Book.{Call, begin, operate, end, Book, emptyBook, answer, answers, afterAll}
-use Rattle.rules.specs.Buffer.{lengths}
+use Rattle.rules.specs.Book.{Call, begin, operate, finish, Book, emptyBook, answer}
+use Rattle.rules.specs.Calls.{answers, afterAll}
+use Rattle.rules.specs.Buffer.{Lengths, lengths}
 use Rattle.rules.specs.Build.{emptyBuilder}
 use Rattle.building.specs.Promised.{lentTo}
 use Rattle.building.specs.Building.{World, Run, KeepsTheBook}
@@ -27,7 +27,7 @@ operations (o ∷ os) = operate o ∷ operations os
 
 -- the calls after the beginning
 abbrev pub callsOf : List Operation → List Call
-callsOf os = operations os ++ (end ∷ [])
+callsOf os = operations os ++ (finish ∷ [])
 
 abbrev pub world : Builder → List ℕ → List Place → World
 world b ts ps = record { state = b; triangles = ts; places = ps }
@@ -50,13 +50,13 @@ abbrev pub leftBy : {s : Counts} {os : List Operation} {ts : List ℕ} {ps : Lis
 leftBy {ts′ = ts′} {ps′ = ps′} x = world (x .state) ts′ ps′
 
 -- the book after these operations
-abbrev pub bookOf : Rooms → Counts → List Operation → Book
+abbrev pub bookOf : Lengths → Counts → List Operation → Book
 bookOf n s os = afterAll n (emptyBook s) (operations os)
 
 -- Demand 3 of what is rehearsed, with counts that pass 13, in buffers that pass 14 and held anything: it is all of it true of the world
 -- that is left, and the answer is what the book's finish answers.
 pub record MeetsTheBook (s : Counts) (os : List Operation) (ts : List ℕ) (ps : List Place) (r : Finished) (v : World) : Type 0 where
-  pub answer : finishedAnswer r ≡ answer (lengths (lentTo ts ps)) (bookOf (lengths (lentTo ts ps)) s os) end
+  pub answer : finishedAnswer r ≡ answer (lengths (lentTo ts ps)) (bookOf (lengths (lentTo ts ps)) s os) finish
   pub book : KeepsTheBook (lentWorld ts ps) s (callsOf os) (answers (lengths (lentTo ts ps)) (emptyBook s) (callsOf os)) v
       (afterAll (lengths (lentTo ts ps)) (emptyBook s) (callsOf os))
 

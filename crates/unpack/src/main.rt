@@ -24,10 +24,7 @@ fn unpack_bytes(out: Output, pack: &[u8], triangles: &mut [u16]) -> Output {
 }
 
 // Unpacks what standard input has.
-fn unpack_standard(
-    out: Output,
-    pack: &mut [u8],
-    triangles: &mut [u16]) -> Output {
+fn unpack_standard(out: Output, pack: &mut [u8], triangles: &mut [u16]) -> Output {
     let r = read_full(STDIN_FILENO, pack);
     let Read::To(n) = r else {
         say_failed(b"unpack", b"cannot read standard input");
@@ -37,11 +34,7 @@ fn unpack_standard(
 }
 
 // Unpacks the file of a name, or says why it cannot be opened or read.
-fn unpack_file(
-    out: Output,
-    name: &[u8],
-    pack: &mut [u8],
-    triangles: &mut [u16]) -> Output {
+fn unpack_file(out: Output, name: &[u8], pack: &mut [u8], triangles: &mut [u16]) -> Output {
     let fd = os::open_read(name);
     if fd < 0 {
         say_failed(b"unpack", name);
@@ -63,11 +56,7 @@ fn is_standard(name: &[u8]) -> bool {
 }
 
 // Unpacks what argument i names.
-fn unpack_named(
-    out: Output,
-    i: usize,
-    pack: &mut [u8],
-    triangles: &mut [u16]) -> Output {
+fn unpack_named(out: Output, i: usize, pack: &mut [u8], triangles: &mut [u16]) -> Output {
     let mut name = [0u8; 4096];
     let n = os::arg(i, &mut name);
     if os::errno() != 0 {
@@ -84,7 +73,8 @@ fn unpack_named(
 fn unpack_each(
     count: usize,
     pack: &mut [u8; MOST_BYTES + 1],
-    triangles: &mut [u16; 24576]) -> Output {
+    triangles: &mut [u16; 24576],
+) -> Output {
     let mut out = Output::fresh();
     let mut i = 1;
     while i < count {

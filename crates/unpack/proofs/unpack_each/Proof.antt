@@ -7,10 +7,10 @@ use Rattle.unpack.proofs.unpack_each.Statement.{statement}
 use Rattle.unpack.proofs.unpack_each.Tie as tie
 
 abbrev Inv-loop : tie.InvT-loop
-Inv-loop count pack₀ triangles₀ m₀ out₀ i₀ pack triangles m out i = Unit {0}
+Inv-loop count pack₀ triangles₀ out₀ i₀ pack triangles out i = Unit {0}
 
 abbrev μ-loop : tie.MeasureT-loop
-μ-loop count pack₀ triangles₀ m₀ out₀ i₀ pack triangles m out i = count - i
+μ-loop count pack₀ triangles₀ out₀ i₀ pack triangles out i = count - i
 
 fresh-requires : tie.Need-fresh-requires Inv-loop μ-loop
 fresh-requires c κs = search needs

@@ -56,7 +56,7 @@ same-length c = search needs
 
 returns : tie.Need-returns
 returns c =
-    let a = c .before .before .before .before .before .before .before .before .before .before .before .before .before .before .before .before in
+    let a = c .before .before .before .before .before .before .before .before .before .before .before .before .before .before .before in
     (omega (arith, c .answered .ensures .0, a .pre .0), omega (arith, c .answered .ensures .1, a .pre .1))
 
 enum-told : tie.Need-enum-told
