@@ -4,10 +4,8 @@ use Prim.Native.Nat.{ℕ, _+_, _≤_, _<_}
 use native.Mathlib.Omega.{arith}
 use mathlib.Core.List.{List, _++_}
 use mathlib.Core.Path.{_≡_, refl, ap, _∙_}
-use lib.ListN.{length, take, drop, set, replicate, length-set, length-replicate}
-use lib.Seq.{take-at}
+use lib.ListN.{length, drop, set, replicate, length-set}
 use borrow.Author.Fill.{fill-none, fill-more}
-use Rattle.rules.specs.Buffer.{zeroed}
 
 -- i entries are x
 pub record Filling (x : ℕ) (xs₀ xs : List ℕ) (n i : ℕ) : Type 0 where
@@ -29,6 +27,3 @@ filling-more x xs₀ xs n i c l = record {
 
 pub filling-done : (x : ℕ) (xs₀ xs : List ℕ) (n i : ℕ) → Filling x xs₀ xs n i → n ≤ i → xs ≡ replicate n x ++ drop n xs₀
 filling-done x xs₀ xs n i c l = let e : i ≡ n = omega (arith, c .upto) in c .holds ∙ ap (λ (k : ℕ). replicate k x ++ drop k xs₀) e
-
-pub filled-take : (n : ℕ) (xs ys : List ℕ) → ys ≡ zeroed n xs → take n ys ≡ replicate n 0
-filled-take n xs ys e = ap (take n) e ∙ take-at (replicate n 0) (drop n xs) n (length-replicate n 0)

@@ -69,10 +69,6 @@ count-under v h = sym (ap (λ (b : Bool). b && leb v maxVertices) (lt-leb minVer
 pub count-over : (v : ℕ) → minVertices ≤ v → leb v maxVertices ≡ vertexRange v
 count-over v h = sym (ap (λ (b : Bool). b && leb v maxVertices) (le-leb minVertices v h))
 
--- what 1 and 2 say
-between-low : (lo n hi : ℕ) → between lo n hi ≡ true → lo ≤ n
-between-low lo n hi h = leb-true lo n (and-left (leb lo n) (leb n hi) h)
-
 between-high : (lo n hi : ℕ) → between lo n hi ≡ true → n ≤ hi
 between-high lo n hi h = leb-true n hi (and-right (leb lo n) (leb n hi) h)
 

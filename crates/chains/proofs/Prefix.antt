@@ -37,10 +37,6 @@ first-more n xs h =
     ∙ triangles-append n (take (3 * n) xs) (take 3 (drop (3 * n) xs)) (length-take-le (3 * n) xs (omega arith))
     ∙ ap (λ (ys : List ℕ). firstTriangles n xs ++ trianglesOf ys) (take-three xs (3 * n) h)
 
-pub first-none : (xs : List ℕ) → firstTriangles 0 xs ≡ []
-unfolding trianglesOf
-first-none xs = refl
-
 pub first-all : (n : ℕ) (xs : List ℕ) → length xs ≡ 3 * n → firstTriangles n xs ≡ trianglesOf xs
 first-all n xs e = ap trianglesOf (take-all (3 * n) xs (omega arith))
 

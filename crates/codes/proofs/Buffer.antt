@@ -8,13 +8,9 @@ use mathlib.Core.Path.{_≡_, refl, sym, ap, ap₂, _∙_, subst}
 use lib.ListN.{length, take, drop, getD, replicate, length-append, length-replicate, length-drop, take-append-drop, drop-of-length-le, replicate-append-replicate}
 use lib.Pow.{shr-mod}
 use lib.Seq.{paste, length-take-le, length-paste-head, take-append-le, take-at, drop-at, drop-drop, take-add, take-append-seam, drop-append-add, getD-drop, take-nil}
-use Rattle.rules.specs.declared.Counts.{Counts}
-use Rattle.rules.specs.Fields.{packBytes}
 use Rattle.rules.specs.Bits.{bits, valueOf, bitsOfBytes, bytesOf}
 use Rattle.rules.specs.Buffer.{over}
 use Rattle.codes.specs.Shape.{Bits, Bytes}
-use Rattle.codes.specs.Header.{headerOf}
-use Rattle.codes.proofs.Fields.{pack-header, length-header, length-pack}
 use Rattle.codes.specs.Buffer.{writtenAt, bytesFor, fourBytes, wordOf}
 use Rattle.codes.proofs.Lists.{below-append, below-take, below-replicate, below-getD}
 use Rattle.codes.proofs.Numbers.{length-bits, bits-are, value-append, value-from, value-of-bits, value-part, twice}
@@ -44,11 +40,6 @@ written-more bs xs buffer h =
     let l : length (bytesOf bs) ≤ length (bytesOf (bs ++ xs)) = omega (arith, length-bytes bs, length-bytes (bs ++ xs), length-append bs xs) in
     ap (λ (us : List ℕ). over (bytesOf (us ++ xs)) (over (bytesOf bs) buffer)) e ∙ over-over (bytesOf bs) (bytesOf (bs ++ xs)) buffer l
 
--- and the first ones
-pub written-first : (xs buffer : List ℕ) → writtenAt buffer 0 xs ≡ over (bytesOf xs) buffer
-unfolding writtenAt
-written-first xs buffer = refl
-
 pub length-over : (xs buffer : List ℕ) → length xs ≤ length buffer → length (over xs buffer) ≡ length buffer
 length-over xs buffer h = omega (arith, length-append xs (drop (length xs) buffer), length-drop (length xs) buffer)
 
@@ -58,17 +49,6 @@ length-written buffer at xs h =
     let l : length (take at (bitsOfBytes buffer)) ≡ at = length-take-le at (bitsOfBytes buffer) (omega (arith, length-bits-of-bytes buffer)) in
     let ys = take at (bitsOfBytes buffer) ++ xs in
     length-over (bytesOf ys) buffer (omega (arith, length-bytes ys, length-append (take at (bitsOfBytes buffer)) xs))
-
--- a header over the front, with the operations after its 14 bytes, is the pack
-pub pack-over : (s : Counts) (ops buffer : List ℕ) → 14 ≤ length buffer → over (headerOf s (length ops)) (take 14 buffer ++ over ops (drop 14 buffer)) ≡ over (packBytes s ops) buffer
-pack-over s ops buffer h =
-    let hs = headerOf s (length ops) in
-    let t : length (take 14 buffer) ≡ 14 = length-take-le 14 buffer h in
-    let a : drop (length hs) (take 14 buffer ++ over ops (drop 14 buffer)) ≡ over ops (drop 14 buffer) =
-    ap (λ (k : ℕ). drop k (take 14 buffer ++ over ops (drop 14 buffer))) (length-header s (length ops)) ∙ drop-at (take 14 buffer) (over ops (drop 14 buffer)) 14 t in
-    let b : drop (length ops) (drop 14 buffer) ≡ drop (length (packBytes s ops)) buffer = drop-drop (length ops) 14 buffer ∙ ap (λ (k : ℕ). drop k buffer) (sym (length-pack s ops)) in
-    ap (λ (us : List ℕ). hs ++ us) (a ∙ ap (λ (us : List ℕ). ops ++ us) b) ∙ sym (append-assoc hs ops (drop (length (packBytes s ops)) buffer))
-    ∙ ap (λ (us : List ℕ). us ++ drop (length (packBytes s ops)) buffer) (sym (pack-header s ops))
 
 -- ---- by bytes
 

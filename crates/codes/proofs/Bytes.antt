@@ -114,9 +114,6 @@ fill n = (8 - n % 8) % 8
 pub fill-below : (n : ℕ) → fill n < 8
 fill-below n = omega arith
 
-pub fill-whole : (n : ℕ) → n + fill n ≡ 8 * ((n + 7) / 8)
-fill-whole n = omega arith
-
 -- the first byte's bits
 first-long : (n : ℕ) (xs : List ℕ) → Bits xs → 8 ≤ length xs
     → bitsOfBytes (bytesWithin n (drop 8 xs)) ≡ drop 8 xs ++ replicate (fill (length (drop 8 xs))) 0

@@ -13,7 +13,7 @@ use Rattle.rules.specs.declared.Counts.{Counts}
 use Rattle.rules.specs.Fields.{countsTag, operationsTag, word, fieldOf, countsOf, packBytes, Field, no-field, field, takeField, Fields, no-pack, fields, countsFrom, lastField, firstField, fieldsOf}
 use Rattle.codes.specs.Shape.{Bytes}
 use Rattle.codes.specs.Header.{headerOf, CountsFit}
-use Rattle.codes.proofs.Lists.{below-append, below-front, below-rest, below-getD}
+use Rattle.codes.proofs.Lists.{below-front, below-rest, below-getD}
 
 -- the 14 bytes before the operations, and the operations
 pub pack-header : (s : Counts) (ops : List ℕ) → packBytes s ops ≡ headerOf s (length ops) ++ ops
@@ -26,46 +26,6 @@ length-header s n = refl
 
 pub length-pack : (s : Counts) (ops : List ℕ) → length (packBytes s ops) ≡ 14 + length ops
 length-pack s ops = omega (arith, ap length (pack-header s ops), length-append (headerOf s (length ops)) ops, length-header s (length ops))
-
-pub header-bytes : (s : Counts) (n : ℕ) → Bytes (headerOf s n)
-unfolding headerOf
-header-bytes s n = (
-  omega arith,
-  (
-    omega arith,
-    (
-      omega arith,
-      (
-        omega arith,
-        (
-          omega arith,
-          (
-            omega arith,
-            (
-              omega arith,
-              (
-                omega arith,
-                (
-                  omega arith,
-                  (
-                    omega arith,
-                    (
-                      omega arith,
-                      (omega arith, (omega arith, (omega arith, tt))),
-                    ),
-                  ),
-                ),
-              ),
-            ),
-          ),
-        ),
-      ),
-    ),
-  ),
-)
-
-pub pack-bytes : (s : Counts) (ops : List ℕ) → Bytes ops → Bytes (packBytes s ops)
-pack-bytes s ops h = subst (λ (bs : List ℕ). Bytes bs) (sym (pack-header s ops)) (below-append 256 (headerOf s (length ops)) ops (header-bytes s (length ops)) h)
 
 -- a number in two bytes, read again; two bytes, written again
 word-back : (v : ℕ) → v < 65536 → 256 * (v / 256 % 256) + v % 256 ≡ v

@@ -119,9 +119,3 @@ pub same-bytes : (os ps : List Operation) → AllFit os → AllFit ps → bytesO
 same-bytes os ps h k e =
     one-begins os ps _ _ h k
     (sym (bits-of-bytes (operationsBits os) (operations-bits-are os)) ∙ ap bitsOfBytes e ∙ bits-of-bytes (operationsBits ps) (operations-bits-are ps))
-
--- and as many operations in the same bytes are the same
-pub same-bytes-same : (os ps : List Operation) → AllFit os → AllFit ps → length os ≡ length ps → bytesOf (operationsBits os) ≡ bytesOf (operationsBits ps) → os ≡ ps
-same-bytes-same os ps h k l e =
-    same-operations os ps (replicate (fill (length (operationsBits os))) 0) (replicate (fill (length (operationsBits ps))) 0) h k l
-    (sym (bits-of-bytes (operationsBits os) (operations-bits-are os)) ∙ ap bitsOfBytes e ∙ bits-of-bytes (operationsBits ps) (operations-bits-are ps)) .0

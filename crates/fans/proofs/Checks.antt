@@ -77,6 +77,3 @@ pub check-refused : (v : ℕ) (xs : List ℕ) (k : ℕ) → (check v xs ≡ Refu
 check-refused v xs k =
     let i = tested-refused k 1 (suc k) (tests v xs) (omega arith) in
     (λ h. i .0 (sym (check-tested v xs) ∙ h), λ h. check-tested v xs ∙ i .1 h)
-
-pub check-number : (v : ℕ) (xs : List ℕ) (n : ℕ) → check v xs ≡ Refused n → (1 ≤ n) × (n ≤ 7)
-check-number v xs n h = let k = tested-number 1 n (tests v xs) (sym (check-tested v xs) ∙ h) in omega (arith, k .0, k .1)

@@ -124,14 +124,6 @@ later-sides x y us vs t d zero k l = absurd (omega arith)
 later-sides x y [] vs t d (suc m) k l = place-sides x y vs d m (omega arith)
 later-sides x y (u ∷ us) vs t d (suc m) k l = later-sides x y us vs t d m (omega arith) (omega arith)
 
-pub found-later : {x y n k z : ℕ} (ts : List Triangle) → FoundAt x y ts n k z → (d : Triangle) (m : ℕ) → n < m → m < length ts
-    → sidesOf x y (getD ts m d) ≡ 0
-found-later {x} {y} ts f d m k l =
-    let us = f .before ++ (f .triangle ∷ f .after) in
-    let within : m < length us = omega (arith, ap (length {A = Triangle}) (f .whole)) in
-    rw (f .whole)
-    (omega (arith, f .none-later, later-sides x y (f .before) (f .after) (f .triangle) d m (omega (arith, f .place)) within))
-
 -- it finds nothing exactly if the edge is not used
 pub across-nothing : (x y : ℕ) (ts : List Triangle) → (across x y ts ≡ Nothing) ↔ (uses x y ts ≡ 0)
 across-nothing x y ts = (λ e. subst (Told x y ts) e (told x y ts), λ u. go u (across x y ts) refl)

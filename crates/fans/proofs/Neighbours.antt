@@ -1,6 +1,6 @@
 -- One fan as neighbours in a row: the two forms say the same, and a list that `check` accepts has it at each vertex.
 -- Assumes nothing.
-use Prim.Native.Nat.{ℕ, _+_, _≤_, _<_}
+use Prim.Native.Nat.{ℕ, _+_, _≤_}
 use native.Mathlib.Omega.{arith}
 use mathlib.Core.Bool.{Bool, true, false}
 use mathlib.Core.List.{List, [], _∷_}
@@ -9,11 +9,10 @@ use mathlib.Core.Path.{_≡_, refl, sym, _∙_, subst}
 use lib.Dec.{eqb}
 use borrow.Author.Tests.{eqb-true, eqb-false}
 use Rattle.rules.specs.declared.Triangle.{Triangle}
-use Rattle.rules.specs.declared.Checked.the-variants.{Accepted}
-use Rattle.rules.specs.Triangle.{Edge, edge, trianglesOf, edgesOf}
+use Rattle.rules.specs.Triangle.{Edge, edge, edgesOf}
 use Rattle.rules.specs.Count.{same, count, uses}
 use Rattle.rules.specs.Fan.{about, Run, OneFan}
-use Rattle.rules.specs.Check.{allDistinct, noneTwice, check}
+use Rattle.rules.specs.Check.{allDistinct, noneTwice}
 use Rattle.fans.specs.Chain.{Chain}
 use Rattle.fans.specs.Corner.{In, Free}
 use Rattle.fans.specs.Neighbours.{Linked, Pair, endOf, Neighbours}
@@ -22,8 +21,7 @@ use Rattle.fans.proofs.Corners.{free-unused}
 use Rattle.fans.proofs.Tests.{none-twice}
 use Rattle.fans.proofs.OneRun.{chained-count, run-passes}
 use Rattle.fans.proofs.About.{about-apart, about-in, in-about}
-use Rattle.fans.proofs.Checks.{check-accepted}
-use Rattle.fans.proofs.Fans.{run-fan, fan-chained, fan-degree, one-fan-each}
+use Rattle.fans.proofs.Fans.{run-fan, fan-chained, fan-degree}
 
 -- the vertices that edges lead to
 abbrev tos : List Edge → List ℕ
@@ -120,10 +118,3 @@ module _ (ts : List Triangle) (distinct : allDistinct ts ≡ true) (once : noneT
 
   pub one-fan-neighbours : (v : ℕ) → OneFan v ts ↔ Neighbours ts v
   one-fan-neighbours v = (fan-neighbours v, neighbours-fan v)
-
--- a list that `check` accepts has one fan at each vertex
-pub check-neighbours : (v : ℕ) (xs : List ℕ) → check v xs ≡ Accepted → (c : ℕ) → c < v → Neighbours (trianglesOf xs) c
-check-neighbours v xs h c l =
-    let p = check-accepted v xs .0 h in
-    let ts = trianglesOf xs in
-    one-fan-neighbours ts (p .distinct) (p .once) c .0 (one-fan-each ts (p .distinct) (p .once) v .0 (p .fans) c l)

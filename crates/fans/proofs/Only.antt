@@ -7,15 +7,14 @@ use mathlib.Core.List.{List, [], _∷_}
 use mathlib.Core.Path.{_≡_, refl, sym, ap, _∙_, subst}
 use lib.ListN.{length, getD}
 use Rattle.rules.specs.declared.Triangle.{Triangle}
-use Rattle.rules.specs.declared.Across.{Across}
-use Rattle.rules.specs.declared.Across.the-variants.{Found, Nothing}
+use Rattle.rules.specs.declared.Across.the-variants.{Found}
 use Rattle.rules.specs.Count.{hit, uses}
 use Rattle.rules.specs.Across.{across}
 use Rattle.fans.specs.Corner.{Rot, at-p, at-q, at-r, third, In, here, there, sides, sidesOf}
 use Rattle.fans.specs.Finding.{SameFound}
 use Rattle.fans.proofs.Counting.{hit-yes}
 use Rattle.fans.proofs.Corners.{rot-sum, rot-third, uses-rot, uses-cons, sides-yes, in-uses}
-use Rattle.fans.proofs.Finding.{across-found, across-nothing, found-in, found-below, found-place, place-sides}
+use Rattle.fans.proofs.Finding.{across-found, found-below, found-place, place-sides}
 
 -- two corners of a triangle tell which the third is
 hit-eq : (x y p q : ℕ) → p ≡ x → q ≡ y → hit x y p q ≡ 1
@@ -69,12 +68,3 @@ across-only x y ts n k z o e d m w l r =
     let one = le-trans (place-sides x y ts d n (found-below ts f)) o in
     let c = rot-corner g r (f .seen) (subst (λ (t : Triangle). sidesOf x y t ≤ 1) (found-place ts f d) one) in
     record { same-place = p; same-corner = c .0 ∙ f .corner; same-vertex = c .1 }
-
--- and it is found
-pub across-in : (x y z : ℕ) (ts : List Triangle) → uses x y ts ≤ 1 → In x y z ts → (n : ℕ) × (k : ℕ) × (across x y ts ≡ Found n k z)
-across-in x y z ts o i = go (across x y ts) refl
-  where
-    go : (a : Across) → across x y ts ≡ a → (n : ℕ) × (k : ℕ) × (across x y ts ≡ Found n k z)
-    go (Found n k w) e =
-        (n, k, e ∙ ap (λ (v : ℕ). Found n k v) (in-third ts o (found-in ts (across-found x y ts n k w e)) i))
-    go Nothing e = absurd (omega (arith, across-nothing x y ts .0 e, in-uses i))

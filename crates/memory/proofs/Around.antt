@@ -16,7 +16,6 @@ use Rattle.links.specs.Memory.{placed}
 use Rattle.memory.specs.declared.Loops.{Loops}
 use Rattle.memory.specs.Layout.{at, beforeOf, afterOf, walked}
 use Rattle.memory.specs.Stands.{StandsAt}
-use Rattle.memory.specs.Moves.{topFree}
 use Rattle.memory.specs.Touched.{takenBy, touchedBy, NoneOf}
 use Rattle.memory.proofs.Standing.{Trail, Trails, trails}
 use Rattle.memory.proofs.Waiting.{waits-at}

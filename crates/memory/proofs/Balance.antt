@@ -4,21 +4,20 @@ use Prim.Native.Nat.{ℕ, zero, suc, _+_, _-_, _*_, _≤_, _<_}
 use native.Mathlib.Omega.{arith}
 use mathlib.Core.Bool.{Bool, true, false}
 use mathlib.Core.List.{List, [], _∷_}
-use mathlib.Core.Path.{_≡_, refl, sym, ap, _∙_, subst}
+use mathlib.Core.Path.{_≡_, refl, sym, ap, subst}
 use lib.Dec.{eqb, leb}
 use Rattle.rules.specs.declared.Operation.{Operation}
 use Rattle.rules.specs.declared.Operation.the-variants.{New, Forward, Backward, Border, Split, Close, Union, Start}
-use Rattle.rules.specs.Count.{num, same, occurs}
+use Rattle.rules.specs.Count.{same, occurs}
 use Rattle.rules.specs.Ring.{Ring}
 use Rattle.links.specs.Memory.{arc, placed}
-use Rattle.book.proofs.Counting.{same-yes}
 use Rattle.memory.specs.declared.Loops.{Loops}
 use Rattle.memory.specs.Layout.{at, beforeOf, afterOf, openOf, edgesStored, stacked}
 use Rattle.memory.specs.Stands.{StandsAt}
-use Rattle.memory.specs.Moves.{Held, topFree, newHeld, forwardHeld, backwardHeld, endedBy, endedHeld, turnedBy, turnedHeld, cutBy, nextCut, lastCut, bothCut, markedHeld, doubled, splitBy, splitHeld, unionHeld, startHeld}
+use Rattle.memory.specs.Moves.{Held, topFree, newHeld, forwardHeld, backwardHeld, endedBy, endedHeld, turnedBy, turnedHeld, cutBy, nextCut, lastCut, markedHeld, doubled, splitBy, splitHeld, unionHeld, startHeld}
 use Rattle.memory.specs.Decision.{heldBy}
 use Rattle.memory.specs.Performs.{Performs}
-use Rattle.memory.specs.Touched.{takenBy, touchedBy, NoneOf, stackPart, leavers}
+use Rattle.memory.specs.Touched.{takenBy, stackPart, leavers}
 use Rattle.memory.proofs.Standing.{stack-near}
 use Rattle.memory.proofs.Relinked.{stacked-same}
 

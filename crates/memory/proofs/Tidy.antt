@@ -1,11 +1,11 @@
 -- Every operation that is decided leaves the records tidy.
 -- Assumes nothing.
-use Prim.Native.Nat.{ℕ, _+_, _≤_, _<_}
+use Prim.Native.Nat.{ℕ}
 use mathlib.Core.Bool.{Bool, true, false}
-use mathlib.Core.List.{List, [], _∷_}
-use mathlib.Core.Path.{_≡_, refl, sym, ap, _∙_, subst}
+use mathlib.Core.List.{List, []}
+use mathlib.Core.Path.{_≡_, refl, sym, ap, subst}
 use lib.Dec.{eqb}
-use borrow.Author.Tests.{eqb-true, eqb-false}
+use borrow.Author.Tests.{eqb-false}
 use Rattle.rules.specs.declared.Operation.{Operation}
 use Rattle.rules.specs.declared.Operation.the-variants.{New, Forward, Backward, Border, Split, Close, Union, Start}
 use Rattle.rules.specs.Ring.{Ring}
@@ -19,10 +19,10 @@ use Rattle.memory.specs.declared.Decided.{Decided}
 use Rattle.memory.specs.declared.Decided.the-variants.{Refused, Builds, Marks}
 use Rattle.memory.specs.Stands.{ringsIn}
 use Rattle.memory.specs.Moves.{Held, markedHeld}
-use Rattle.memory.specs.Decision.{newPlan, forwardPlan, backwardPlan, splitPlan, closePlan, unionPlan, startPlan, allowedIf, restProposed, edgeProposed, proposedBy, proposed, roomFor, roomBy, decidedBy, decided, heldAfter, builtFront, markedFront}
+use Rattle.memory.specs.Decision.{newPlan, forwardPlan, backwardPlan, splitPlan, closePlan, unionPlan, allowedIf, restProposed, edgeProposed, proposedBy, proposed, roomFor, decidedBy, decided, heldAfter, builtFront, markedFront}
 use Rattle.memory.specs.Keeps.{Keeps, Ready, BuildsIt, MarksIt}
-use Rattle.memory.specs.Touched.{takenBy, touchedBy, NoneOf, Rearranged, Tidy}
-use Rattle.memory.proofs.Performing.{chosen, never, never-marks}
+use Rattle.memory.specs.Touched.{takenBy, touchedBy, NoneOf, Tidy}
+use Rattle.memory.proofs.Performing.{chosen, never}
 use Rattle.memory.proofs.Performed.{place-in, performs}
 use Rattle.memory.proofs.Ready.{ready-borders}
 use Rattle.memory.proofs.Next.{decides-as, no-mark, no-mark-built, no-mark-room, no-mark-rest, marks-live}

@@ -4,21 +4,19 @@ use Prim.Native.Nat.{ℕ, zero, suc, _+_, _-_, _*_, _≤_, _<_}
 use native.Mathlib.Omega.{arith}
 use mathlib.Core.Bool.{Bool, true, false}
 use mathlib.Core.List.{List, [], _∷_}
-use mathlib.Core.Path.{_≡_, refl, sym, ap, _∙_, subst}
-use lib.ListN.{length, set, getD, length-set}
+use mathlib.Core.Path.{_≡_, refl, sym, _∙_, subst}
+use lib.ListN.{length, set, getD}
 use lib.Dec.{eqb, leb}
 use lib.Seq.{getD-set-same, getD-set-other}
 use Rattle.rules.specs.declared.Operation.{Operation}
 use Rattle.rules.specs.declared.Operation.the-variants.{New, Forward, Backward, Border, Split, Close, Union, Start}
-use Rattle.rules.specs.Count.{num}
-use Rattle.links.specs.Memory.{Arc, arc}
 use Rattle.memory.specs.declared.Loops.{Loops}
 use Rattle.memory.specs.Layout.{at, beforeOf, afterOf, openOf, edgeStored, edgesStored, freed, released, walked, waits, movedDown}
-use Rattle.memory.specs.Moves.{Held, topFree, newHeld, forwardHeld, backwardHeld, endedBy, endedHeld, turnedBy, turnedHeld, cutBy, nextCut, lastCut, bothCut, markedHeld, doubled, splitBy, splitHeld, unionHeld, startHeld}
+use Rattle.memory.specs.Moves.{Held, topFree, newHeld, forwardHeld, backwardHeld, endedBy, endedHeld, turnedBy, turnedHeld, cutBy, nextCut, lastCut, markedHeld, doubled, splitBy, splitHeld, unionHeld, startHeld}
 use Rattle.memory.specs.Decision.{heldBy}
 use Rattle.memory.specs.Near.{Near, Borders}
 use Rattle.memory.specs.Performs.{Performs}
-use Rattle.memory.specs.Touched.{takenBy, touchedBy, NoneOf, OnlyAt, VerticesAt}
+use Rattle.memory.specs.Touched.{touchedBy, NoneOf, OnlyAt}
 
 -- a number of a list after a store is the one stored, or the one that was there
 set-either : (P : ℕ → Type 0) (m : List ℕ) (j k v : ℕ) → P (at m k) → P v → P (at (set m j v) k)

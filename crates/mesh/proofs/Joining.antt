@@ -3,15 +3,15 @@
 use Prim.Native.Nat.{ℕ, zero, suc, _+_, _*_, _-_, _≤_, _<_}
 use native.Mathlib.Omega.{arith}
 use mathlib.Core.Bool.{Bool, true, false, _&&_}
-use mathlib.Core.List.{List, [], _∷_}
+use mathlib.Core.List.{List, []}
 use mathlib.Core.Path.{_≡_, refl, sym, ap, _∙_, subst}
 use lib.ListN.{length, getD}
 use lib.Dec.{eqb}
-use borrow.Author.Tests.{eqb-true, eqb-false, eq-eqb, ne-eqb}
+use borrow.Author.Tests.{eqb-false, eq-eqb, ne-eqb}
 use Rattle.rules.specs.Triangle.{edgesOf, trianglesOf}
-use Rattle.rules.specs.Count.{hit, count, uses, unjoined}
+use Rattle.rules.specs.Count.{hit, count, uses}
 use Rattle.fans.proofs.Counting.{same-no, hit-yes, hit-from, hit-to}
-use Rattle.chains.specs.Corner.{cornerAfter, cornerBefore, firstTriangles, triangleAt, latest}
+use Rattle.chains.specs.Corner.{cornerAfter, cornerBefore, firstTriangles, latest}
 use Rattle.chains.specs.Chains.{Chains, Newest, Older}
 use Rattle.chains.proofs.Prefix.{uses-more}
 use Rattle.chains.proofs.Walking.{after-first, after-second, after-third, before-first, before-second, before-third, latest-below, latest-has, latest-other}

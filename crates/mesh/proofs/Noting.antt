@@ -9,17 +9,16 @@ use lib.ListN.{length, getD, set, length-set, replicate, length-replicate}
 use lib.Seq.{getD-set-same, getD-set-other}
 use lib.Dec.{eqb}
 use borrow.Author.Tests.{eqb-true, eqb-false, eq-eqb, ne-eqb}
-use Rattle.rules.specs.declared.Across.{Across}
-use Rattle.rules.specs.declared.Across.the-variants.{Found, Nothing}
+use Rattle.rules.specs.declared.Across.the-variants.{Found}
 use Rattle.rules.specs.Limits.{maxVertices}
 use Rattle.rules.specs.Triangle.{trianglesOf}
 use Rattle.rules.specs.Across.{across}
 use Rattle.fans.proofs.Tests.{all-distinct}
 use Rattle.fans.proofs.Finding.{across-found, found-in}
 use Rattle.chains.specs.Corner.{cornerAfter, cornerBefore, seenFrom, lastWith, latest}
-use Rattle.chains.specs.Chains.{Linked, Newest, Older, CountsFrom}
+use Rattle.chains.specs.Chains.{Linked, Newest, Older}
 use Rattle.chains.specs.Turn.{leftBack, leftOn}
-use Rattle.chains.proofs.Walking.{At, at-found, at-more, latest-with, Passed, Counting, counting-all}
+use Rattle.chains.proofs.Walking.{At, at-found, at-more, latest-with, Counting, counting-all}
 use Rattle.chains.proofs.Finding.{with-across, linked-first}
 use Rattle.mesh.specs.Turns.{noted, Fresh, Note, absent, present, Noted, AllNoted}
 

@@ -13,7 +13,7 @@ ghost use Rattle.rules.specs.Check.{allBelow, allDistinct, allUsed, checks};
 ghost use Rattle.rules.specs.Answer.{checkedAnswer};
 ghost use Rattle.chains.specs.Corner.{cornerAfter, cornerBefore, seenFrom};
 ghost use Rattle.chains.specs.Chains.{Chains, Finds, Newest, Older, linked, linkable, relinked, Sound, Linked, AllLinked};
-ghost use Rattle.chains.specs.Chains.{FreeIs, NewIs, CountsFrom};
+ghost use Rattle.chains.specs.Chains.{FreeIs, NewIs};
 ghost use Rattle.chains.specs.Turn.{leftOn, leftBack};
 ghost use Rattle.chains.specs.Checks.{fitsSize, checkChains, Answers};
 ghost use Rattle.mesh.specs.Joins.{UnjoinedIs};

@@ -123,9 +123,6 @@ module _ (m : List ℕ) where
   pub before-any : (i : ℕ) → getD (column m 1 maxPlaces) i 0 ≡ placeAt ps i .before
   before-any i = before-by i (ltb i maxPlaces) refl
 
-  pub open-any : (i : ℕ) → isOne (getD (column m 3 maxPlaces) i 0) ≡ placeAt ps i .«open»
-  open-any i = open-by i (ltb i maxPlaces) refl
-
   -- sums over what is read off: the first edge, and the others
   abbrev mark : ℕ → ℕ
   mark e = getD (column m 3 maxPlaces) e 0

@@ -3,19 +3,17 @@
 use Prim.Native.Nat.{ℕ, zero, suc, _-_, _≤_, _<_}
 use native.Mathlib.Omega.{arith}
 use mathlib.Core.Bool.{Bool, true, false, _&&_, _||_, false≢true}
-use mathlib.Core.List.{List, [], _∷_}
+use mathlib.Core.List.{List, []}
 use mathlib.Core.Path.{_≡_, refl, sym, ap, _∙_}
 use lib.Dec.{eqb, ltb, leb}
-use lib.ListN.{length, getD, set}
+use lib.ListN.{getD, set}
 use borrow.Author.Tests.{lt-ltb, le-ltb, le-leb, lt-leb, eq-eqb, ne-eqb}
 use Rattle.rules.specs.declared.Place.{Place}
 use Rattle.rules.specs.declared.Builder.{Builder}
 use Rattle.rules.specs.Limits.{maxPlaces}
-use Rattle.rules.specs.Buffer.{freePlace}
 use Rattle.rules.specs.View.{placeAt, follow, followed, loopPlaces}
 use Rattle.rules.specs.Test21.{placeFits}
 use Rattle.places.specs.Memory.{recordAt, records}
-use Rattle.places.proofs.Reading.{length-records}
 use Rattle.reading.proofs.Records.{records-at}
 use Rattle.opening.specs.Marks.{Marked, markable, allMarkable, flagged, returns, loopMarks, loopsMark, allFlagged}
 use Rattle.opening.proofs.Tests.{no-and, and-no, yes-and, and-yes}

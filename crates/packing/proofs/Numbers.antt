@@ -1,6 +1,6 @@
 -- The numbering buffer: what is read there, what a new number stored there gives, and what it holds in the end.
 -- Assumes nothing.
-use Prim.Native.Nat.{ℕ, zero, suc, _≤_, _<_}
+use Prim.Native.Nat.{ℕ, zero, suc, _<_}
 use native.Mathlib.Omega.{arith}
 use mathlib.Core.Bool.{Bool, true, false, false≢true}
 use mathlib.Core.List.{List, [], _∷_, _++_}
@@ -57,21 +57,6 @@ entry-some x vs h = entry-by x vs true h
 
 pub entry-none : (x : ℕ) (vs : List ℕ) → has x vs ≡ false → entryOf x vs ≡ unnumbered
 entry-none x vs h = entry-by x vs false h
-
--- a vertex has a number if its entry is not the mark
-pub entry-tells : (x : ℕ) (vs : List ℕ) → length vs ≤ unnumbered → (entryOf x vs ≡ unnumbered → ⊥) → has x vs ≡ true
-entry-tells x vs l h = go (has x vs) refl
-  where
-    go : (t : Bool) → has x vs ≡ t → t ≡ true
-    go true e = refl
-    go false e = absurd (h (entry-none x vs e))
-
-pub entry-marked : (x : ℕ) (vs : List ℕ) → length vs ≤ unnumbered → entryOf x vs ≡ unnumbered → has x vs ≡ false
-entry-marked x vs l h = go (has x vs) refl
-  where
-    go : (t : Bool) → has x vs ≡ t → t ≡ false
-    go true e = absurd (omega (arith, l, h, entry-some x vs e, index-below x vs e))
-    go false e = refl
 
 -- the first numbers stay
 index-left : (x : ℕ) (vs ws : List ℕ) → has x vs ≡ true → indexOf x (vs ++ ws) ≡ indexOf x vs

@@ -15,7 +15,7 @@ use Rattle.book.proofs.Counting.{same-yes, same-is}
 use Rattle.rules.specs.Buffer.{freePlace}
 use Rattle.rules.specs.View.{placeAt}
 use Rattle.places.specs.Memory.{recordAt}
-use Rattle.places.specs.Touched.{linkedTo, freedTo, linkedAll, freedAll}
+use Rattle.places.specs.Touched.{linkedTo, freedTo, freedAll}
 use Rattle.performing.specs.Noted.{linkedPart, freedPart, toLink, toFree, writtenBack}
 
 -- the list with these records as the memory has them; and with these records free

@@ -15,12 +15,11 @@ use Rattle.rules.specs.declared.Place.{Place}
 use Rattle.rules.specs.declared.Builder.{Builder}
 use Rattle.rules.specs.Limits.{maxPlaces}
 use Rattle.rules.specs.Count.{same, occurs}
-use Rattle.rules.specs.Ring.{Ring}
 use Rattle.rules.specs.Places.{ringsAfter}
 use Rattle.rules.specs.View.{placeAt}
 use Rattle.book.proofs.Counting.{same-yes, same-is}
 use Rattle.links.specs.Memory.{placed}
-use Rattle.places.specs.Memory.{isOne, recordAt, records}
+use Rattle.places.specs.Memory.{isOne, records}
 use Rattle.memory.specs.declared.Loops.{Loops}
 use Rattle.memory.specs.Layout.{at}
 use Rattle.memory.specs.Stands.{ringsIn, Stands}

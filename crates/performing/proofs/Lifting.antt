@@ -20,16 +20,16 @@ use Rattle.rules.specs.Places.{ringsAfter}
 use Rattle.rules.specs.Machine.{Machine, Step, refused, begun, built, declared, finished, operation, finishing, longEnough}
 use Rattle.rules.specs.Book.{answerOf}
 use Rattle.rules.specs.Buffer.{freePlace, Buffers, lengths}
-use Rattle.rules.specs.View.{placeAt, placeRings, placesOf, view}
+use Rattle.rules.specs.View.{placeAt, placesOf, view}
 use Rattle.rules.specs.Test21.{countsFit, apart, placesFit, loopsFit, linksFit, trianglesFit, sound, soundElse}
-use Rattle.rules.specs.Build.{viewed, operates, finishes, withTriangle, InLoop, NoPlace, Leaves, OperatedBy}
+use Rattle.rules.specs.Build.{viewed, operates, finishes, withTriangle, Leaves, OperatedBy}
 use Rattle.book.proofs.Counting.{and-left, and-right, same-yes, same-is}
 use Rattle.links.specs.Memory.{placed}
-use Rattle.places.specs.Memory.{recordAt, records, countOf, counted, memoryOf}
+use Rattle.places.specs.Memory.{records, counted, memoryOf}
 use Rattle.places.specs.Touched.{linkedPlace, freedPlace, linkedTo, freedTo, Linkable, Freeable}
 use Rattle.performing.specs.Noted.{linkedPart, freedPart, toLink, toFree, writtenBack}
-use Rattle.places.proofs.Counting.{count-short, count-within}
-use Rattle.places.proofs.Reading.{length-records, memory-reads}
+use Rattle.places.proofs.Counting.{count-short}
+use Rattle.places.proofs.Reading.{memory-reads}
 use Rattle.memory.specs.Layout.{at}
 use Rattle.memory.proofs.Around.{either}
 use Rattle.reading.specs.Reading.{lent}
@@ -38,7 +38,7 @@ use Rattle.reading.proofs.Alike.{Alike, All, all-below, placed-alike, links-kep
 use Rattle.reading.proofs.Lifting.{loaded-sound, loaded-view}
 use Rattle.reading.proofs.Rings.{places-placed}
 use Rattle.building.specs.Promised.{lentTo, Operating}
-use Rattle.performing.specs.Performing.{ringsOf, Written, Accepts, Refuses, Done, OperatesOn}
+use Rattle.performing.specs.Performing.{ringsOf, Written, Accepts, Done, OperatesOn}
 use Rattle.performing.proofs.Back.{linkedList, freedList, back-is, length-linked, length-freed, freed-in, freed-out, linked-in, linked-out}
 
 -- a call that tests 21 first comes to the same, on the list and on the records that are read from it

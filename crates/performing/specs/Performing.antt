@@ -19,7 +19,6 @@ use Rattle.rules.specs.Places.{ringsAfter}
 use Rattle.rules.specs.Machine.{Machine, Step, refused, begun, built, declared, finished}
 use Rattle.rules.specs.Answer.{operatedAnswer}
 use Rattle.rules.specs.Book.{answerOf}
-use Rattle.rules.specs.Buffer.{Buffers}
 use Rattle.rules.specs.View.{placeAt, placeRings}
 use Rattle.rules.specs.Test21.{soundElse}
 use Rattle.rules.specs.Build.{viewed, operates, withTriangle}

@@ -4,13 +4,10 @@ use Prim.Native.Nat.{ℕ, zero, suc, _+_, _*_, _<_, _≤_}
 use native.Mathlib.Omega.{arith}
 use mathlib.Core.Path.{_≡_, refl, ap, _∙_}
 use mathlib.Core.List.{List, [], _∷_, _++_}
-use lib.ListN.{length, getD, set, replicate}
+use lib.ListN.{getD, set, replicate}
 use lib.Seq.{getD-set-other}
 use Rattle.rules.specs.declared.Place.{Place}
-use Rattle.rules.specs.Limits.{maxPlaces}
-use Rattle.rules.specs.Buffer.{freePlace}
-use Rattle.places.specs.Memory.{memorySize, isOne, recordAt, records, loaded, blank, counted, memoryOf}
-use Rattle.places.proofs.Counting.{count-within}
+use Rattle.places.specs.Memory.{isOne, recordAt, records, loaded}
 use Rattle.places.proofs.Stored.{number-other}
 
 -- loading changes no number past the records
@@ -26,15 +23,6 @@ zeros : (n j : ℕ) → getD (replicate {A = ℕ} n 0) j 0 ≡ 0
 zeros zero j = refl
 zeros (suc n) zero = refl
 zeros (suc n) (suc j) = zeros n j
-
--- the blank memory holds zeros
-blank-zero : (j : ℕ) → getD blank j 0 ≡ 0
-unfolding blank
-blank-zero j = zeros memorySize j
-
--- the core's own numbers are zero where a call begins
-pub own-zero : (ps : List Place) (j : ℕ) → 4 * maxPlaces ≤ j → getD (memoryOf ps) j 0 ≡ 0
-own-zero ps j h = loaded-beyond (counted ps) ps blank j (omega (arith, h, count-within (length ps) .1)) ∙ blank-zero j
 
 -- a store past a record, and past the first n
 pub record-own : (m : List ℕ) (i j x : ℕ) → 4 * i + 3 < j → recordAt (set m j x) i ≡ recordAt m i

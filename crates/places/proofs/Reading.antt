@@ -6,13 +6,13 @@ use mathlib.Core.Path.{_≡_, refl, sym, ap, _∙_, subst}
 use mathlib.Core.Bool.{Bool, true, false}
 use mathlib.Core.List.{List, [], _∷_, _++_}
 use lib.Dec.{ltb}
-use lib.ListN.{length, set, take, drop, length-append, length-replicate, take-append-drop}
-use lib.Seq.{length-take-le, take-suc, drop-cons, set-at, set-append-left}
+use lib.ListN.{length, set, take, length-append, length-replicate}
+use lib.Seq.{take-suc, set-at, set-append-left}
 use borrow.Author.Tests.{ltb-true, ltb-false}
 use Rattle.rules.specs.declared.Place.{Place}
 use Rattle.rules.specs.Buffer.{freePlace}
 use Rattle.rules.specs.View.{placeAt}
-use Rattle.places.specs.Memory.{memorySize, storedAt, recordAt, records, loaded, saved, blank, counted, memoryOf}
+use Rattle.places.specs.Memory.{memorySize, storedAt, recordAt, records, loaded, blank, counted, memoryOf}
 use Rattle.places.proofs.Counting.{count-within}
 use Rattle.places.proofs.Stored.{length-stored, record-other, record-same}
 
@@ -30,9 +30,6 @@ length-records (suc k) m = length-append (records k m) (recordAt m k ∷ []) ∙
 length-blank : length blank ≡ memorySize
 unfolding blank
 length-blank = length-replicate {A = ℕ} memorySize 0
-
-pub length-memory : (ps : List Place) → length (memoryOf ps) ≡ memorySize
-length-memory ps = length-loaded (counted ps) ps blank ∙ length-blank
 
 -- a record that was loaded is the list's
 loaded-by : (k i : ℕ) (ps : List Place) (m : List ℕ) → (i < k → recordAt (loaded k ps m) i ≡ placeAt ps i) → i < suc k
@@ -65,27 +62,6 @@ pub memory-reads : (ps : List Place) → records (counted ps) (memoryOf ps) ≡ 
 memory-reads ps =
     records-loaded (counted ps) ps blank (count-within (length ps) .0) (omega (arith, count-within (length ps) .1, length-blank))
 
-snoc-append : (xs : List Place) (a : Place) (ys : List Place) → (xs ++ (a ∷ [])) ++ ys ≡ xs ++ (a ∷ ys)
-snoc-append [] a ys = refl
-snoc-append (x ∷ xs) a ys = ap (λ (zs : List Place). x ∷ zs) (snoc-append xs a ys)
-
--- what comes back: the list that the plain memory is saved to has its records, and the rest is as it was
-pub saved-is : (n : ℕ) (m : List ℕ) (ps : List Place) → n ≤ length ps → saved n m ps ≡ records n m ++ drop n ps
-unfolding saved records
-saved-is zero m ps h = refl
-saved-is (suc k) m ps h =
-    ap (λ (xs : List Place). set xs k (recordAt m k))
-    (saved-is k m ps (omega (arith, h)) ∙ ap (λ (ys : List Place). records k m ++ ys) (drop-cons ps k freePlace (omega (arith, h))))
-    ∙ set-at (records k m) (placeAt ps k) (drop (suc k) ps) (recordAt m k) k (length-records k m)
-    ∙ sym (snoc-append (records k m) (recordAt m k) (drop (suc k) ps))
-
--- a core that leaves the records as they were leaves the list as it was; so does one that leaves the plain memory as it was
-pub saved-same : (n : ℕ) (m : List ℕ) (ps : List Place) → n ≤ length ps → records n m ≡ take n ps → saved n m ps ≡ ps
-saved-same n m ps h e = saved-is n m ps h ∙ ap (λ (xs : List Place). xs ++ drop n ps) e ∙ take-append-drop n ps
-
-pub refused-same : (ps : List Place) → saved (counted ps) (memoryOf ps) ps ≡ ps
-refused-same ps = saved-same (counted ps) (memoryOf ps) ps (count-within (length ps) .0) (memory-reads ps)
-
 -- a store of the core is a store to the list
 records-below : (n : ℕ) (m : List ℕ) (i : ℕ) (p : Place) → n ≤ i → records n (storedAt m i p) ≡ records n m
 unfolding records
@@ -112,9 +88,3 @@ pub records-stored : (n : ℕ) (m : List ℕ) (i : ℕ) (p : Place) → i < n �
     → records n (storedAt m i p) ≡ set (records n m) i p
 records-stored zero m i p h g = absurd (omega (arith, h))
 records-stored (suc k) m i p h g = stored-by k m i p (λ l. records-stored k m i p l (omega (arith, g))) h g (ltb i k) refl
-
--- a change within the first n records of a list
-pub set-front : (n : ℕ) (ps : List Place) (i : ℕ) (p : Place) → i < n → n ≤ length ps → set (take n ps) i p ++ drop n ps ≡ set ps i p
-set-front n ps i p h g =
-    sym (set-append-left (take n ps) (drop n ps) i p (omega (arith, h, length-take-le n ps g)))
-    ∙ ap (λ (xs : List Place). set xs i p) (take-append-drop n ps)

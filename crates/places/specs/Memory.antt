@@ -1,5 +1,5 @@
 -- The core's plain memory: 5,328 numbers, of which the first 4,096 are four for each of 1,024 records; and how a list of records
--- is read into it and written back.
+-- is read into it.
 -- Assumes nothing.
 use Prim.Native.Nat.{ℕ, zero, suc, _+_, _*_}
 use mathlib.Core.Bool.{Bool, true, false}
@@ -45,11 +45,6 @@ records (suc i) m = records i m ++ (recordAt m i ∷ [])
 unfoldable pub loaded : ℕ → List Place → List ℕ → List ℕ
 loaded zero ps m = m
 loaded (suc i) ps m = storedAt (loaded i ps m) i (placeAt ps i)
-
--- the list ps with the first n records of the plain memory m
-unfoldable pub saved : ℕ → List ℕ → List Place → List Place
-saved zero m ps = ps
-saved (suc i) m ps = set (saved i m ps) i (recordAt m i)
 
 -- the plain memory that holds nothing
 unfoldable pub blank : List ℕ

@@ -9,7 +9,7 @@ ghost use Rattle.rules.specs.Limits.{maxPlaces};
 ghost use Rattle.rules.specs.View.{placeAt};
 ghost use Rattle.places.specs.Records.{linkedAt, freedAt, clearedTo};
 ghost use Rattle.places.specs.Touched.{linkedCount, linkedPlace, freedStart, freedEnd, freedPlace, Linkable, Freeable, linkedAll, freedAll};
-ghost use Rattle.places.specs.Memory.{numberOf, isOne, storedAt, recordAt, loaded, saved, blank, countOf};
+ghost use Rattle.places.specs.Memory.{numberOf, isOne, storedAt, recordAt, loaded, blank, countOf};
 
 // All loops together have at most so many places.
 pub const PLACES: usize = Builder::MAX_PLACES;
@@ -224,17 +224,5 @@ pub fn free_all(m: &Memory, s: &mut [Place])
         let i = freed_at(m, k);
         free(s, i);
         k += 1;
-    }
-}
-
-// The plain memory's first n records go into the list; its other records stay.
-pub fn save(m: &Memory, s: &mut [Place], n: usize)
-    requires { ⌜ (n ≤ length (now s)) × (n ≤ maxPlaces) ⌝ }
-    ensures { λ _. ⌜ now (s .exit) ≡ saved n (now (m .entry)) (now (s .entry)) ⌝ }
-{
-    let mut i = 0;
-    while i < n {
-        s[i] = record_at(m, i);
-        i += 1;
     }
 }

@@ -1,26 +1,25 @@
--- From a lent list of records to the plain memory that it is loaded into, and from a memory to the list that it is saved to: the test of
--- 21 says the same of both, and a state that passes is read as the same machine.
+-- From a lent list of records to the plain memory that it is loaded into: the test of 21 says the same of both, and a state that passes
+-- is read as the same machine.
 -- Assumes nothing.
 use Prim.Native.Nat.{ℕ, _≤_, _<_}
 use native.Mathlib.Omega.{arith}
 use mathlib.Core.Bool.{Bool, true, false}
-use mathlib.Core.List.{List, _++_}
+use mathlib.Core.List.{List}
 use mathlib.Core.Path.{_≡_, refl, sym, ap, _∙_}
 use lib.Dec.{ltb, leb}
-use lib.ListN.{length, take, drop, length-append, length-drop, List·getD-append}
-use lib.Seq.{take-length, length-take-le, getD-take, drop-at}
+use lib.ListN.{length, take}
+use lib.Seq.{take-length, length-take-le, getD-take}
 use borrow.Author.Tests.{ltb-true, ltb-false, le-leb}
 use Rattle.rules.specs.declared.Place.{Place}
 use Rattle.rules.specs.declared.Builder.{Builder}
 use Rattle.rules.specs.Limits.{maxPlaces}
 use Rattle.rules.specs.Buffer.{freePlace, Buffers}
-use Rattle.rules.specs.View.{placeAt, view}
+use Rattle.rules.specs.View.{view}
 use Rattle.rules.specs.Test21.{linksFit, sound}
-use Rattle.places.specs.Memory.{records, saved, counted, memoryOf}
-use Rattle.places.proofs.Counting.{count-short, count-long, count-within}
-use Rattle.places.proofs.Reading.{length-records, memory-reads, saved-is, saved-same}
-use Rattle.reading.specs.Reading.{lent, SameRecords}
-use Rattle.reading.proofs.Records.{records-alike}
+use Rattle.places.specs.Memory.{records, counted, memoryOf}
+use Rattle.places.proofs.Counting.{count-short, count-long}
+use Rattle.places.proofs.Reading.{memory-reads}
+use Rattle.reading.specs.Reading.{lent}
 use Rattle.reading.proofs.Alike.{Alike, sound-links, sound-alike, view-alike}
 
 abbrev buffers : List ℕ → List Place → Buffers
@@ -60,38 +59,3 @@ module _ (b : Builder) (xs : List ℕ) (ps : List Place) where
 
   pub loaded-view : sound b (record { triangles = xs; places = ps }) ≡ true → view b xs ps ≡ view b xs (records (counted ps) (memoryOf ps))
   loaded-view h = view-by (ltb (length ps) maxPlaces) refl (sound-links b (buffers xs ps) h)
-
--- a list of 1,024 records or more that a memory is saved to
-module _ (m : List ℕ) (ps : List Place) (long : maxPlaces ≤ length ps) where
-  pub counted-saved : saved (counted ps) m ps ≡ saved maxPlaces m ps
-  counted-saved = ap (λ (n : ℕ). saved n m ps) (sym (count-long (length ps) long))
-
-  saved-parts : saved maxPlaces m ps ≡ records maxPlaces m ++ drop maxPlaces ps
-  saved-parts = saved-is maxPlaces m ps long
-
-  pub saved-drop : drop maxPlaces (saved maxPlaces m ps) ≡ drop maxPlaces ps
-  saved-drop = ap (drop maxPlaces) saved-parts ∙ drop-at (records maxPlaces m) (drop maxPlaces ps) maxPlaces (length-records maxPlaces m)
-
-  pub saved-length : length (saved maxPlaces m ps) ≡ length ps
-  saved-length =
-      ap length saved-parts ∙ length-append (records maxPlaces m) (drop maxPlaces ps)
-      ∙ omega (arith, length-records maxPlaces m, length-drop maxPlaces ps, long)
-
-  saved-alike : Alike maxPlaces (records maxPlaces m) (saved maxPlaces m ps)
-  saved-alike i h =
-      ap (λ (qs : List Place). placeAt qs i) saved-parts
-      ∙ List·getD-append (records maxPlaces m) (drop maxPlaces ps) freePlace i (omega (arith, h, length-records maxPlaces m))
-
-  pub saved-sound : (b : Builder) (xs : List ℕ) → sound b (record { triangles = xs; places = saved maxPlaces m ps }) ≡ sound b (lent xs maxPlaces m)
-  saved-sound b xs =
-      sound-alike (records maxPlaces m) (saved maxPlaces m ps) saved-alike
-      (both-long (records maxPlaces m) (saved maxPlaces m ps) (omega (arith, length-records maxPlaces m)) (omega (arith, saved-length, long))) b xs
-
-  pub saved-view : (b : Builder) (xs : List ℕ) → linksFit b (records maxPlaces m) ≡ true → view b xs (saved maxPlaces m ps) ≡ view b xs (records maxPlaces m)
-  saved-view b xs h = view-alike (records maxPlaces m) (saved maxPlaces m ps) saved-alike b xs h
-
--- a call that leaves the records as they were loaded leaves the list as it was
-pub same-saved : (m : List ℕ) (ps : List Place) → SameRecords (memoryOf ps) m → saved (counted ps) m ps ≡ ps
-same-saved m ps s =
-    saved-same (counted ps) m ps (count-within (length ps) .0)
-    (records-alike (counted ps) (memoryOf ps) m s (count-within (length ps) .1) ∙ memory-reads ps)

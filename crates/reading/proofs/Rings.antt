@@ -3,13 +3,12 @@
 use Prim.Native.Nat.{ℕ, zero, suc}
 use mathlib.Core.Bool.{Bool, true, false}
 use mathlib.Core.List.{List, [], _∷_, _++_}
-use mathlib.Core.Path.{_≡_, refl, sym, ap, ap₂, _∙_, subst}
-use lib.ListN.{length, getD}
+use mathlib.Core.Path.{_≡_, refl, sym, ap, ap₂, _∙_}
 use Rattle.rules.specs.declared.Place.{Place}
 use Rattle.rules.specs.declared.Builder.{Builder}
 use Rattle.rules.specs.Count.{occurs}
-use Rattle.rules.specs.Ring.{Node, opened, marked, Ring, vertex, isOpen, startOr}
-use Rattle.rules.specs.View.{placeAt, follow, placeNode, placeNodes, placeRings, loopPlaces, placesOf}
+use Rattle.rules.specs.Ring.{Node, opened, marked, Ring, vertex, isOpen}
+use Rattle.rules.specs.View.{placeAt, placeNode, placeNodes, placeRings, loopPlaces, placesOf}
 use Rattle.links.specs.Memory.{placed}
 use Rattle.places.specs.Memory.{records}
 use Rattle.memory.proofs.Standing.{Trail}

@@ -4,3 +4,4 @@ pub mod Models
 pub mod States
 pub mod Examples
 pub mod Log
+pub mod Places

@@ -1,6 +1,6 @@
 -- What the operation reader answers, in the words of the rules, and the turns with it.
 -- Assumes nothing.
-use Prim.Native.Nat.{ℕ, suc, _*_, _-_, _≤_, _<_}
+use Prim.Native.Nat.{ℕ, _*_, _-_, _<_}
 use native.Mathlib.Omega.{arith}
 use mathlib.Core.Bool.{Bool, true, false}
 use mathlib.Core.List.{List}
@@ -16,7 +16,7 @@ use Rattle.unpacking.specs.declared.Stepped.{Stepped}
 use Rattle.unpacking.specs.declared.Stepped.the-variants.{Going, Refused}
 use Rattle.unpacking.specs.declared.Progress.{Progress}
 use Rattle.unpacking.specs.Runs.{isComplete, Beyond, OperateOf}
-use Rattle.unpacking.specs.Progressing.{over, progressOf, HeldBy, Leads}
+use Rattle.unpacking.specs.Progressing.{over, progressOf, HeldBy}
 use Rattle.unpacking.proofs.Operating.{step-broken, step-read}
 use Rattle.unpacking.proofs.Leading.{going-held, turn-over, turn-complete, turn-step, progress-less}
 use Rattle.unpacker.specs.Turns.{StepRead, TurnOf}

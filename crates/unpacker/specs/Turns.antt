@@ -2,7 +2,6 @@
 -- Assumes nothing.
 use Prim.Native.Nat.{ℕ, _<_}
 use mathlib.Core.List.{List}
-use mathlib.Core.Path.{_≡_}
 use lib.ListN.{length}
 use Rattle.memory.specs.declared.Front.{Front}
 use Rattle.wire.specs.declared.reader.OperationRead.{OperationRead}

@@ -16,10 +16,6 @@ use Rattle.unpacking.specs.declared.Stepped.{Stepped}
 use Rattle.unpacking.specs.declared.Stepped.the-variants.{Going, Refused}
 use Rattle.unpacking.specs.Runs.{isComplete, isAsStated, tidied}
 
--- after an answer, and after a refusal
-pub tidied-model : (r : Unpacked) (n : ℕ) (ts : List ℕ) (x : _) → r ≡ U.Model x → ts ≡ tidied r n ts
-tidied-model r n ts x e = sym (ap (λ (q : Unpacked). tidied q n ts) e)
-
 pub tidied-refusal : (r : Unpacked) (n k : ℕ) (ts ts′ : List ℕ) → r ≡ U.Refused k → ts′ ≡ zeroed n ts → ts′ ≡ tidied r n ts
 tidied-refusal r n k ts ts′ e h = h ∙ sym (ap (λ (q : Unpacked). tidied q n ts) e)
 

@@ -1,33 +1,29 @@
 -- The end of a run: the model is complete; 19, 20, or the answer and the triangles as built.
 -- Assumes nothing.
-use Prim.Native.Nat.{ℕ, zero, suc, _+_, _-_, _*_, _/_, _≤_, _<_}
+use Prim.Native.Nat.{ℕ, zero, _+_, _-_, _*_, _/_, _<_}
 use native.Mathlib.Omega.{arith}
-use mathlib.Core.Bool.{Bool, true, false, _&&_, false≢true}
-use mathlib.Core.List.{List, [], _∷_, _++_}
+use mathlib.Core.Bool.{Bool, true, false, _&&_}
+use mathlib.Core.List.{List, [], _++_}
 use mathlib.Core.Path.{_≡_, refl, sym, ap, ap₂, _∙_, subst}
-use lib.ListN.{length, getD, take, drop, replicate, take-append-drop}
+use lib.ListN.{length, getD, take, drop, take-append-drop}
 use lib.Seq.{length-take-le, getD-take}
 use lib.IntN.{ℤ, pos, _+ℤ_, _-ℤ_}
-use lib.Dec.{eqb, leb}
+use lib.Dec.{eqb}
 use borrow.Author.Tests.{eqb-true}
-use Rattle.rules.specs.declared.Triangle.{Triangle}
 use Rattle.rules.specs.declared.Counts.{Counts}
 use Rattle.rules.specs.declared.Totals.{Totals}
-use Rattle.rules.specs.declared.Unpacked.{Unpacked}
 use Rattle.rules.specs.declared.Unpacked.the-variants as U
-use Rattle.rules.specs.Limits.{maxPlaces, maxVertices, maxNumbers, inRange}
-use Rattle.rules.specs.Triangle.{trianglesOf, edgesOf}
-use Rattle.rules.specs.Check.{allDistinct, noneTwice}
+use Rattle.rules.specs.Limits.{maxVertices, inRange}
+use Rattle.rules.specs.Triangle.{trianglesOf}
 use Rattle.rules.specs.Fan.{about, oneRun, oneFanEach}
 use Rattle.rules.specs.Machine.{Machine, complete, asStated, totals}
-use Rattle.rules.specs.Answer.{Answer, refusal, unpacked, unpackedAnswer}
-use Rattle.rules.specs.Buffer.{over, zeroed}
-use Rattle.rules.specs.Unpack.{Ran, stopped, completed, numbersOf, restFits, unpackRun, unpackEnded}
-use Rattle.book.specs.Consistent.{Ranges}
-use Rattle.book.proofs.Counting.{and-left, and-right}
+use Rattle.rules.specs.Answer.{Answer, refusal, unpacked}
+use Rattle.rules.specs.Buffer.{over}
+use Rattle.rules.specs.Unpack.{Ran, numbersOf}
+use Rattle.book.proofs.Counting.{and-left}
 use Rattle.book.proofs.Bounds.{bounded-ranges}
 use Rattle.links.proofs.Named.{named-lives}
-use Rattle.chains.specs.Chains.{Chains, Sound, Linked}
+use Rattle.chains.specs.Chains.{Linked}
 use Rattle.chains.proofs.Linking.{chains-same}
 use Rattle.memory.specs.declared.Front.{Front}
 use Rattle.memory.specs.Layout.{verticesOf}
@@ -35,10 +31,8 @@ use Rattle.memory.specs.Stands.{ringsIn}
 use Rattle.memory.specs.Keeps.{Keeps}
 use Rattle.memory.proofs.Deciding.{stands-live}
 use Rattle.onefan.proofs.OneFan.{fanned-one-run}
-use Rattle.unpacking.specs.declared.Stepped.{Stepped}
-use Rattle.unpacking.specs.declared.Stepped.the-variants.{Going, Refused}
-use Rattle.unpacking.specs.Runs.{Runs, isComplete, isAsStated, modelAnswer, endBy, endAnswer, Whole, Concludes, Beyond, bitsFrom}
-use Rattle.unpacking.proofs.Order.{asBuilt, length-numbers, built-different, built-once, fan-built, same-fans}
+use Rattle.unpacking.specs.Runs.{Runs, isComplete, isAsStated, modelAnswer, endBy, endAnswer, Beyond}
+use Rattle.unpacking.proofs.Order.{length-numbers, built-different, built-once, fan-built, same-fans}
 use Rattle.unpacking.proofs.Starting.{InRange, in-range}
 use Rattle.unpacking.proofs.Meeting.{zero-unmet}
 

@@ -1,11 +1,11 @@
 -- Of the place list an unpacking's answer and triangles depend on its length only; and the answer of a run gives the unpacking's.
 -- Assumes nothing.
-use Prim.Native.Nat.{ℕ, zero, suc, _+_, _*_, _≤_, _<_}
+use Prim.Native.Nat.{ℕ, zero, _+_, _*_, _≤_, _<_}
 use native.Mathlib.Omega.{arith}
-use mathlib.Core.Bool.{Bool, true, false, _&&_, false≢true}
-use mathlib.Core.List.{List, [], _∷_, _++_}
+use mathlib.Core.Bool.{Bool, true, false, _&&_}
+use mathlib.Core.List.{List, [], _++_}
 use mathlib.Core.Path.{_≡_, refl, sym, ap, ap₂, _∙_, subst}
-use lib.ListN.{length, drop, replicate, length-replicate}
+use lib.ListN.{length, replicate, length-replicate}
 use lib.Dec.{leb}
 use borrow.Author.Tests.{le-leb, lt-leb}
 use Rattle.rules.specs.declared.Counts.{Counts}
@@ -22,7 +22,7 @@ use Rattle.rules.specs.Fields.{Fields, no-pack, fields, fieldsOf}
 use Rattle.rules.specs.Unpack.{Ran, stopped, completed, runOf, numbersOf, restFits, UnpackResult, turnedDown, unpackRefused, unpackDone, unpackEnded, unpackRun, unpackFields, unpack}
 use Rattle.unpacking.specs.declared.Stepped.{Stepped}
 use Rattle.unpacking.specs.declared.Stepped.the-variants.{Going, Refused}
-use Rattle.unpacking.specs.Runs.{Beyond, bitsFrom, endBy, endAnswer, Ends, EndsAt, Answers, tidied}
+use Rattle.unpacking.specs.Runs.{Beyond, bitsFrom, endBy, endAnswer, Ends, Answers, tidied}
 use Rattle.unpacking.specs.Lent.{lent, unpackOn, isPast}
 use Rattle.unpacking.proofs.Ending.{whole-over}
 

@@ -3,7 +3,7 @@
 use Prim.Native.Nat.{ℕ, _-_, _≤_, _<_}
 use mathlib.Core.Bool.{Bool, true, false}
 use mathlib.Core.List.{List}
-use mathlib.Core.Path.{_≡_, refl, sym, ap, _∙_, subst}
+use mathlib.Core.Path.{_≡_, refl, sym, _∙_, subst}
 use Rattle.rules.specs.declared.Counts.{Counts}
 use Rattle.rules.specs.Machine.{Machine, complete}
 use Rattle.rules.specs.Unpack.{Ran, stopped, runAll}

@@ -4,13 +4,12 @@ use Prim.Native.Nat.{ℕ, _+_, _*_, _≤_, _<_}
 use native.Mathlib.Omega.{arith}
 use mathlib.Core.Bool.{Bool, true, false, not}
 use mathlib.Core.List.{List}
-use mathlib.Core.Path.{_≡_, refl, sym, ap, _∙_, subst}
+use mathlib.Core.Path.{_≡_, sym, _∙_, subst}
 use lib.ListN.{length}
 use borrow.Author.Tests.{not-true, not-false}
 use Rattle.rules.specs.declared.Operation.{Operation}
 use Rattle.rules.specs.Limits.{maxPlaces, maxVertices}
 use Rattle.rules.specs.Code.{breaks-off, read, readOperation}
-use Rattle.rules.specs.Machine.{Machine}
 use Rattle.chains.specs.Chains.{relinked}
 use Rattle.memory.specs.declared.Front.{Front}
 use Rattle.memory.specs.declared.Plan.{Plan}
@@ -22,7 +21,7 @@ use Rattle.memory.specs.Keeps.{Ready}
 use Rattle.unpacking.specs.declared.Stepped.{Stepped}
 use Rattle.unpacking.specs.declared.Stepped.the-variants.{Going, Refused}
 use Rattle.unpacking.specs.Met.{metAfter}
-use Rattle.unpacking.specs.Runs.{Runs, Held, written, bitsFrom, Beyond, OperateOf, StepOf}
+use Rattle.unpacking.specs.Runs.{Held, written, bitsFrom, Beyond, OperateOf, StepOf}
 use Rattle.unpacking.specs.Rule.{RuleIs}
 use Rattle.unpacking.proofs.Writing.{beyond-written}
 use Rattle.unpacking.proofs.Stepping.{runs-ready, turn-broken, turn-refused, turn-ruled, turn-built, built-fits, built-few, built-third, turn-marked, marked-live}

@@ -8,13 +8,13 @@ use mathlib.Core.Path.{_≡_, refl, sym, ap, ap₂, _∙_, subst}
 use lib.ListN.{length, length-append}
 use lib.Dec.{eqb}
 use Rattle.rules.specs.declared.Triangle.{Triangle}
-use Rattle.rules.specs.Triangle.{tri, distinct, trianglesOf, Edge, edge, edgesOf}
+use Rattle.rules.specs.Triangle.{tri, distinct, trianglesOf, edge, edgesOf}
 use Rattle.rules.specs.Count.{count, uses, unjoined}
 use Rattle.rules.specs.Table.{Side, glued, fresh, sideRule, edgeRule}
 use Rattle.rules.specs.Fan.{about, OneFan, oneRun, oneFanEach}
 use Rattle.rules.specs.Check.{allDistinct, noneTwice}
 use Rattle.rules.specs.Unpack.{numbersOf}
-use Rattle.fans.specs.Corner.{In, Different}
+use Rattle.fans.specs.Corner.{In}
 use Rattle.fans.proofs.Corners.{in-next, in-uses}
 use Rattle.fans.proofs.Tests.{all-distinct, none-twice}
 use Rattle.fans.proofs.Fans.{one-fan, one-fan-each}

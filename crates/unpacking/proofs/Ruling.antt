@@ -1,35 +1,23 @@
 -- The edge rule by look-ups: one law for each way through its test.
 -- Assumes nothing.
 use Prim.Native.Nat.{ℕ, zero, suc, _*_}
-use native.Mathlib.Omega.{arith}
-use mathlib.Core.Bool.{Bool, true, false, _&&_, not, false≢true}
+use mathlib.Core.Bool.{Bool, true, false, _&&_, not}
 use mathlib.Core.List.{List}
 use mathlib.Core.Path.{_≡_, refl, sym, ap, ap₂, _∙_}
 use borrow.Author.Tests.{not-true, not-false}
 use Rattle.rules.specs.declared.Triangle.{Triangle}
 use Rattle.rules.specs.declared.Operation.{Operation}
-use Rattle.rules.specs.Triangle.{distinct, edgesOf}
-use Rattle.rules.specs.Count.{unjoined}
-use Rattle.rules.specs.Table.{Side, glued, fresh, sideRule, edgeRule}
+use Rattle.rules.specs.Triangle.{distinct}
+use Rattle.rules.specs.Table.{Side, glued, fresh, sideRule}
 use Rattle.fans.specs.Corner.{Different}
 use Rattle.fans.proofs.Tests.{distinct-different}
-use Rattle.chains.specs.Corner.{firstTriangles, isFree}
-use Rattle.chains.specs.Chains.{Chains, FreeIs}
+use Rattle.chains.specs.Corner.{firstTriangles}
+use Rattle.chains.specs.Chains.{Chains}
 use Rattle.memory.specs.declared.Plan.{Plan}
 use Rattle.memory.specs.Decision.{sideOf}
-use Rattle.unpacking.specs.Rule.{isTested, planRule, ruledBy, ruleAt, UnjoinedIs, SideIs, PlanIs, RuleIs}
+use Rattle.unpacking.specs.Rule.{isTested, planRule, ruledBy, UnjoinedIs, SideIs, PlanIs, RuleIs}
 
 module _ (xs cs : List ℕ) (x y : ℕ) where
-  pub unjoined-not : (a : Bool) → FreeIs xs cs x y a → not a ≡ true → UnjoinedIs xs cs x y false
-  unfolding isFree
-  unjoined-not a f h n k d =
-      sym (ap (λ (b : Bool). b && isFree y x (firstTriangles n xs)) (sym (f n k d) ∙ not-true a h))
-
-  pub unjoined-on : (a b : Bool) → FreeIs xs cs x y a → not a ≡ false → FreeIs xs cs y x b → UnjoinedIs xs cs x y b
-  unfolding isFree
-  unjoined-on a b f h g n k d =
-      g n k (λ e. d (sym e)) ∙ sym (ap (λ (c : Bool). c && isFree y x (firstTriangles n xs)) (sym (f n k d) ∙ not-false a h))
-
   pub side-glued : (k : ℕ) → k ≡ 0 → SideIs xs cs k x y true
   side-glued k e n h d = sym (ap (λ (j : ℕ). sideRule (sideOf j) x y (firstTriangles n xs)) e)
 

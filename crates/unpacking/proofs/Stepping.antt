@@ -1,24 +1,24 @@
 -- One law for each way through a step: the operation breaks off, is refused, fails the edge rule, builds a triangle or marks an edge.
 -- Assumes nothing.
-use Prim.Native.Nat.{ℕ, zero, suc, _+_, _-_, _*_, _≤_, _<_}
+use Prim.Native.Nat.{ℕ, _+_, _-_, _*_, _≤_, _<_}
 use native.Mathlib.Omega.{arith}
 use mathlib.Core.Bool.{Bool, true, false, _&&_, false≢true}
 use mathlib.Core.List.{List, [], _∷_}
 use mathlib.Core.Path.{_≡_, refl, sym, ap, _∙_, subst}
-use lib.ListN.{length, take}
+use lib.ListN.{length}
 use lib.Dec.{eqb, leb}
 use borrow.Author.Tests.{leb-true, eq-eqb}
 use Rattle.rules.specs.declared.Triangle.{Triangle}
 use Rattle.rules.specs.declared.Counts.{Counts}
 use Rattle.rules.specs.declared.Operation.{Operation}
 use Rattle.rules.specs.declared.Operation.the-variants.{New, Forward, Backward, Border, Split, Close, Union, Start}
-use Rattle.rules.specs.Limits.{maxPlaces, maxVertices, maxTriangles, inRange}
-use Rattle.rules.specs.Triangle.{Edge, edge, trianglesOf, corners}
+use Rattle.rules.specs.Limits.{maxPlaces, maxVertices, inRange}
+use Rattle.rules.specs.Triangle.{edge, trianglesOf, corners}
 use Rattle.rules.specs.Count.{occurs}
-use Rattle.rules.specs.Ring.{Ring, places}
+use Rattle.rules.specs.Ring.{places}
 use Rattle.rules.specs.Code.{Read, breaks-off, read, readOperation}
-use Rattle.rules.specs.Table.{Side, Effect, not-allowed, builds, marks, effect, edgeRule}
-use Rattle.rules.specs.Machine.{Machine, Step, refused, begun, built, declared, finished, test, within, done, operation, complete}
+use Rattle.rules.specs.Table.{Effect, not-allowed, builds, marks, effect, edgeRule}
+use Rattle.rules.specs.Machine.{Machine, Step, refused, begun, built, declared, finished, test, within, done, operation}
 use Rattle.rules.specs.Book.{Book, entered}
 use Rattle.rules.specs.Unpack.{numbersOf}
 use Rattle.book.specs.Consistent.{Consistent, Ranges}
@@ -29,28 +29,25 @@ use Rattle.book.proofs.Bounds.{bounded-ranges, bounded-kept}
 use Rattle.book.proofs.EdgeRule.{Simple, refusalOf, never-18}
 use Rattle.fans.proofs.Counting.{same-yes}
 use Rattle.chains.specs.Corner.{firstTriangles}
-use Rattle.chains.specs.Chains.{Chains, relinked}
+use Rattle.chains.specs.Chains.{relinked}
 use Rattle.chains.proofs.Linking.{written-linked}
 use Rattle.memory.specs.declared.Front.{Front}
-use Rattle.memory.specs.declared.Loops.{Loops}
 use Rattle.memory.specs.declared.Plan.{Plan}
 use Rattle.memory.specs.declared.Decided.{Decided}
 use Rattle.memory.specs.declared.Decided.the-variants as D
 use Rattle.memory.specs.Moves.{Held, markedHeld}
-use Rattle.memory.specs.Stands.{ringsIn}
 use Rattle.memory.specs.Decision.{proposed, proposedBy, restProposed, startPlan, roomFor, roomBy, decidedBy, decided, sideOf, heldAfter, builtFront, markedFront}
-use Rattle.memory.specs.Keeps.{Keeps, Ready, BuildsIt, MarksIt, Decides}
+use Rattle.memory.specs.Keeps.{Ready, BuildsIt, MarksIt, Decides}
 use Rattle.memory.proofs.Ready.{ready}
 use Rattle.memory.proofs.Deciding.{decides}
 use Rattle.onefan.proofs.Steps.{fanned-built, fanned-declared}
 use Rattle.unpacking.specs.declared.Stepped.the-variants.{Going, Refused}
-use Rattle.unpacking.specs.Turn.{Turn, stops, goes, turnBy, turnOf, turn}
+use Rattle.unpacking.specs.Turn.{stops, turnBy, turnOf, turn}
 use Rattle.unpacking.specs.Met.{metAfter}
-use Rattle.unpacking.specs.Runs.{Runs, written, bitsFrom, GoesTo, Steps}
+use Rattle.unpacking.specs.Runs.{Runs, written, bitsFrom, Steps}
 use Rattle.unpacking.specs.Rule.{ruleAt, RuleIs}
 use Rattle.unpacking.proofs.Order.{asBuilt, same-rule}
 use Rattle.unpacking.proofs.Starting.{InRange, in-range}
-use Rattle.unpacking.proofs.Ending.{live-same}
 use Rattle.unpacking.proofs.Writing.{numbers-more, length-written}
 use Rattle.unpacking.proofs.Meeting.{met-long, unmet-before}
 

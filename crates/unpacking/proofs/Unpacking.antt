@@ -1,28 +1,27 @@
 -- From the run's answer to the unpacking's.
 -- Assumes nothing.
-use Prim.Native.Nat.{ℕ, suc, _+_, _*_, _≤_, _<_}
+use Prim.Native.Nat.{ℕ, suc, _+_, _*_, _≤_}
 use native.Mathlib.Omega.{arith}
 use mathlib.Core.Bool.{true, false, _&&_}
 use mathlib.Core.List.{List}
-use mathlib.Core.Path.{_≡_, refl, sym, ap, _∙_, subst}
-use lib.ListN.{length, take, replicate}
+use mathlib.Core.Path.{_≡_, sym, ap, _∙_, subst}
+use lib.ListN.{length}
 use lib.Dec.{leb}
 use Rattle.rules.specs.declared.Counts.{Counts}
 use Rattle.rules.specs.declared.Unpacked.{Unpacked}
 use Rattle.rules.specs.declared.Unpacked.the-variants as U
 use Rattle.rules.specs.Limits.{maxPlaces, maxVertices, inRange}
 use Rattle.rules.specs.Bits.{bitsOfBytes}
-use Rattle.rules.specs.Fields.{Fields, no-pack, fields, fieldsOf}
+use Rattle.rules.specs.Fields.{fields, fieldsOf}
 use Rattle.rules.specs.Machine.{empty}
 use Rattle.rules.specs.Answer.{unpackedAnswer}
-use Rattle.rules.specs.Buffer.{zeroed}
-use Rattle.rules.specs.Unpack.{UnpackResult, turnedDown, runAll, runOf, unpackRun, unpackFields}
+use Rattle.rules.specs.Unpack.{UnpackResult, turnedDown, runAll, runOf}
 use Rattle.codes.proofs.Bytes.{length-bits-of-bytes}
 use Rattle.chains.specs.Chains.{Chains}
 use Rattle.memory.specs.declared.Front.{Front}
 use Rattle.memory.specs.Fresh.{allFree, freshFront}
 use Rattle.unpacking.specs.declared.Stepped.{Stepped}
-use Rattle.unpacking.specs.Runs.{Runs, Held, Beyond, Ends, RunOf, Ended, Answers, tidied, bitsFrom}
+use Rattle.unpacking.specs.Runs.{Runs, Held, Beyond, Ends, RunOf, Ended, Answers, tidied}
 use Rattle.unpacking.specs.Lent.{lent, unpackOn, UnpackedOn, Fitting, RunGives}
 use Rattle.unpacking.proofs.Starting.{starts-empty}
 use Rattle.unpacking.proofs.Looping.{ends-ended}

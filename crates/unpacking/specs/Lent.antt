@@ -12,9 +12,8 @@ use Rattle.rules.specs.declared.Unpacked.{Unpacked}
 use Rattle.rules.specs.declared.Unpacked.the-variants as U
 use Rattle.rules.specs.Limits.{maxPlaces, inRange}
 use Rattle.rules.specs.Answer.{unpackedAnswer}
-use Rattle.rules.specs.Buffer.{freePlace, Buffers, lengths}
-use Rattle.rules.specs.Fields.{Fields, no-pack, fields, fieldsOf}
-use Rattle.rules.specs.Machine.{longEnough}
+use Rattle.rules.specs.Buffer.{freePlace, Buffers}
+use Rattle.rules.specs.Fields.{Fields, no-pack, fields}
 use Rattle.rules.specs.Unpack.{UnpackResult, runOf, unpackRun, unpack}
 
 abbrev pub lent : ℕ → List ℕ → Buffers

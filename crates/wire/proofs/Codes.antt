@@ -211,17 +211,6 @@ module _ (bs : List ℕ) (at : ℕ) where
       go true f g = found-by o next (readOperation (drop at (bitsOfBytes bs))) (leb-true (length bs) mostBytes f) refl g
       go false f g = let z : _≡_ {A = ℕ} 0 1 = cc in absurd (omega arith)
 
-  -- nothing was found: the bits break off
-  pub operation-breaks : length bs ≤ mostBytes → operationAt bs at ≡ BreaksOff → readOperation (drop at (bitsOfBytes bs)) ≡ breaks-off
-  operation-breaks h e = go (readOperation (drop at (bitsOfBytes bs))) refl (sym (operation-within bs at h) ∙ e)
-    where
-      go : (r : Read) → readOperation (drop at (bitsOfBytes bs)) ≡ r → operationIn (8 * length bs) (readOperation (drop at (bitsOfBytes bs))) ≡ BreaksOff → readOperation (drop at (bitsOfBytes bs)) ≡ breaks-off
-      go breaks-off f g = f
-      go (read o ys) f g =
-          let k : Found o (8 * length bs - length ys) ≡ BreaksOff = sym (ap (operationIn (8 * length bs)) f) ∙ g in
-          let z : _≡_ {A = ℕ} 0 1 = cc in
-          absurd (omega arith)
-
   pub answered : (r : OperationRead) → r ≡ operationAt bs at → (r ≡ operationAt bs at) × Ahead bs at r
   answered r e = (e, λ o next f. operation-found o next (sym e ∙ f))
 

@@ -4,9 +4,9 @@ use Prim.Native.Nat.{ℕ, zero, suc, _+_, _*_, _-_, _/_, _%_, _^_, _≤_, _<_, m
 use native.Mathlib.Nat.{mod-eq-of-lt, lt-of-lt-of-le, lt-of-le-of-lt}
 use native.Mathlib.Omega.{arith}
 use mathlib.Core.Bool.{Bool, true, false}
-use mathlib.Core.List.{List, [], _∷_, _++_}
+use mathlib.Core.List.{List, [], _++_}
 use mathlib.Core.Path.{_≡_, refl, sym, ap, ap₂, _∙_, subst}
-use lib.ListN.{length, getD, length-append}
+use lib.ListN.{length, getD}
 use lib.Pow.{pow-mono, shl-lt, shr-le}
 use lib.Seq.{paste}
 use mir.Syntax.{w8}
@@ -14,15 +14,14 @@ use mir.Val as Val
 use borrow.Author.Tests.{le-leb, lt-leb}
 use Rattle.rules.specs.declared.Operation.{Operation}
 use Rattle.rules.specs.declared.Operation.the-variants.{New, Forward, Backward, Border, Split, Close, Union, Start}
-use Rattle.rules.specs.Buffer.{over}
-use Rattle.rules.specs.Bits.{bits, valueOf, bytesOf}
-use Rattle.rules.specs.Code.{operationBits, operationsBits}
+use Rattle.rules.specs.Bits.{bits, valueOf}
+use Rattle.rules.specs.Code.{operationBits}
 use Rattle.codes.specs.Buffer.{writtenAt, bytesFor, fourBytes, wordOf}
 use Rattle.codes.specs.Whole.{widthOf}
 use Rattle.codes.proofs.Lists.{below-all}
 use Rattle.codes.proofs.Numbers.{value-append, value-bits, value-below}
-use Rattle.codes.proofs.Operations.{length-operation, operation-bits-are, operations-bits-are, operations-more, width-least, width-most}
-use Rattle.codes.proofs.Buffer.{written-more, written-word}
+use Rattle.codes.proofs.Operations.{length-operation, operation-bits-are, width-least, width-most}
+use Rattle.codes.proofs.Buffer.{written-word}
 use Rattle.wire.specs.declared.writer.Written.{Written}
 use Rattle.wire.specs.Fields.{pickBuffer}
 use Rattle.wire.specs.Writer.{PieceOf, fitsIn, lastNumber, writtenOf, bufferAfter}
@@ -127,27 +126,3 @@ module _ (buffer : List ℕ) (at : ℕ) (o : Operation) (n next : ℕ) (wide : n
         ap₂ (λ (t : Bool) (k : ℕ). record { fits = t; next = k }) (sym f) ahead,
         el ∙ r ∙ sym (ap (λ (t : Bool). pickBuffer t (writtenAt buffer at xs) buffer) f),
       )
-
--- ---- for callers: one operation after the other
-
-module _ (buffer : List ℕ) (at : ℕ) (o : Operation) where
-  -- it fits, and is written; or nothing is
-  pub buffer-fits : bytesFor (at + widthOf o) ≤ length buffer → bufferAfter buffer at o ≡ writtenAt buffer at (operationBits o)
-  unfolding bufferAfter
-  buffer-fits h = ap (λ (t : Bool). pickBuffer t (writtenAt buffer at (operationBits o)) buffer) (le-leb (bytesFor (at + widthOf o)) (length buffer) h)
-
-  pub buffer-full : length buffer < bytesFor (at + widthOf o) → bufferAfter buffer at o ≡ buffer
-  unfolding bufferAfter
-  buffer-full h = ap (λ (t : Bool). pickBuffer t (writtenAt buffer at (operationBits o)) buffer) (lt-leb (bytesFor (at + widthOf o)) (length buffer) h)
-
--- after the operations os, one more
-pub buffer-more : (os : List Operation) (o : Operation) (buffer₀ buffer : List ℕ) (at : ℕ) → buffer ≡ over (bytesOf (operationsBits os)) buffer₀
-    → at ≡ length (operationsBits os) → bytesFor (at + widthOf o) ≤ length buffer → bufferAfter buffer at o ≡ over (bytesOf (operationsBits (os ++ (o ∷ [])))) buffer₀
-buffer-more os o buffer₀ buffer at e f h =
-    buffer-fits buffer at o h ∙ ap₂ (λ (r : List ℕ) (k : ℕ). writtenAt r k (operationBits o)) e f
-    ∙ written-more (operationsBits os) (operationBits o) buffer₀ (operations-bits-are os) ∙ ap (λ (xs : List ℕ). over (bytesOf xs) buffer₀) (sym (operations-more os o))
-
--- and its position
-pub position-more : (os : List Operation) (o : Operation) (at : ℕ) → at ≡ length (operationsBits os) → at + widthOf o ≡ length (operationsBits (os ++ (o ∷ [])))
-position-more os o at e =
-    omega (arith, ap length (operations-more os o), length-append (operationsBits os) (operationBits o), length-operation o)
