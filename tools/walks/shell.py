@@ -10,7 +10,7 @@ This program reads the MIR (`rt mir CRATE`) and writes the walk. The body is a s
 PARAMETERS: numbers, `&[u8]`, `&[u16]`, `&[Place]`, the same with `&mut`, `&mut STRUCT`, `&STRUCT`, and memory for results: `&mut u32`,
 `&mut i32`, `&mut [u16; N]`. The result is a `u32`.
 
-    shell('capi', 'cutborder_pack(v: usize, list: &[u16], numbering: &mut [u16], room: &mut [u8], places: &mut [Place], size: &mut u32)',
+    shell('capi', 'cutborder_pack(v: usize, list: &[u16], numbering: &mut [u16], buffer: &mut [u8], places: &mut [Place], size: &mut u32)',
           promises={'service::pack': 'Packs {0} {1} {2} {3} {4} {r} {z2} {z3} {z4}', ..}, uses=[..], law='packs-for {p1} .. {e1} {e2}')
 
 A promise is what a callee ensures: {0}, {1}, .. are its arguments, {r} its result, {z0}, .. the last values of what it is lent. The law

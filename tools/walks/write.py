@@ -25,7 +25,7 @@ ANSWERED = 'use Rattle.capi.specs.Answered.{numberOf, sizeAfter, modelAf
 GIVEN = 'use Rattle.capi.specs.Given.{countsOf, operationOf}'
 PROMISED = 'use Rattle.building.specs.Promised.{Beginning, Operating, Finishing}'
 
-shell('capi', 'cutborder_pack(v: usize, list: &[u16], numbering: &mut [u16], room: &mut [u8], places: &mut [Place], size: &mut u32)',
+shell('capi', 'cutborder_pack(v: usize, list: &[u16], numbering: &mut [u16], buffer: &mut [u8], places: &mut [Place], size: &mut u32)',
       results={'service::pack': 'Packed', 'capi::answered::packed': 'u32'},
       promises={'service::pack': 'Packs {0} {1} {2} {3} {4} {r} {z2} {z3} {z4}',
                 'capi::answered::packed': '({r} ≡ numberOf (packedAnswer {0})) × ({z1} ≡ sizeAfter {1} (packedAnswer {0}))'},

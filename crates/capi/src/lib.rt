@@ -38,13 +38,13 @@ pub extern "C" fn cutborder_pack(
     v: usize,
     list: &[u16],
     numbering: &mut [u16],
-    room: &mut [u8],
+    buffer: &mut [u8],
     places: &mut [Place],
     size: &mut u32,
 ) -> u32
-    ensures { λ n. ⌜ Packs v (now (list .entry)) (now (numbering .entry)) (now (room .entry)) (now (places .entry)) (now (size .entry)) n (now (numbering .exit)) (now (room .exit)) (now (places .exit)) (now (size .exit)) ⌝ }
+    ensures { λ n. ⌜ Packs v (now (list .entry)) (now (numbering .entry)) (now (buffer .entry)) (now (places .entry)) (now (size .entry)) n (now (numbering .exit)) (now (buffer .exit)) (now (places .exit)) (now (size .exit)) ⌝ }
 {
-    let r = service::pack(v, list, numbering, room, places);
+    let r = service::pack(v, list, numbering, buffer, places);
     packed(r, size)
 }
 

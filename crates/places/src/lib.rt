@@ -99,11 +99,11 @@ pub fn store_record(m: &mut Memory, i: usize, p: Place)
     requires { ⌜ i < maxPlaces ⌝ }
     ensures { λ _. ⌜ now (m .exit) ≡ storedAt (now (m .entry)) i p ⌝ }
 {
-    let at = 4 * i;
-    m[at] = p.vertex;
-    m[at + 1] = p.before;
-    m[at + 2] = p.after;
-    m[at + 3] = number(p.open);
+    let to = 4 * i;
+    m[to] = p.vertex;
+    m[to + 1] = p.before;
+    m[to + 2] = p.after;
+    m[to + 3] = number(p.open);
 }
 
 // Record i of the plain memory.

@@ -2,7 +2,7 @@
 -- its own: they have the sizes and the open edges of the book's loops, which the table compares with the second program's, and a place
 -- that stays keeps its vertex. And the rings that are read off a state, and the part of 21 that holds after every operation.
 -- Assumes nothing.
-use Prim.Native.Nat.{ℕ, suc, _+_}
+use Prim.Native.Nat.{ℕ, _+_}
 use mathlib.Core.Bool.{Bool, true, false, _&&_, not}
 use mathlib.Core.List.{List, [], _∷_, _++_}
 use lib.Dec.{T, eqb}
@@ -12,9 +12,9 @@ use Rattle.rules.specs.Fan.{about, leaving, entering, turnOn, turnBack, 
 use Rattle.rules.specs.Check.{allBelow}
 use Rattle.rules.specs.Ring.{Ring, vertex, isOpen, allOpen, vertexAt, lastOpen, lastVertex, front, onward, reached, places, loopAt, without}
 use Rattle.rules.specs.Table.{allowed, inOrder, atEdge, atRest, effect}
-use Rattle.rules.specs.Machine.{Step, refused, begun, built, declared, finished, test, done, beginning, finishing}
+use Rattle.rules.specs.Machine.{test, done, beginning, finishing}
 use Rattle.rules.specs.Buffer.{Lengths}
-use Rattle.rules.specs.Book.{Call, begin, operate, finish, Book, call, after}
+use Rattle.rules.specs.Book.{Call, begin, operate, finish, Book, call, after, isAccepted}
 use Rattle.rules.specs.Places.{placesAt, ringsAfter}
 use Rattle.rules.specs.View.{follow, followed, placesOf, placeNodes, placeRings}
 use Rattle.rules.specs.Test21.{sizesOf, apart, placesFit, loopsFit, linksFit, soundElse, sound}
@@ -56,20 +56,16 @@ allSeats (r ∷ rs) (l ∷ ls) = seatsOf r l ++ allSeats rs ls
 allSeats [] ls = []
 allSeats (r ∷ rs) [] = []
 
--- the rings after a call; n and the two numbers after it are records that no place has had
-abbrev pub ringsBy : List Ring → ℕ → Call → Step → List Ring
-ringsBy rs n c (refused k) = rs
-ringsBy rs n c (finished x) = rs
-ringsBy rs n c (begun m) = []
-ringsBy rs n (operate o) (built t m) = ringsAfter o (n ∷ (n + 1 ∷ (n + 2 ∷ []))) rs
-ringsBy rs n (operate o) (declared d m) = ringsAfter o (n ∷ (n + 1 ∷ (n + 2 ∷ []))) rs
-ringsBy rs n (begin s) x = rs
-ringsBy rs n finish x = rs
+-- the rings after an accepted call; n and the two numbers after it are records that no place has had
+abbrev pub ringsBy : List Ring → ℕ → Call → List Ring
+ringsBy rs n (begin s) = []
+ringsBy rs n (operate o) = ringsAfter o (n ∷ ((n + 1) ∷ ((n + 2) ∷ []))) rs
+ringsBy rs n finish = rs
 
 unfoldable pub besideAll : Lengths → Book → List Ring → List Seat → ℕ → List Call → Bool
 besideAll r b rs ss n [] = true
 besideAll r b rs ss n (c ∷ cs) =
-    let rs′ = ringsBy rs n c (call r (b .machine) c) in
+    let rs′ : List Ring = elim (isAccepted (call r (b .machine) c)) [ true ↦ ringsBy rs n c | false ↦ rs ] in
     let b′ = after r b c in
     ringsBeside ss rs′ (b′ .machine .loops) && besideAll r b′ rs′ (allSeats rs′ (b′ .machine .loops)) (n + 3) cs
 

@@ -13,7 +13,7 @@
 --   `use Rattle.rules.specs.X.{f}` is f of the file X here; `specs.declared.X` is the type X of src/lib.rt, `the-variants` its forms
 --
 -- Index, in 01's order: sentence | file: definitions | row that pins them. A row in quotes is one of proofs/Models, by its comment;
--- `states` and `calls` are tables of proofs/States, other names theorems of proofs/Examples.
+-- `states` and `calls` are tables of proofs/States, `rings` is one of proofs/Places, other names theorems of proofs/Examples.
 --
 -- The model
 --   "a vertex count V and a list of 3T vertex numbers" | Triangle: trianglesOf | "M1" to "M5"
@@ -27,7 +27,7 @@
 --   "A loop is a ring of places; each place has a vertex .." | Ring: Node, Ring | all rows of calls
 --   "One live loop is current .. the latest numbered 1" | Machine: Machine; Ring: loopAt, without | "union 2 of two waiting loops; .."
 --   "The border places are one lent list of records" | Place in src/lib.rt; View: placeAt | states
---   "A freed place is used again" | Build: Leaves | (which records the places use is free)
+--   "A freed place is used again" | Build: Leaves, the line taken | (which free records new places take is free)
 --   "at most 1,024 places, and at most 100 loops are live" | Limits: maxPlaces, maxLoops | "9", "10"
 --   "The current edge goes from vertex a (place e) to .." | Table: atEdge, effect | all rows of calls
 --   "All but start need a live loop"; start, "no live loop" | Table: atRest | "16: split in a loop of three; new without a live loop; .."
@@ -42,6 +42,7 @@
 --   start, "the next three unused numbers" | Table: atRest | "M1"
 --   "The loop with fewer places goes on; if equal, the first" | Table: shorterFirst | "split of equal halves, next to a marked edge"
 --   "The other waits, as the latest" | Table: inOrder | "the second loop of a split goes on, the first waits .."
+--   "Otherwise a place stays" | Places: placesAt, ringsAfter; View: placeRings | rings
 --   "A union makes one loop: a→c, round the waiting loop .." | Table: atEdge, the clause Union | "after a union c→b is current"
 --   "ends as a rim", "the latest waiting loop goes on" | Table: marking, Marking | "a rim ends with two places"
 --   "Edge rule: a, b and c differ, and an edge a→c or c→b .." | Table: edgeRule, sideRule | "c is a; c is b", "M10"
@@ -103,6 +104,7 @@
 --   "A refused building call changes nothing" | Build: BegunBy, OperatedBy | (the contracts of crates/service)
 --   "An accepted beginning leaves .." | Build: begunBuffers, begunBuilder | calls
 --   "Acceptance writes the results and nothing beyond them" | Buffer: over; Pack: packDone; Unpack: unpackDone | "buffers just long enough"
+--   .. of a building operation | Build: Leaves; Test21: soundElse | rings, (the contract of service::operation)
 --   "For each old vertex .. the new number" | Pack: newNumbers, indexOf | "M5"
 --   "packing answers the pack's length, unpacking V, T .." | Answer: packedAnswer, unpackedAnswer | "M1" to "M5"
 --   "a building operation the triangle .. also written .." | Build: withTriangle, Leaves | calls

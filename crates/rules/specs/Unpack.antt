@@ -22,8 +22,8 @@ pub data Ran : Type 0 where
   stopped : ℕ → Ran
   completed : Machine → List ℕ → Ran
 
--- by at most n operations; n is above the number of bits, and each operation takes three or more. An operation is never a
--- beginning or a finish, so that these two lines are never met.
+-- by at most n operations; n is above the number of bits, and each operation takes three or more, so that it never runs out
+-- (`count-is-enough`, crate roundtrip). An operation is never a beginning or a finish, so that these two lines are never met.
 unfoldable pub runAll : ℕ → Machine → List ℕ → Ran
 runAll zero m xs = stopped 15
 runAll (suc n) m xs =

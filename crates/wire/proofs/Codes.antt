@@ -3,7 +3,7 @@
 use Prim.Native.Nat.{ℕ, zero, suc, _+_, _*_, _-_, _/_, _%_, _≤_, _<_}
 use native.Mathlib.Decide.{decLe}
 use native.Mathlib.Omega.{arith}
-use mathlib.Core.Bool.{Bool, true, false, false≢true, true≢false}
+use mathlib.Core.Bool.{Bool, true, false}
 use mathlib.Core.List.{List, [], _∷_}
 use mathlib.Core.Path.{_≡_, refl, sym, ap, ap₂, _∙_, subst}
 use mathlib.Core.Logic.{_⊎_, inl, inr}
@@ -226,11 +226,3 @@ indexed-is n odd = go (eqb (n / 4) 1) refl
     go : (b : Bool) → eqb (n / 4) 1 ≡ b → IndexedIs n b
     go true e = four (eqb n 4) refl (eqb-true (n / 4) 1 e)
     go false e = (λ h. eqb-false (n / 4) 1 e (omega (arith, h)), λ h. eqb-false (n / 4) 1 e (omega (arith, h)))
-
-pub indexed-six : (n : ℕ) (b : Bool) → IndexedIs n b → b ≡ true → (n ≡ 4 → ⊥) → n ≡ 6
-indexed-six n true h e z = elim h [ inl k ↦ absurd (z k) | inr k ↦ k ]
-indexed-six n false h e z = absurd (false≢true e)
-
-pub not-indexed : (n : ℕ) (b : Bool) → IndexedIs n b → b ≡ false → (n ≡ 4 → ⊥) × (n ≡ 6 → ⊥)
-not-indexed n true h e = absurd (true≢false e)
-not-indexed n false h e = h

@@ -1,17 +1,17 @@
 -- Numbers and operations at a bit position, by the definitions of the rules.
 -- Assumes nothing.
 use Prim.Native.Nat.{ℕ, _+_, _*_, _-_, _≤_, _<_}
-use mathlib.Core.Bool.{Bool, true, false}
+use mathlib.Core.Bool.{Bool, true, false, not}
 use mathlib.Core.List.{List}
 use mathlib.Core.Path.{_≡_}
 use mathlib.Core.Logic.{_⊎_}
-use lib.Dec.{leb}
+use lib.Dec.{eqb, leb}
 use lib.ListN.{length, drop}
 use Rattle.rules.specs.declared.Operation.{Operation}
 use Rattle.rules.specs.declared.Operation.the-variants.{Split, Union}
 use Rattle.rules.specs.Bits as Bits
 use Rattle.rules.specs.Bits.{bitsOfBytes, broken-off, number, readNumber}
-use Rattle.rules.specs.Code.{Read, breaks-off, read, readOperation}
+use Rattle.rules.specs.Code.{Read, breaks-off, read, readOperation, kinds, kindIn}
 use Rattle.codes.specs.Shape.{Fits}
 use Rattle.codes.specs.Whole.{widthOf}
 use Rattle.wire.specs.declared.reader.Number.{Number}
@@ -66,6 +66,37 @@ placeOf p (Value j next) = Found (Union p j) next
 abbrev pub unionOf : List ℕ → Number → OperationRead
 unionOf bs BrokenOff = BreaksOff
 unionOf bs (Value p next) = placeOf p (numberAt 10 bs next)
+
+-- whether a code alone tells an operation, or broke off
+abbrev pub PlainIs : Number → Bool → Type 0
+PlainIs BrokenOff b = b ≡ true
+PlainIs (Value c next) b = IndexedIs c (not b)
+
+abbrev pub plainOf : Number → OperationRead
+plainOf BrokenOff = BreaksOff
+plainOf (Value c next) = Found (kindIn c kinds) next
+
+-- the position after a number
+abbrev pub nextOf : Number → ℕ
+nextOf BrokenOff = 0
+nextOf (Value v next) = next
+
+-- after a code and what is read as a loop's number: where the place's number stands
+abbrev pub placeAt : Number → Number → ℕ
+placeAt BrokenOff p = 0
+placeAt (Value c next) p = elim (eqb c 4) [ true ↦ next | false ↦ nextOf p ]
+
+-- an operation by its code and the two numbers
+abbrev pub unionIn : Number → Number → OperationRead
+unionIn BrokenOff j = BreaksOff
+unionIn (Value p next) j = placeOf p j
+
+abbrev pub indexedOf : Number → Number → Number → OperationRead
+indexedOf BrokenOff p j = BreaksOff
+indexedOf (Value c next) p j = elim (eqb c 4) [ true ↦ splitOf j | false ↦ unionIn p j ]
+
+abbrev pub indicesAt : List ℕ → Number → OperationRead
+indicesAt bs code = let p = numberAt 7 bs (nextOf code) in indexedOf code p (numberAt 10 bs (placeAt code p))
 
 -- ---- what an operation that was found says of the bits
 

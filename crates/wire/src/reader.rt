@@ -8,7 +8,7 @@ ghost use lib.ListN.{drop, getD};
 ghost use Rattle.rules.specs.Bits.{bitsOfBytes};
 ghost use Rattle.rules.specs.Code.{kinds, kindIn};
 ghost use Rattle.rules.specs.Unpack.{restFits};
-ghost use Rattle.wire.specs.Reader.{numberAt, IndexedIs, splitOf, unionOf, ReadIs};
+ghost use Rattle.wire.specs.Reader.{numberAt, IndexedIs, PlainIs, plainOf, nextOf, placeAt, splitOf, unionIn, indexedOf, indicesAt, ReadIs};
 
 // A field has no more bytes than its length can say.
 const MOST_BYTES: usize = 65535;
@@ -80,13 +80,6 @@ pub struct OperationReader<'a> {
     pub at: usize,
 }
 
-// A reader of these bytes at a bit position.
-pub fn reader<'a>(bytes: &'a [u8], at: usize) -> OperationReader<'a>
-    ensures { λ r. ⌜ (r .bytes ≡ bytes .entry) × (r .at ≡ at) ⌝ }
-{
-    OperationReader { bytes, at }
-}
-
 // Three bits at the reader's position.
 pub fn read3<'a>(r: OperationReader<'a>) -> Number
     ensures { λ s. ⌜ s ≡ numberAt 3 (now (r .entry .bytes)) (r .entry .at) ⌝ }
@@ -106,27 +99,6 @@ pub fn read10<'a>(r: OperationReader<'a>) -> Number
     ensures { λ s. ⌜ s ≡ numberAt 10 (now (r .entry .bytes)) (r .entry .at) ⌝ }
 {
     ten_at(r.bytes, r.at)
-}
-
-// What a reader reads as a code. From here on the parameters are plain.
-fn code_bits(bytes: &[u8], at: usize) -> Number
-    ensures { λ r. ⌜ r ≡ numberAt 3 (now (bytes .entry)) at ⌝ }
-{
-    read3(reader(bytes, at))
-}
-
-// What a reader reads as a loop's number.
-fn loop_bits(bytes: &[u8], at: usize) -> Number
-    ensures { λ r. ⌜ r ≡ numberAt 7 (now (bytes .entry)) at ⌝ }
-{
-    read7(reader(bytes, at))
-}
-
-// What a reader reads as a place's number.
-fn place_bits(bytes: &[u8], at: usize) -> Number
-    ensures { λ r. ⌜ r ≡ numberAt 10 (now (bytes .entry)) at ⌝ }
-{
-    read10(reader(bytes, at))
 }
 
 // The kind of an operation, by its code; its indices are read apart.
@@ -155,54 +127,105 @@ fn is_indexed(code: u16) -> bool
     code / 4 == 1
 }
 
-// A split's index, after its code.
-fn split_at(ops: &[u8], at: usize) -> OperationRead
-    ensures { λ r. ⌜ r ≡ splitOf (numberAt 10 (now (ops .entry)) at) ⌝ }
+// Whether a code alone tells an operation, or broke off.
+fn is_plain(code: Number) -> bool
+    ensures { λ b. ⌜ PlainIs code b ⌝ }
 {
-    let place = place_bits(ops, at);
+    let Number::Value(c, _) = code else {
+        return true;
+    };
+    !is_indexed(c)
+}
+
+// The operation that a code alone tells.
+fn plain_of(code: Number) -> OperationRead
+    ensures { λ r. ⌜ r ≡ plainOf code ⌝ }
+{
+    let Number::Value(c, next) = code else {
+        return OperationRead::BreaksOff;
+    };
+    OperationRead::Found(kind_of(c), next)
+}
+
+// The bit position after a number.
+fn next_of(n: Number) -> usize
+    ensures { λ r. ⌜ r ≡ nextOf n ⌝ }
+{
+    match n {
+        Number::Value(_, next) => next,
+        Number::BrokenOff => 0,
+    }
+}
+
+// Where the number of a place stands: after a split's code, or after a union's loop.
+fn place_at(code: Number, p: Number) -> usize
+    ensures { λ r. ⌜ r ≡ placeAt code p ⌝ }
+{
+    let Number::Value(c, next) = code else {
+        return 0;
+    };
+    if c == 4 {
+        return next;
+    }
+    next_of(p)
+}
+
+// A split with its index.
+fn split_of(place: Number) -> OperationRead
+    ensures { λ r. ⌜ r ≡ splitOf place ⌝ }
+{
     let Number::Value(i, next) = place else {
         return OperationRead::BreaksOff;
     };
     OperationRead::Found(Operation::Split(i), next)
 }
 
-// A union's indices, after its code: p stands before j.
-fn union_at(ops: &[u8], at: usize) -> OperationRead
-    ensures { λ r. ⌜ r ≡ unionOf (now (ops .entry)) (numberAt 7 (now (ops .entry)) at) ⌝ }
+// A union with its indices.
+fn union_of(number: Number, place: Number) -> OperationRead
+    ensures { λ r. ⌜ r ≡ unionIn number place ⌝ }
 {
-    let number = loop_bits(ops, at);
-    let Number::Value(p, after) = number else {
+    let Number::Value(p, _) = number else {
         return OperationRead::BreaksOff;
     };
-    let place = place_bits(ops, after);
     let Number::Value(j, next) = place else {
         return OperationRead::BreaksOff;
     };
     OperationRead::Found(Operation::Union(p, j), next)
 }
 
-// The operation at a bit position, and the position after it, which is further on and in the bytes.
-pub fn operation_at(ops: &[u8], at: usize) -> OperationRead
-    ensures { λ r. ⌜ ReadIs (now (ops .entry)) at r ⌝ }
+// The split or the union of a code, with the numbers that were read for it. A split has no loop's number.
+fn indexed_of(code: Number, number: Number, place: Number) -> OperationRead
+    ensures { λ r. ⌜ r ≡ indexedOf code number place ⌝ }
 {
-    let number = code_bits(ops, at);
-    let Number::Value(code, next) = number else {
+    let Number::Value(c, _) = code else {
         return OperationRead::BreaksOff;
     };
-    if is_indexed(code) {
-        if code == 4 {
-            return split_at(ops, next);
-        }
-        return union_at(ops, next);
+    if c == 4 {
+        return split_of(place);
     }
-    OperationRead::Found(kind_of(code), next)
+    union_of(number, place)
 }
 
-// The operation at the reader's position, and the position after it.
+// The indices after a code: p stands before j. For a split what is read as p is left aside.
+fn read_indices<'a>(mut r: OperationReader<'a>, code: Number) -> OperationRead
+    ensures { λ s. ⌜ s ≡ indicesAt (now (r .entry .bytes)) code ⌝ }
+{
+    r.at = next_of(code);
+    let p = read7(r);
+    r.at = place_at(code, p);
+    let j = read10(r);
+    indexed_of(code, p, j)
+}
+
+// The operation at the reader's position, and the position after it, which is further on and in the bytes.
 pub fn read_operation<'a>(r: OperationReader<'a>) -> OperationRead
     ensures { λ s. ⌜ ReadIs (now (r .entry .bytes)) (r .entry .at) s ⌝ }
 {
-    operation_at(r.bytes, r.at)
+    let code = read3(r);
+    if is_plain(code) {
+        return plain_of(code);
+    }
+    read_indices(r, code)
 }
 
 // Whether fewer than eight bits are left after a bit position, all of them zero: 19's test of the last byte.

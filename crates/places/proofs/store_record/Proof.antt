@@ -5,8 +5,8 @@ use borrow.Author.Needs.{needs}
 use Rattle.places.proofs.store_record.Statement.{statement}
 use Rattle.places.proofs.store_record.Tie as tie
 
-mul-at : tie.Need-mul-at
-mul-at c = search needs
+mul-to : tie.Need-mul-to
+mul-to c = search needs
 
 mul-m : tie.Need-mul-m
 mul-m c = search needs
@@ -51,7 +51,7 @@ pub store-record-spec : {M : Type 1} → statement M
 store-record-spec =
     tie.close
     (tie.spec
-    mul-at
+    mul-to
     mul-m
     element-write-m
     add-m
