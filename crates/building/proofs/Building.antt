@@ -152,6 +152,7 @@ keeps-the-book w s cs xs v ok e g =
       open-edges = o;
       one-place = λ x y.
           subst (λ (n : ℕ). n ≤ 1) (sym (o x y)) (open-once (uses x y (b .machine .triangles)) (uses y x (b .machine .triangles)) (count x y (b .borders)));
+      free-records = g .free;
       euler =
           ap (λ (n : ℕ). pos (v .state .used) -ℤ pos (v .state .edges) +ℤ pos n +ℤ pos (v .state .live) +ℤ pos (v .state .rims)) (sym t)
           ∙ ap (λ (n : ℕ). totals (viewOf v) .euler +ℤ pos n +ℤ pos (v .state .rims)) (sym l) ∙ f;

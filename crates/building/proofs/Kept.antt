@@ -1,11 +1,11 @@
 -- One call: its answer is the book's, and state and buffers hold the book's machine after it.
 -- Assumes nothing.
-use Prim.Native.Nat.{ℕ, zero, suc, _+_, _*_, _≤_}
+use Prim.Native.Nat.{ℕ, zero, suc, _+_, _*_, _≤_, _<_}
 use native.Mathlib.Omega.{arith}
 use mathlib.Core.Bool.{Bool, true, false, _&&_, false≢true, true≢false}
 use mathlib.Core.List.{List, [], _∷_, _++_}
 use mathlib.Core.Path.{_≡_, refl, sym, ap, ap₂, _∙_, subst}
-use lib.ListN.{length, take, drop, replicate, length-append, length-drop, length-replicate}
+use lib.ListN.{length, take, drop, replicate, length-append, length-drop, length-replicate, List·getD-append, getD-replicate}
 use lib.Seq.{length-take-le}
 use lib.Dec.{leb}
 use borrow.Author.Tests.{leb-true, le-leb}
@@ -17,6 +17,7 @@ use Rattle.rules.specs.declared.Builder.{Builder}
 use Rattle.rules.specs.declared.Checked.{Checked}
 use Rattle.rules.specs.declared.Checked.the-variants.{Accepted, Refused}
 use Rattle.rules.specs.Limits.{maxPlaces, inRange}
+use Rattle.rules.specs.Count.{occurs}
 use Rattle.rules.specs.Check.{allBelow}
 use Rattle.rules.specs.Table.{Effect, not-allowed, builds, marks, effect}
 use Rattle.rules.specs.Machine.{Machine, empty, Step, refused, begun, built, declared, finished, longEnough, within, done, operation, beginning, finishing}
@@ -24,9 +25,9 @@ use Rattle.rules.specs.Answer.{Answer, accepted, checkedAnswer, begunAnswer}
 use Rattle.rules.specs.Book.{operate, finish, Book, recounted, emptyBook, entered, answerOf, after, isAccepted}
 use Rattle.rules.specs.Calls.{lastState}
 use Rattle.rules.specs.Buffer.{freePlace, cleared, Buffers, Lengths, lengths}
-use Rattle.rules.specs.View.{view, trianglesBuilt, placesOf, loopsOf}
+use Rattle.rules.specs.View.{placeAt, view, trianglesBuilt, placesOf, loopsOf}
 use Rattle.rules.specs.Test21.{sizesOf, countsFit, sumsFit, apart, placesFit, loopsFit, linksFit, trianglesFit, sound, soundElse}
-use Rattle.rules.specs.Build.{viewed, operates, begunBuilder, begunBuffers, BegunBy, withTriangle, OperatedBy}
+use Rattle.rules.specs.Build.{viewed, operates, begunBuilder, begunBuffers, BegunBy, withTriangle, NoPlace, Leaves, OperatedBy}
 use Rattle.book.specs.Consistent.{Ranges}
 use Rattle.book.specs.Reached.{reached}
 use Rattle.book.proofs.Counting.{and-left, and-right}
@@ -39,11 +40,16 @@ use Rattle.building.specs.Building.{World, buffersOf, lengthsOf, Beginni
 abbrev pub viewOf : World → Machine
 viewOf w = viewed (w .state) (buffersOf w)
 
+-- the records that are no live loop's places are zero
+abbrev Free : Builder → Buffers → Type 0
+Free b r = (i : ℕ) → i < maxPlaces → NoPlace b r i → placeAt (r .places) i ≡ freePlace
+
 -- the buffers have the lengths r; state and buffers pass 21 and hold the book's machine
 pub record Agrees (r : Lengths) (w : World) (b : Book) : Type 0 where
   pub passes : sound (w .state) (buffersOf w) ≡ true
   pub long : lengthsOf w ≡ r
   pub same : viewOf w ≡ b .machine
+  pub free : Free (w .state) (buffersOf w)
 
 -- what 21 tests
 abbrev longFits : Builder → Buffers → Bool
@@ -96,7 +102,13 @@ pub begun-viewed : (s : Counts) (r : Buffers) → viewed (begunBuilder s) r ≡ 
 unfolding view trianglesBuilt loopsOf
 begun-viewed s r = refl
 
--- the lengths of the place list after a beginning
+-- the place list after a beginning: its records, and how many they are
+cleared-free : (ps : List Place) (i : ℕ) → i < maxPlaces → placeAt (cleared ps) i ≡ freePlace
+unfolding cleared
+cleared-free ps i h =
+    List·getD-append (replicate maxPlaces freePlace) (drop maxPlaces ps) freePlace i (omega (arith, h, length-replicate maxPlaces freePlace))
+    ∙ getD-replicate maxPlaces i freePlace freePlace h
+
 cleared-long : (ps : List Place) → maxPlaces ≤ length ps → length (cleared ps) ≡ length ps
 unfolding cleared
 cleared-long ps h =
@@ -231,6 +243,20 @@ module _ (b : Builder) (r : Buffers) (o : Operation) (b′ : Builder) (r′ : Bu
   operated-passes (declared d m) a h = sound-else b′ r′ (a .passes)
   operated-passes (finished y) a h = absurd a
 
+  leaves-free : {xs : List ℕ} {m : Machine} → Leaves b r o xs m b′ r′ → Free b r → Free b′ r′
+  leaves-free a f i h n = go (occurs i (placesOf b (r .places) (b .live))) refl
+    where
+      go : (k : ℕ) → occurs i (placesOf b (r .places) (b .live)) ≡ k → placeAt (r′ .places) i ≡ freePlace
+      go zero e = a .idle i e n ∙ f i h e
+      go (suc k) e = a .left i (omega (arith, e)) n
+
+  operated-free : (x : Step) → OperatedBy b r o x b′ r′ → isAccepted x ≡ true → Free b r → Free b′ r′
+  operated-free (refused n) a h f = absurd (false≢true h)
+  operated-free (begun m) a h f = absurd a
+  operated-free (built t m) a h f = leaves-free a f
+  operated-free (declared d m) a h f = leaves-free a f
+  operated-free (finished y) a h f = absurd a
+
   operated-long : (x : Step) → OperatedBy b r o x b′ r′ → isAccepted x ≡ true → Writes b r x → lengths r′ ≡ lengths r
   operated-long (refused n) a h k = absurd (false≢true h)
   operated-long (begun m) a h k = absurd a
@@ -265,6 +291,7 @@ module _ (R : Lengths) where
             (begun-triangles s (r .triangles));
         long = e;
         same = begun-viewed s r;
+        free = λ i h n. cleared-free (w .places) i h;
       }
 
   module _ (s : Counts) (w : World) (a : Answer) (v : World) (l : lengthsOf w ≡ R) (c : BeginningCalled s w a v) where
@@ -320,6 +347,7 @@ module _ (R : Lengths) where
           passes = operated-passes (w .state) (buffersOf w) o (v .state) (buffersOf v) x operated h (ranges-sums (v .state) (buffersOf v) f);
           long = operated-long (w .state) (buffersOf w) o (v .state) (buffersOf v) x operated h m ∙ g .long;
           same = e;
+          free = operated-free (w .state) (buffersOf w) o (v .state) (buffersOf v) x operated h (g .free);
         }
 
     operate-by : (t : Bool) → isAccepted (operation (b .machine) o) ≡ t → Agrees R v (entered b (operation (b .machine) o))

@@ -1,6 +1,6 @@
 -- Demand 3 of the three building calls, to be held against the rules' part on the builder's book. proofs/Building.antt proves it.
 -- Assumes nothing.
-use Prim.Native.Nat.{ℕ, _*_, _≤_}
+use Prim.Native.Nat.{ℕ, _*_, _≤_, _<_}
 use mathlib.Core.Bool.{true}
 use mathlib.Core.List.{List, [], _∷_}
 use mathlib.Core.Path.{_≡_}
@@ -13,15 +13,16 @@ use Rattle.rules.specs.declared.Builder.{Builder}
 use Rattle.rules.specs.declared.Begun.{Begun}
 use Rattle.rules.specs.declared.Performed.{Performed}
 use Rattle.rules.specs.declared.Finished.{Finished}
+use Rattle.rules.specs.Limits.{maxPlaces}
 use Rattle.rules.specs.Triangle.{corners, edgesOf}
 use Rattle.rules.specs.Count.{different, pairs}
 use Rattle.rules.specs.Answer.{Answer, accepted, begunAnswer, operatedAnswer, finishedAnswer}
 use Rattle.rules.specs.Book.{Call, begin, operate, finish, Book, modelOpen, emptyBook, answer}
 use Rattle.rules.specs.Calls.{answers, afterAll, logAll, lastState}
-use Rattle.rules.specs.Buffer.{Buffers, Lengths, lengths}
-use Rattle.rules.specs.View.{openAt}
+use Rattle.rules.specs.Buffer.{freePlace, Buffers, Lengths, lengths}
+use Rattle.rules.specs.View.{placeAt, openAt}
 use Rattle.rules.specs.Test21.{sound}
-use Rattle.rules.specs.Build.{viewed}
+use Rattle.rules.specs.Build.{viewed, NoPlace}
 use Rattle.building.specs.Promised.{lentTo, Beginning, Operating, Finishing}
 
 -- what lies between two calls: the state last returned, and both buffers as the last call left them
@@ -38,8 +39,8 @@ abbrev pub lengthsOf : World → Lengths
 lengthsOf w = lengths (buffersOf w)
 
 -- Each call, lent the buffers as the one before left them and, unless it is a beginning, the state last returned: from the world w it
--- leads to the answer a and the world v. Of the call nothing is known but what its function promises; what that leaves free, the
--- places that a loop uses and the records that none uses, may come out in any way.
+-- leads to the answer a and the world v. Of the call nothing is known but what its function promises; what that leaves free, which
+-- records the new places take, may come out in any way.
 pub record BeginningCalled (s : Counts) (w : World) (a : Answer) (v : World) : Type 0 where
   pub result : Begun
   pub promised : Beginning s (w .triangles) (w .places) result (v .triangles) (v .places)
@@ -104,6 +105,8 @@ pub record KeepsTheBook (w : World) (s : Counts) (cs : List Call) (xs : List Ans
   pub open-edges : (x y : ℕ) → openAt (v .state) (v .places) x y ≡ modelOpen x y (b .machine .triangles) (b .borders)
   -- each edge at one place only
   pub one-place : (x y : ℕ) → openAt (v .state) (v .places) x y ≤ 1
+  -- a record that is no live loop's place is zero, as the beginning left it
+  pub free-records : (i : ℕ) → i < maxPlaces → NoPlace (v .state) (buffersOf v) i → placeAt (v .places) i ≡ freePlace
   -- vertices - edges + triangles + live loops + rims = 2 starts - 2 unions
   pub euler : pos (v .state .used) -ℤ pos (v .state .edges) +ℤ pos (v .state .built) +ℤ pos (v .state .live) +ℤ pos (v .state .rims)
       ≡ pos (2 * v .state .starts) -ℤ pos (2 * v .state .unions)
