@@ -1,7 +1,7 @@
 /* The service's calls for C: checking, packing and unpacking triangle lists, and building them one operation at a time.
  *
- * Each call returns 0 for acceptance or the number of the refusal, 1 to 21 (docs/FORMAT.md). A refusal leaves the memory for results
- * as it was, and changes a buffer only where a rule says so. Nothing is kept between two calls, and no memory is allocated.
+ * Each call returns 0 for acceptance or the number of the refusal, 1 to 21 (docs/FORMAT.md, Refusals). A refusal leaves the
+ * memory for results as it was, and changes a buffer only where a rule says so. Nothing is kept between two calls, and no memory is allocated.
  *
  * What a caller owes: each pointer leads to as many entries as are stated, no two of them overlap, and nobody else writes them
  * meanwhile. All of it holds values of its type: the `open` of a record is 0 or 1, so memory from malloc is cleared first. A
@@ -50,12 +50,12 @@ uint32_t cutborder_pack(size_t v, const uint16_t *list, size_t entries, uint16_t
 uint32_t cutborder_unpack(const uint8_t *pack, size_t bytes, uint16_t *triangles, size_t triangle_entries, struct cutborder_place *places,
                           size_t records, uint16_t model[5], int32_t *euler);
 
-/* 13 and 14, or a builder that holds nothing. */
+/* 13 and 14, or a builder that holds nothing. A count above 65,535 is 13. */
 uint32_t cutborder_begin(uint32_t vertices, uint32_t triangles_stated, uint32_t most_places, uint32_t most_loops, uint16_t *triangles,
                          size_t triangle_entries, struct cutborder_place *places, size_t records, struct cutborder_builder *state);
 
 /* 21, then 16 to 18, or the builder after the operation; built is then 1 and the triangle, or four zeros where an edge was marked as
- * border. A code above 7, or an index above 65,535, is 16. */
+ * border. A code above 7, or an index of the operation that is above 65,535, is 16. */
 uint32_t cutborder_operation(struct cutborder_builder *state, uint32_t code, uint32_t p, uint32_t j, uint16_t *triangles,
                              size_t triangle_entries, struct cutborder_place *places, size_t records, uint16_t built[4]);
 

@@ -5,8 +5,12 @@ use Prim.Native.Nat.{ℕ, suc, _≤_}
 use mathlib.Core.Bool.{Bool, true, false, _&&_}
 use mathlib.Core.List.{List, [], _∷_}
 use mathlib.Core.Path.{_≡_, refl, sym, ap, _∙_}
+use borrow.Author.Tests.{le-leb}
+use lib.Dec.{leb}
 use Rattle.rules.specs.declared.Counts.{Counts}
 use Rattle.rules.specs.declared.Builder.{Builder}
+use Rattle.rules.specs.declared.Operation.{Operation}
+use Rattle.rules.specs.declared.Operation.the-variants.{Union}
 use Rattle.rules.specs.Limits.{maxTriangles, minPlaces, maxPlaces, maxLoops, between, vertexRange, inRange}
 use Rattle.rules.specs.Machine.{Machine, refused, operation, done, beginning, test}
 use Rattle.rules.specs.Buffer.{Buffers}
@@ -14,7 +18,7 @@ use Rattle.rules.specs.Test21.{sound}
 use Rattle.rules.specs.Build.{viewed, begins, operates}
 use Rattle.rules.specs.Ring.{Ring}
 use Rattle.rules.specs.Table.{Effect, not-allowed, effect, atEdge, atRest, allowed}
-use Rattle.capi.specs.Given.{within16, countsOf, none, operationOf}
+use Rattle.capi.specs.Given.{within16, countsOf, none, unionOf, operationOf}
 use Rattle.capi.proofs.Numbers.{counts, within-large, split-large, union-large}
 
 none-allowed : (u : ℕ) (ls : List Ring) → effect none u ls ≡ not-allowed
@@ -43,6 +47,17 @@ split-above p j h = sym (split-large j h)
 pub union-above : (p j : ℕ) → 65536 ≤ p → operationOf 6 p j ≡ none
 unfolding operationOf
 union-above p j h = sym (union-large p j h)
+
+either : (t : Bool) → elim t as (λ x. Operation) [ true ↦ none | false ↦ none ] ≡ none
+either true = refl
+either false = refl
+
+pub union-beyond : (p j : ℕ) → 65536 ≤ j → operationOf 6 p j ≡ none
+unfolding operationOf unionOf
+union-beyond p j h =
+    ap (λ (t : Bool). elim (leb 65536 p) as (λ x. Operation) [ true ↦ none | false ↦ elim t [ true ↦ none | false ↦ Union p j ] ])
+    (le-leb 65536 j h)
+    ∙ either (leb 65536 p)
 
 -- a beginning whose counts are out of range is refused with 13
 pub out-of-range : (r : Buffers) (s : Counts) → inRange s ≡ false → begins r s ≡ refused 13

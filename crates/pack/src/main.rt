@@ -81,7 +81,7 @@ fn digit(t: Text, d: usize) -> Text {
     }
 }
 
-// The number that was read has ended. Those past the room are passed over.
+// The number that was read has ended. Those past the buffer are passed over.
 fn end_number(t: Text, numbers: &mut [u16]) -> Text {
     if !t.inside {
         return t;
@@ -156,7 +156,7 @@ fn too_long() -> Told {
     Told::Nothing
 }
 
-// Reads the text: its numbers, as many as there is room for. Where it cannot be read whole, a line on standard error says why.
+// Reads the text: its numbers, as many as fit. Where it cannot be read whole, a line on standard error says why.
 fn read_text(part: &mut [u8], numbers: &mut [u16]) -> Told {
     let mut t = Text {
         count: 0,

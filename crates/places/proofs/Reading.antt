@@ -1,4 +1,4 @@
--- The reading between a list of records and the plain memory: what the core sees of the list, and what comes back.
+-- The reading between a list of records and the plain memory: what the core sees of the list, and a store of the core as a store to the list.
 -- Assumes nothing.
 use Prim.Native.Nat.{ℕ, zero, suc, _*_, _<_, _≤_}
 use native.Mathlib.Omega.{arith}

@@ -1,5 +1,5 @@
 // The list of place records that a caller lends: thin functions over it, and the way to the core's plain memory and back.
-// The contracts cite specs/Records.antt and specs/Memory.antt, and `placeAt` of the crate rules.
+// The contracts cite specs/Records.antt, specs/Memory.antt and specs/Touched.antt, and `placeAt` of the crate rules.
 use rules::Builder;
 use rules::Place;
 ghost use mathlib.Core.Path.{_≡_};

@@ -3,24 +3,25 @@
 -- that stays keeps its vertex. And the rings that are read off a state, and the part of 21 that holds after every operation.
 -- Assumes nothing.
 use Prim.Native.Nat.{ℕ, _+_}
-use mathlib.Core.Bool.{Bool, true, false, _&&_, not}
+use mathlib.Core.Bool.{Bool, true, false, _&&_, _||_, not}
 use mathlib.Core.List.{List, [], _∷_, _++_}
 use lib.Dec.{T, eqb}
+use Rattle.rules.specs.declared.Operation.the-variants.{New, Start}
 use Rattle.rules.specs.Triangle.{corners, edgesOf}
 use Rattle.rules.specs.Count.{num, same, hit, occurs, count, different, pairs}
 use Rattle.rules.specs.Fan.{about, leaving, entering, turnOn, turnBack, oneRun, oneFanEach}
 use Rattle.rules.specs.Check.{allBelow}
-use Rattle.rules.specs.Ring.{Ring, vertex, isOpen, allOpen, vertexAt, lastOpen, lastVertex, front, onward, reached, places, loopAt, without}
+use Rattle.rules.specs.Ring.{Ring, opened, marked, vertex, isOpen, allOpen, vertexAt, lastOpen, lastVertex, front, onward, reached, places, loopAt, without}
 use Rattle.rules.specs.Table.{allowed, inOrder, atEdge, atRest, effect}
 use Rattle.rules.specs.Machine.{test, done, beginning, finishing}
 use Rattle.rules.specs.Buffer.{Lengths}
 use Rattle.rules.specs.Book.{Call, begin, operate, finish, Book, call, after, isAccepted}
 use Rattle.rules.specs.Places.{placesAt, ringsAfter}
 use Rattle.rules.specs.View.{follow, followed, placesOf, placeNodes, placeRings}
-use Rattle.rules.specs.Test21.{sizesOf, apart, placesFit, loopsFit, linksFit, soundElse, sound}
+use Rattle.rules.specs.Test21.{sizesOf, sumsFit, apart, placesFit, loopsFit, linksFit, soundElse}
 use Rattle.rules.proofs.Rows.{CallRow, equal, allRight, noBook, writtenRing, writtenRings}
 use Rattle.rules.proofs.Models.{callRows}
-use Rattle.rules.proofs.States.{StateRow, good, memory, withSums, withPlaces, lentTo}
+use Rattle.rules.proofs.States.{StateRow, good, memory, stateRows, lentTo}
 
 -- a place and its vertex
 pub record Seat : Type 0 where
@@ -77,13 +78,19 @@ unfoldable pub readRight : Bool
 readRight =
     equal (writtenRings (placeRings good memory 2)) (3 ∷ 5 ∷ 1 ∷ 2 ∷ 1 ∷ 0 ∷ 1 ∷ 3 ∷ 4 ∷ 1 ∷ 3 ∷ 0 ∷ 1 ∷ 1 ∷ [])
 
--- sums above 3T are let pass, and nothing else is
-abbrev pub passesElse : StateRow → Bool
-passesElse x = soundElse (x .state) (lentTo x)
+-- the records that new places take, in their order
+unfoldable pub takenRight : Bool
+takenRight =
+    equal (writtenRings (ringsAfter Start (7 ∷ 8 ∷ 9 ∷ 6 ∷ []) [])) (3 ∷ 7 ∷ 1 ∷ 8 ∷ 1 ∷ 9 ∷ 1 ∷ [])
+    && equal (writtenRings (ringsAfter New (7 ∷ 8 ∷ []) ((opened 1 ∷ opened 2 ∷ marked 3 ∷ []) ∷ [])))
+    (4 ∷ 7 ∷ 1 ∷ 2 ∷ 1 ∷ 3 ∷ 0 ∷ 1 ∷ 1 ∷ [])
 
-unfoldable pub elseRight : Bool
-elseRight = passesElse (withSums false 13 14 15 16) && not (passesElse (withPlaces false []))
+-- of the states of 21 those with sums above 3T are let pass, and no other that 21 refuses
+abbrev pub elseRight : StateRow → Bool
+elseRight x =
+    let t = soundElse (x .state) (lentTo x) in
+    elim (x .passes || not (sumsFit (x .state))) [ true ↦ t | false ↦ not t ]
 
-pub rings : T (allRight besideRight callRows && readRight && elseRight)
-unfolding keepsVertex ringBeside ringsBeside seatsOf allSeats besideAll besideRight readRight elseRight callRows corners edgesOf same hit occurs count different pairs about leaving entering turnOn turnBack oneRun oneFanEach allBelow allOpen vertexAt lastOpen lastVertex front onward reached places loopAt without allowed inOrder atEdge atRest effect placesAt ringsAfter test done beginning finishing follow followed placesOf placeNodes placeRings sizesOf apart placesFit loopsFit linksFit soundElse equal allRight writtenRing writtenRings
+pub rings : T (allRight besideRight callRows && readRight && takenRight && allRight elseRight stateRows)
+unfolding keepsVertex ringBeside ringsBeside seatsOf allSeats besideAll besideRight readRight takenRight stateRows callRows corners edgesOf same hit occurs count different pairs about leaving entering turnOn turnBack oneRun oneFanEach allBelow allOpen vertexAt lastOpen lastVertex front onward reached places loopAt without allowed inOrder atEdge atRest effect placesAt ringsAfter test done beginning finishing follow followed placesOf placeNodes placeRings sizesOf apart placesFit loopsFit linksFit soundElse equal allRight writtenRing writtenRings
 rings = tt

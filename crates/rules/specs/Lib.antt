@@ -13,7 +13,8 @@
 --   `use Rattle.rules.specs.X.{f}` is f of the file X here; `specs.declared.X` is the type X of src/lib.rt, `the-variants` its forms
 --
 -- Index, in 01's order: sentence | file: definitions | row that pins them. A row in quotes is one of proofs/Models, by its comment;
--- `states` and `calls` are tables of proofs/States, `rings` is one of proofs/Places, other names theorems of proofs/Examples.
+-- `bench` is the table of proofs/Bench, `states` and `calls` are tables of proofs/States, `rings` is one of proofs/Places, `logs` one of
+-- proofs/Log, other names are theorems of proofs/Examples.
 --
 -- The model
 --   "a vertex count V and a list of 3T vertex numbers" | Triangle: trianglesOf | "M1" to "M5"
@@ -25,11 +26,13 @@
 --
 -- Loops and the eight operations (the table as 02's C-14 has changed it)
 --   "A loop is a ring of places; each place has a vertex .." | Ring: Node, Ring | all rows of calls
+--   "An edge is open until it is glued or marked as border" | Ring: Node; Table: atEdge | all rows of calls
 --   "One live loop is current .. the latest numbered 1" | Machine: Machine; Ring: loopAt, without | "union 2 of two waiting loops; .."
 --   "The border places are one lent list of records" | Place in src/lib.rt; View: placeAt | states
 --   "A freed place is used again" | Build: Leaves, the line taken | (which free records new places take is free)
---   "at most 1,024 places, and at most 100 loops are live" | Limits: maxPlaces, maxLoops | "9", "10"
+--   "at most 1,024 places, and at most 100 loops are live" | Limits: maxPlaces, maxLoops | bench, "13: V 2, V 4097, .."
 --   "The current edge goes from vertex a (place e) to .." | Table: atEdge, effect | all rows of calls
+--   "Every operation but border and start builds .. b a c" | Table: atEdge | "M2"
 --   "All but start need a live loop"; start, "no live loop" | Table: atRest | "16: split in a loop of three; new without a live loop; .."
 --   new | Table: atEdge, the clause New | "M2"
 --   forward, "edge after f open"; C-14: k ≥ 3 | Table: atEdge, closes | "after a forward a→c is current", "forward at three places; .."
@@ -40,11 +43,14 @@
 --   close, "k = 3, all edges open" | Table: closes | "a loop of three with a marked edge does not close"
 --   union p j, "j below its places" | Table: atEdge, the clause Union | "waiting loops and union numbers out of range"
 --   start, "the next three unused numbers" | Table: atRest | "M1"
+--   "A split leaves one loop from f to c, .., and one from c to e" | Table: atEdge, the clause Split | "split of equal halves, .."
 --   "The loop with fewer places goes on; if equal, the first" | Table: shorterFirst | "split of equal halves, next to a marked edge"
 --   "The other waits, as the latest" | Table: inOrder | "the second loop of a split goes on, the first waits .."
+--   "Each has its closing edge as current" | Table: atEdge, the clause Split | "the second loop of a split goes on, .."
 --   "Otherwise a place stays" | Places: placesAt, ringsAfter; View: placeRings | rings
 --   "A union makes one loop: a→c, round the waiting loop .." | Table: atEdge, the clause Union | "after a union c→b is current"
 --   "ends as a rim", "the latest waiting loop goes on" | Table: marking, Marking | "a rim ends with two places"
+--   "When a loop ends its places are freed" | Places: placesAt, alive; Build: Leaves, the line left | rings
 --   "Edge rule: a, b and c differ, and an edge a→c or c→b .." | Table: edgeRule, sideRule | "c is a; c is b", "M10"
 --   ".. is new, its opposite unused too" | Count: unjoined | "refused by opposites only: .."
 --
@@ -108,6 +114,7 @@
 --   "For each old vertex .. the new number" | Pack: newNumbers, indexOf | "M5"
 --   "packing answers the pack's length, unpacking V, T .." | Answer: packedAnswer, unpackedAnswer | "M1" to "M5"
 --   "a building operation the triangle .. also written .." | Build: withTriangle, Leaves | calls
+--   "It changes nothing; a complete model holds no place" | Machine: complete; Promised in crates/building/specs: Finishing | "M1" to "M5"
 --   "The finish gives edges, rims, unions and the Euler .." | Machine: totals | "M1" to "M5", "torus of seven vertices"
 --
 -- The builder's book
@@ -121,15 +128,17 @@
 --   "a start, a union and a loop that ends as a rim count .." | Table: Added, Marking | "M1", "smallest union found"
 --   "A finish .. reads its answer off the book" | Book: recounted; Machine: finishing | "M1" to "M5"
 --   "A call that fails .. leaves the book as it is" | Book: entered | "13 before 14 at a beginning; .."
+--   "21 does not arise" | Book: call, which does not ask for it | (`passes` of KeepsTheBook, crates/building/specs/Building)
 --   "The answers compared are acceptance or the number, .." | Book: answerOf, answer; Calls: answers | all rows of calls
 --   "Vertices are the different numbers in the .. triangles" | Count: different | "M1" to "M5"
 --   "edges the pairs of vertices that one of them joins, .." | Count: pairs | "M1" to "M5"
+--   "Live loops, rims, starts and unions are the book's" | Machine: Machine | all rows of calls
 --   "The builder's own counts equal them all" | View: view; Build: viewed | states
---   "those recorded as open at its live loops' places .." | View: openAt | (`building-calls-keep-the-book`, crate building)
+--   "those recorded as open at its live loops' places .." | View: openAt | states
 --   "the model's are taken from the book's triangles and .." | Book: modelOpen | open-edges
---   "the last accepted beginning's counts and the operations" | Calls: logAll | (`building-calls-keep-the-book`, crate building)
+--   "the last accepted beginning's counts and the operations" | Calls: logAll | logs
 --
--- Models on the bench, M1 to M10: `table` of proofs/Models.
+-- Models on the bench, M1 to M10: `bench`.
 pub mod Limits
 pub mod Triangle
 pub mod Count

@@ -32,7 +32,8 @@ pub enum Operation {
 }
 
 // A record of the lent place list. Of a place in a live loop: its vertex, the places before and after it in the loop, and
-// whether its edge to the next place is open (else it is marked as border). A free record may hold anything.
+// whether its edge to the next place is open (else it is marked as border). A record that is no place may hold anything where a
+// state is lent; in a model begun here it is zero.
 #[repr(C)]
 pub struct Place {
     pub vertex: u16,

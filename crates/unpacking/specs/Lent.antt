@@ -1,4 +1,4 @@
--- Unpacking with n place records, of which only the number counts: a place list is lent to be worked in.
+-- Unpacking with n place records, of which only the number counts.
 -- Assumes nothing.
 use Prim.Native.Nat.{ℕ, _*_, _≤_, _<_}
 use mathlib.Core.Bool.{Bool, true, false, _&&_}

@@ -1,4 +1,4 @@
--- `wire::fields::field_at` meets its contract: each answer is a law of Places.
+-- `wire::fields::field_at` meets its contract: each answer is a law of Contents.
 -- Assumes nothing.
 use native.Mathlib.Omega.{arith}
 use Rattle.wire.proofs.Contents.{field-short, field-other, field-cut, field-whole}

@@ -1,4 +1,4 @@
--- `wire::fields::fields_of` meets its contract: each answer is a law of Places; `answered` adds where the operations are.
+-- `wire::fields::fields_of` meets its contract: each answer is a law of Contents; `answered` adds where the operations are.
 -- Assumes nothing.
 use mathlib.Core.Path.{_∙_, sym}
 use Rattle.wire.proofs.Contents.{answered, none-first, other-counts, long-enough, none-second, more-follows, out-of-range, all-found}
