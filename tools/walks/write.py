@@ -19,23 +19,23 @@ bridge('service', 'finish(state: Builder, triangles: &[u16], places: &[Place]) -
        core='calls::finish::finish_on', promise='finishing::Promises.FinishesOn', law='Laws.finishes-as', asks='Laws.loaded-fits')
 
 # what the functions for C and Rust cite
 LAWS = 'use Rattle.capi.proofs.Laws.{packs-for, unpacks-for, begins-for, operates-for, finishes-for}'
 ANSWERS = 'use Rattle.rules.specs.Answer.{begunAnswer, operatedAnswer, finishedAnswer, packedAnswer, unpackedAnswer}'
 ANSWERED = 'use Rattle.capi.specs.Answered.{numberOf, sizeAfter, modelAfter, totalsAfter, eulerAfter, builtAfter, keptOr}'
 GIVEN = 'use Rattle.capi.specs.Given.{countsOf, operationOf}'
-PROMISED = 'use Rattle.building.specs.Promised.{Beginning, Operating, Finishing}'
+PROMISED = 'use Rattle.promises.specs.Promises.{Beginning, Operating, Finishing}'
 
 shell('capi', 'cutborder_pack(v: usize, list: &[u16], numbering: &mut [u16], buffer: &mut [u8], places: &mut [Place], size: &mut u32)',
       results={'service::pack': 'Packed', 'capi::answered::packed': 'u32'},
       promises={'service::pack': 'Packs {0} {1} {2} {3} {4} {r} {z2} {z3} {z4}',
                 'capi::answered::packed': '({r} ≡ numberOf (packedAnswer {0})) × ({z1} ≡ sizeAfter {1} (packedAnswer {0}))'},
-      uses=[ANSWERS, 'use Rattle.service.specs.Packing.{Packs}', ANSWERED, LAWS],
+      uses=[ANSWERS, 'use Rattle.promises.specs.Promises.{Packs}', ANSWERED, LAWS],
       law='packs-for {p1} {p2} {p3} {p4} {p5} {p6} {r1} {n} {q3} {q4} {q5} {q6} {e1} {e2}')
 shell('capi', 'cutborder_unpack(pack: &[u8], triangles: &mut [u16], places: &mut [Place], model: &mut [u16; 5], euler: &mut i32)',
       results={'service::unpack': 'Unpacked', 'capi::answered::unpacked': 'u32'},
       promises={'service::unpack': 'Unpacks {0} {1} {2} {r} {z1} {z2}',
                 'capi::answered::unpacked': '({r} ≡ numberOf (unpackedAnswer {0})) × (({z1} ≡ modelAfter {1} (unpackedAnswer {0})) × ({z2} ≡ eulerAfter {2} (unpackedAnswer {0})))'},
-      uses=[ANSWERS, 'use Rattle.service.specs.Calls.{Unpacks}', ANSWERED, LAWS],
+      uses=[ANSWERS, 'use Rattle.promises.specs.Promises.{Unpacks}', ANSWERED, LAWS],
       law='unpacks-for {p1} {p2} {p3} {p4} {p5} {r1} {n} {q2} {q3} {q4} {q5} {e1} {e2}')
 shell('capi', 'cutborder_begin(v: u32, t: u32, most_places: u32, most_loops: u32, triangles: &mut [u16], places: &mut [Place], state: &mut Builder)',
       results={'capi::given::counts_of': 'Counts', 'service::begin': 'Begun', 'capi::answered::begun_state': 'Builder', 'capi::answered::begun': 'u32'},

@@ -12,7 +12,8 @@ use Rattle.rules.specs.Count.{num, same, hit, occurs, count, uses, unjoined, di
 use Rattle.rules.specs.Book.{Book}
 use Rattle.book.specs.Below.{sumBelow, numbersBelow, pairsBelow}
 use Rattle.book.specs.Consistent.{Consistent}
-use Rattle.book.proofs.Counting.{same-yes, same-no, same-is, hit-from, hit-to, hit-yes, no-from, no-to, uses-from, uses-to}
+use Rattle.book.proofs.Counting.{uses-from, uses-to}
+use Rattle.counting.proofs.Counts.{same-yes, same-no, same-is, hit-yes, hit-from, hit-to, no-from, no-to}
 
 sum-same : (n : ℕ) (g h : ℕ → ℕ) → ((x : ℕ) → x < n → h x ≡ g x) → sumBelow n h ≡ sumBelow n g
 unfolding sumBelow

@@ -18,17 +18,19 @@ use Rattle.rules.specs.Book.{Book, emptyBook, entered}
 use Rattle.book.specs.Sums.{loopsSum}
 use Rattle.book.specs.Consistent.{Consistent, Ranges}
 use Rattle.book.specs.Bounded.{Bounded}
-use Rattle.book.proofs.Counting.{and-left, and-right, ifFresh}
+use Rattle.book.proofs.Counting.{ifFresh}
 use Rattle.book.proofs.Kept.{test-law}
 use Rattle.book.proofs.Effects.{Law, sound-current, effect-law}
+use Rattle.counting.proofs.Bools.{and-left, and-right}
 
-record Within (m : Machine) : Type 0 where
-  vertices : m .used ≤ m .stated .vertices
-  triangles : length (m .triangles) ≤ m .stated .triangles
-  places : places (m .loops) ≤ m .stated .places
-  loops : length (m .loops) ≤ m .stated .loops
+-- the counts of a machine within those stated
+pub record Within (m : Machine) : Type 0 where
+  pub vertices : m .used ≤ m .stated .vertices
+  pub triangles : length (m .triangles) ≤ m .stated .triangles
+  pub places : places (m .loops) ≤ m .stated .places
+  pub loops : length (m .loops) ≤ m .stated .loops
 
-within-each : (m : Machine) → within m ≡ true → Within m
+pub within-each : (m : Machine) → within m ≡ true → Within m
 within-each m h =
     let w1 = leb (m .used) (m .stated .vertices) in
     let w2 = leb (length (m .triangles)) (m .stated .triangles) in
@@ -58,7 +60,7 @@ bounded-ranges b k =
     }
 
 -- each side is glued or fresh
-sides : (s : Side) → ifFresh s 1 ≡ freshSides s
+pub sides : (s : Side) → ifFresh s 1 ≡ freshSides s
 sides glued = refl
 sides fresh = refl
 
@@ -66,7 +68,8 @@ fresh-once : (s : Side) → freshSides s ≤ 1
 fresh-once glued = omega arith
 fresh-once fresh = omega arith
 
-bounded-by : (b : Book) → Bounded b → (e : Effect) → Law (b .machine .used) (b .machine .loops) e → Bounded (entered b (done (b .machine) e))
+bounded-by : (b : Book) → Bounded b → (e : Effect) → Law (b .machine .used) (b .machine .loops) e
+    → Bounded (entered b (done (b .machine) e))
 unfolding done
 bounded-by b c not-allowed l = c
 bounded-by b c (builds z) l =
@@ -85,7 +88,17 @@ bounded-by b c (builds z) l =
       starts = omega (arith, c .starts, l .small);
       unions = omega (arith, c .unions, l .small);
       rims = c .rims;
-      borders = omega (arith, c .borders, o, sides (z .sides .pq), sides (z .sides .qr), sides (z .sides .rp), fresh-once (z .sides .pq), fresh-once (z .sides .qr), fresh-once (z .sides .rp));
+      borders = omega (
+        arith,
+        c .borders,
+        o,
+        sides (z .sides .pq),
+        sides (z .sides .qr),
+        sides (z .sides .rp),
+        fresh-once (z .sides .pq),
+        fresh-once (z .sides .qr),
+        fresh-once (z .sides .rp),
+      );
     }))
 bounded-by b c (marks z) l =
     let m = afterMark (b .machine) z in
@@ -106,13 +119,20 @@ bounded-by b c (marks z) l =
     })
 
 pub bounded-kept : (b : Book) → Consistent b → Bounded b → (o : Operation) → Bounded (entered b (operation (b .machine) o))
-bounded-kept b c k o = bounded-by b k (effect o (b .machine .used) (b .machine .loops)) (effect-law o (b .machine .used) (b .machine .loops) (sound-current (b .machine .loops) (c .loops)))
+bounded-kept b c k o = bounded-by b k (effect o (b .machine .used) (b .machine .loops))
+    (effect-law o (b .machine .used) (b .machine .loops) (sound-current (b .machine .loops) (c .loops)))
 
 pub empty-bounded : (s : Counts) → inRange s ≡ true → Bounded (emptyBook s)
 unfolding loopsSum places
 empty-bounded s h = record {
   stated = h;
-  counts = rw (le-leb 0 (s .vertices) (omega arith), le-leb 0 (s .triangles) (omega arith), le-leb 0 (s .places) (omega arith), le-leb 0 (s .loops) (omega arith));
+  counts = rw (
+    le-leb 0 (s .vertices) (omega arith),
+    le-leb 0 (s .triangles) (omega arith),
+    le-leb 0 (s .places) (omega arith),
+    le-leb 0
+        (s .loops) (omega arith),
+  );
   places = omega arith;
   loops = omega arith;
   edges = omega arith;
@@ -121,3 +141,7 @@ empty-bounded s h = record {
   rims = omega arith;
   borders = omega arith;
 }
+
+-- no more triangles than are stated
+pub within-triangles : (m : Machine) → within m ≡ true → length (m .triangles) ≤ m .stated .triangles
+within-triangles m h = within-each m h .triangles

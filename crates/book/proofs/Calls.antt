@@ -24,7 +24,8 @@ pub begins-empty : (r : Lengths) (s : Counts) → isAccepted (beginning r s) ≡
 unfolding beginning
 begins-empty r s =
     test-law (λ (x : Step). isAccepted x ≡ true → Begun s x) (inRange s) _ _ (λ h. absurd (false≢true h))
-    (λ i. test-law (λ (x : Step). isAccepted x ≡ true → Begun s x) _ _ _ (λ h. absurd (false≢true h)) (λ j h. record { step = refl; range = i }))
+    (λ i. test-law (λ (x : Step). isAccepted x ≡ true → Begun s x) _ _ _ (λ h. absurd (false≢true h))
+    (λ j h. record { step = refl; range = i }))
 
 -- a finish changes nothing
 pub finish-same : (b : Book) (m : Machine) → entered b (finishing m) ≡ b

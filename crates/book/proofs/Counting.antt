@@ -13,109 +13,9 @@ use Rattle.rules.specs.Triangle.{Edge, edge, corners, edgesOf}
 use Rattle.rules.specs.Count.{num, same, hit, occurs, count, uses, different, pairs}
 use Rattle.rules.specs.Table.{Side, glued, fresh, sideRule}
 use Rattle.rules.specs.Machine.{freshSides}
-
-pub and-left : (a b : Bool) → a && b ≡ true → a ≡ true
-and-left true b h = refl
-and-left false b h = h
-
-pub and-right : (a b : Bool) → a && b ≡ true → b ≡ true
-and-right true b h = h
-and-right false b h = absurd (false≢true h)
-
--- equal numbers
-pub same-yes : (v : ℕ) → same v v ≡ 1
-unfolding same
-same-yes v = rw (eq-eqb v v refl)
-
-pub same-no : (v x : ℕ) → (v ≡ x → ⊥) → same v x ≡ 0
-unfolding same
-same-no v x h = rw (ne-eqb v x h)
-
-pub same-is : (v x : ℕ) → 1 ≤ same v x → v ≡ x
-unfolding same
-same-is v x h = go (eqb v x) refl h
-  where
-    go : (t : Bool) → eqb v x ≡ t → 1 ≤ num t → v ≡ x
-    go true e k = eqb-true v x e
-    go false e k = absurd (omega arith)
-
-pub same-le : (v x : ℕ) → same v x ≤ 1
-unfolding same
-same-le v x = go (eqb v x)
-  where
-    go : (s : Bool) → num s ≤ 1
-    go true = omega arith
-    go false = omega arith
-
--- equal edges
-pub hit-yes : (p q : ℕ) → hit p q p q ≡ 1
-unfolding hit
-hit-yes p q = rw (eq-eqb p p refl, eq-eqb q q refl)
-
-pub hit-from : (x y p q : ℕ) → hit x y p q ≤ same x p
-unfolding hit same
-hit-from x y p q = go (eqb x p) (eqb y q)
-  where
-    go : (s t : Bool) → num (s && t) ≤ num s
-    go true true = omega arith
-    go true false = omega arith
-    go false t = omega arith
-
-pub hit-to : (x y p q : ℕ) → hit x y p q ≤ same y q
-unfolding hit same
-hit-to x y p q = go (eqb x p) (eqb y q)
-  where
-    go : (s t : Bool) → num (s && t) ≤ num t
-    go true t = omega arith
-    go false t = omega arith
-
-pub hit-swap : (x y p q : ℕ) → hit x y p q ≡ hit y x q p
-unfolding hit
-hit-swap x y p q = ap num (and-comm (eqb x p) (eqb y q))
-
--- an edge that starts, or ends, elsewhere
-pub no-from : (x y p q : ℕ) → (x ≡ p → ⊥) → hit x y p q ≡ 0
-no-from x y p q h = omega (arith, hit-from x y p q, same-no x p h)
-
-pub no-to : (x y p q : ℕ) → (y ≡ q → ⊥) → hit x y p q ≡ 0
-no-to x y p q h = omega (arith, hit-to x y p q, same-no y q h)
-
--- an edge between different vertices
-pub hit-proper : (x p q : ℕ) → (p ≡ q → ⊥) → hit x x p q ≡ 0
-hit-proper x p q d = go (hit x x p q) refl
-  where
-    go : (n : ℕ) → hit x x p q ≡ n → n ≡ 0
-    go zero e = refl
-    go (suc n) e = absurd (d (sym (same-is x p (omega (arith, hit-from x x p q))) ∙ same-is x q (omega (arith, hit-to x x p q))))
-
--- what holds at p→q and at all other edges
-pub at-edge : (P : ℕ → ℕ → Type 0) (p q : ℕ) → P p q → ((x y : ℕ) → hit x y p q ≡ 0 → P x y) → (x y : ℕ) → P x y
-unfolding hit
-at-edge P p q here else x y = go (eqb x p) refl (eqb y q) refl
-  where
-    go : (s : Bool) → eqb x p ≡ s → (t : Bool) → eqb y q ≡ t → P x y
-    go true e true f = subst (λ (k : ℕ). P k y) (sym (eqb-true x p e)) (subst (λ (k : ℕ). P p k) (sym (eqb-true y q f)) here)
-    go true e false f = else x y (rw (e, f))
-    go false e t f = else x y (rw e)
-
--- an edge is hit at most once, and of two different edges at most one
-pub hit-once : (x y p q : ℕ) → hit x y p q ≤ 1
-unfolding hit
-hit-once x y p q = go (eqb x p && eqb y q)
-  where
-    go : (s : Bool) → num s ≤ 1
-    go true = omega arith
-    go false = omega arith
-
-pub apart-from : (p q p′ q′ : ℕ) → (p ≡ p′ → ⊥) → (x y : ℕ) → hit x y p q + hit x y p′ q′ ≤ 1
-apart-from p q p′ q′ h =
-    at-edge (λ (x y : ℕ). hit x y p q + hit x y p′ q′ ≤ 1) p q (omega (arith, hit-yes p q, no-from p q p′ q′ h))
-    (λ x y e. omega (arith, hit-once x y p′ q′))
-
-pub apart-to : (p q p′ q′ : ℕ) → (q ≡ q′ → ⊥) → (x y : ℕ) → hit x y p q + hit x y p′ q′ ≤ 1
-apart-to p q p′ q′ h =
-    at-edge (λ (x y : ℕ). hit x y p q + hit x y p′ q′ ≤ 1) p q (omega (arith, hit-yes p q, no-to p q p′ q′ h))
-    (λ x y e. omega (arith, hit-once x y p′ q′))
+use Rattle.counting.proofs.Bools.{and-left, and-right, and-no}
+use Rattle.counting.proofs.Counts.{same-yes, same-no, same-is, hit-yes, hit-from, hit-to, hit-swap, no-from, no-to, at-edge, hit-once}
+use Rattle.counting.proofs.Counts.{apart-from, apart-to}
 
 -- the open edges O and the declared ones B are the model's, whose directed edges are D
 pub record Fits (O B : ℕ → ℕ → ℕ) (D : List Edge) : Type 0 where
@@ -154,11 +54,21 @@ module _ (O B O′ : ℕ → ℕ → ℕ) (D : List Edge) (f : Fits O B D) (p q 
   -- it is new: neither it nor its opposite was used, and it is open now
   pub add-fresh : count p q D ≡ 0 → count q p D ≡ 0 → ((x y : ℕ) → O′ x y ≡ O x y + hit x y p q) → Fits O′ B (edge p q ∷ D)
   add-fresh u v o = record {
-    once = ends (λ (x y : ℕ). count x y (edge p q ∷ D) ≤ 1) (omega (arith, pq)) (omega (arith, qp)) (λ x y g h. omega (arith, more x y, f .once x y));
+    once = ends (λ (x y : ℕ). count x y (edge p q ∷ D) ≤ 1) (omega (arith, pq)) (omega (arith, qp))
+        (λ x y g h. omega (arith, more x y, f .once x y));
     all =
         ends (λ (x y : ℕ). O′ x y + B x y + count x y (edge p q ∷ D) * count y x (edge p q ∷ D) ≡ count x y (edge p q ∷ D))
         (omega (arith, pq, f .all p q, o p q, hit-yes p q, mul-no (count p q (edge p q ∷ D)) (count q p (edge p q ∷ D)) (qp ∙ v)))
-        (omega (arith, qp, f .all q p, o q p, no-from q p p q (λ e. d (sym e)), mul-comm (count q p (edge p q ∷ D)) (count p q (edge p q ∷ D)), mul-no (count p q (edge p q ∷ D)) (count q p (edge p q ∷ D)) (qp ∙ v)))
+        (omega (
+          arith,
+          qp,
+          f .all q p,
+          o q p,
+          no-from q p p q (λ e. d (sym e)),
+          mul-comm (count q p (edge p q ∷ D))
+              (count p q (edge p q ∷ D)),
+          mul-no (count p q (edge p q ∷ D)) (count q p (edge p q ∷ D)) (qp ∙ v),
+        ))
         (λ x y g h. others x y g h (omega (arith, o x y)));
   }
 
@@ -168,7 +78,8 @@ module _ (O B O′ : ℕ → ℕ → ℕ) (D : List Edge) (f : Fits O B D) (p q 
       let one : count q p D ≡ 1 = omega (arith, o q p, hit-yes q p, f .all q p, f .once q p) in
       let none : count p q D ≡ 0 = omega (arith, o q p, hit-yes q p, f .all q p, mul-one (count q p D) (count p q D) one) in
       record {
-        once = ends (λ (x y : ℕ). count x y (edge p q ∷ D) ≤ 1) (omega (arith, pq)) (omega (arith, qp)) (λ x y g h. omega (arith, more x y, f .once x y));
+        once = ends (λ (x y : ℕ). count x y (edge p q ∷ D) ≤ 1) (omega (arith, pq)) (omega (arith, qp))
+            (λ x y g h. omega (arith, more x y, f .once x y));
         all =
             ends (λ (x y : ℕ). O′ x y + B x y + count x y (edge p q ∷ D) * count y x (edge p q ∷ D) ≡ count x y (edge p q ∷ D))
             (rw (pq, qp, one, none) (omega (arith, o p q, f .all p q, no-from p q q p d)))
@@ -213,10 +124,6 @@ pub record Added (O′ B : ℕ → ℕ → ℕ) (p q : ℕ) (s : Side) (D : List
   pub fits : Fits O′ B (edge p q ∷ D)
   pub more-pairs : pairs (edge p q ∷ D) ≡ freshSides s + pairs D
 
-no-and : (a b : Bool) → b ≡ false → a && b ≡ false
-no-and true b h = h
-no-and false b h = refl
-
 pub add-side : (s : Side) (O B O′ : ℕ → ℕ → ℕ) (D : List Edge) → Fits O B D → (p q : ℕ) → (p ≡ q → ⊥) → Unjoined s p q D
     → ((x y : ℕ) → O′ x y + ifGlued s (hit x y q p) ≡ O x y + ifFresh s (hit x y p q)) → Added O′ B p q s D
 unfolding pairs
@@ -230,7 +137,7 @@ add-side glued O B O′ D f p q d u o =
     record {
       fits = add-glued O B O′ D f p q d o′;
       more-pairs =
-          rw (no-and (eqb (count p q D) 0) (eqb (count q p D) 0) (ne-eqb (count q p D) 0 (λ e. omega arith)));
+          rw (and-no (eqb (count p q D) 0) (eqb (count q p D) 0) (ne-eqb (count q p D) 0 (λ e. omega arith)));
     }
 
 -- one more triangle

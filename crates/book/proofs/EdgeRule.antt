@@ -17,11 +17,13 @@ use Rattle.rules.specs.Ring.{Node, opened, marked, Ring, vertex, allOpen, verte
 use Rattle.rules.specs.Table.{glued, Effect, not-allowed, builds, marks, allowed, marking, atEdge, atRest, effect, edgeRule}
 use Rattle.rules.specs.Machine.{Step, refused, begun, built, declared, finished, test, done, operation}
 use Rattle.rules.specs.Book.{Book}
-use Rattle.shown.specs.Effects.{buildingOf}
+use Rattle.book.specs.Parts.{buildingOf}
 use Rattle.book.specs.Sums.{pathSum, ringSum, loopsSum}
 use Rattle.book.specs.Consistent.{AllSound, Consistent}
-use Rattle.book.proofs.Counting.{and-left, hit-yes, uses-from, uses-to}
+use Rattle.book.proofs.Counting.{uses-from, uses-to}
 use Rattle.book.proofs.Kept.{test-law, loop-used}
+use Rattle.counting.proofs.Bools.{and-left, not-eqb}
+use Rattle.counting.proofs.Counts.{hit-yes}
 
 -- the edge rule holds of what an operation would do
 abbrev pub RuleHolds : List Triangle → Effect → Type 0
@@ -33,9 +35,6 @@ allowed-rule : (ts : List Triangle) (t : Bool) (e : Effect) → (t ≡ true → 
 unfolding allowed
 allowed-rule ts true e h = h refl
 allowed-rule ts false e h = tt
-
-differ : (x y : ℕ) → (x ≡ y → ⊥) → not (eqb x y) ≡ true
-differ x y h = rw (ne-eqb x y h)
 
 six : (a b c d e f : Bool) → a ≡ true → b ≡ true → c ≡ true → d ≡ true → e ≡ true → f ≡ true → a && b && c && d && e && f ≡ true
 six a b c d e f ha hb hc hd he hf = rw (ha, hb, hc, hd, he, hf)
@@ -59,7 +58,7 @@ refusalOf (built t m) = 0
 refusalOf (declared d m) = 0
 refusalOf (finished x) = 0
 
-test-passed : (t : Bool) (n : ℕ) (s : Step) → t ≡ true → test t n s ≡ s
+pub test-passed : (t : Bool) (n : ℕ) (s : Step) → t ≡ true → test t n s ≡ s
 unfolding test
 test-passed true n s h = refl
 test-passed false n s h = absurd (false≢true h)
@@ -71,7 +70,7 @@ module _ (b : Book) (k : Consistent b) where
   abbrev u : ℕ
   u = b .machine .used
 
-  -- the ends of a used edge differ, and are below the numbers that are not used
+  -- the ends of a used edge not-eqb, and are below the numbers that are not used
   ends-differ : (x y : ℕ) → uses x y ts ≡ 1 → x ≡ y → ⊥
   ends-differ x y h e =
       let z : uses x x ts ≡ 1 = subst (λ (v : ℕ). uses x v ts ≡ 1) (sym e) h in omega (arith, z, k .proper x)
@@ -92,18 +91,26 @@ module _ (b : Book) (k : Consistent b) where
 
   from-unused : (v x : ℕ) → u ≤ v → unjoined v x (edgesOf ts) ≡ true
   from-unused v x h =
-      rw (eq-eqb (uses v x ts) 0 (omega (arith, uses-from v x ts, no-corner v h)), eq-eqb (uses x v ts) 0 (omega (arith, uses-to x v ts, no-corner v h)))
+      rw (
+        eq-eqb (uses v x ts) 0 (omega (arith, uses-from v x ts, no-corner v h)),
+        eq-eqb (uses x v ts) 0
+            (omega (arith, uses-to x v ts, no-corner v h)),
+      )
 
   to-unused : (x v : ℕ) → u ≤ v → unjoined x v (edgesOf ts) ≡ true
   to-unused x v h =
-      rw (eq-eqb (uses x v ts) 0 (omega (arith, uses-to x v ts, no-corner v h)), eq-eqb (uses v x ts) 0 (omega (arith, uses-from v x ts, no-corner v h)))
+      rw (
+        eq-eqb (uses x v ts) 0 (omega (arith, uses-to x v ts, no-corner v h)),
+        eq-eqb (uses v x ts) 0
+            (omega (arith, uses-from v x ts, no-corner v h)),
+      )
 
   rule-start : RuleHolds ts (atRest Start u)
   unfolding atRest
   rule-start =
       six (not (eqb u (suc u))) (not (eqb (suc u) (suc (suc u)))) (not (eqb (suc (suc u)) u))
       (unjoined u (suc u) (edgesOf ts)) (unjoined (suc u) (suc (suc u)) (edgesOf ts)) (unjoined (suc (suc u)) u (edgesOf ts))
-      (differ u (suc u) (λ e. omega arith)) (differ (suc u) (suc (suc u)) (λ e. omega arith)) (differ (suc (suc u)) u (λ e. omega arith))
+      (not-eqb u (suc u) (λ e. omega arith)) (not-eqb (suc u) (suc (suc u)) (λ e. omega arith)) (not-eqb (suc (suc u)) u (λ e. omega arith))
       (from-unused u (suc u) (omega arith)) (from-unused (suc u) (suc (suc u)) (omega arith)) (from-unused (suc (suc u)) u (omega arith))
 
   module _ (a : ℕ) (f : Node) (ps : List Node) (ws : List Ring) (l : b .machine .loops ≡ (opened a ∷ (f ∷ ps)) ∷ ws) where
@@ -116,16 +123,21 @@ module _ (b : Book) (k : Consistent b) where
     rule-new =
         let x = vertex f in
         six (not (eqb x a)) (not (eqb a u)) (not (eqb u x)) true (unjoined a u (edgesOf ts)) (unjoined u x (edgesOf ts))
-        (differ x a (λ e. ends-differ a x current (sym e))) (differ a u (λ e. omega (arith, from-below a x current)))
-        (differ u x (λ e. omega (arith, to-below a x current))) refl (to-unused a u (omega arith)) (from-unused u x (omega arith))
+        (not-eqb x a (λ e. ends-differ a x current (sym e))) (not-eqb a u (λ e. omega (arith, from-below a x current)))
+        (not-eqb u x (λ e. omega (arith, to-below a x current))) refl (to-unused a u (omega arith)) (from-unused u x (omega arith))
 
   rule-close : (a : ℕ) (f : Node) (ps : List Node) (ws : List Ring) → b .machine .loops ≡ (opened a ∷ (f ∷ ps)) ∷ ws
       → RuleHolds ts (atEdge Close u a (f ∷ ps) ws)
   unfolding allowed atEdge vertexAt allOpen loopsSum ringSum pathSum
   rule-close a f [] ws l = tt
   rule-close a f (g ∷ (h ∷ ps)) ws l =
-      allowed-rule ts (eqb (suc (length (f ∷ (g ∷ (h ∷ ps))))) 3 && allOpen (f ∷ (g ∷ (h ∷ ps)))) (builds (buildingOf ws (tri (vertex f) a (vertex g)) glued glued glued 0 0 0))
-      (λ t. absurd (omega (arith, eqb-true (suc (length (f ∷ (g ∷ (h ∷ ps))))) 3 (and-left (eqb (suc (length (f ∷ (g ∷ (h ∷ ps))))) 3) (allOpen (f ∷ (g ∷ (h ∷ ps)))) t))))
+      allowed-rule ts (eqb (suc (length (f ∷ (g ∷ (h ∷ ps))))) 3 && allOpen (f ∷ (g ∷ (h ∷ ps))))
+      (builds (buildingOf ws (tri (vertex f) a (vertex g)) glued glued glued 0 0 0))
+      (λ t. absurd (omega (
+        arith,
+        eqb-true (suc (length (f ∷ (g ∷ (h ∷ ps))))) 3
+            (and-left (eqb (suc (length (f ∷ (g ∷ (h ∷ ps))))) 3) (allOpen (f ∷ (g ∷ (h ∷ ps)))) t),
+      )))
   rule-close a (marked x) (g ∷ []) ws l = tt
   rule-close a (opened x) (marked y ∷ []) ws l = tt
   rule-close a (opened x) (opened y ∷ []) ws l =
@@ -133,14 +145,15 @@ module _ (b : Book) (k : Consistent b) where
       let xy = loop-used b k x y (rw l (omega (arith, hit-yes x y))) in
       let ya = loop-used b k y a (rw l (omega (arith, hit-yes y a))) in
       six (not (eqb x a)) (not (eqb a y)) (not (eqb y x)) true true true
-      (differ x a (λ e. ends-differ a x ax (sym e))) (differ a y (λ e. ends-differ y a ya (sym e)))
-      (differ y x (λ e. ends-differ x y xy (sym e))) refl refl refl
+      (not-eqb x a (λ e. ends-differ a x ax (sym e))) (not-eqb a y (λ e. ends-differ y a ya (sym e)))
+      (not-eqb y x (λ e. ends-differ x y xy (sym e))) refl refl refl
 
   rule-marking : (r : Ring) (ws : List Ring) (d : Edge) → RuleHolds ts (marking r ws d)
   rule-marking [] ws d = tt
   rule-marking (p ∷ ps) ws d = tt
 
-  rule-at-edge : (o : Operation) → Simple o → (a : ℕ) (f : Node) (ps : List Node) (ws : List Ring) → b .machine .loops ≡ (opened a ∷ (f ∷ ps)) ∷ ws
+  rule-at-edge : (o : Operation) → Simple o → (a : ℕ) (f : Node) (ps : List Node) (ws : List Ring)
+      → b .machine .loops ≡ (opened a ∷ (f ∷ ps)) ∷ ws
       → RuleHolds ts (atEdge o u a (f ∷ ps) ws)
   unfolding atEdge
   rule-at-edge New h a f ps ws l = rule-new a f ps ws l
@@ -176,7 +189,8 @@ module _ (b : Book) (k : Consistent b) where
   not-18 not-allowed h = λ x. omega arith
   not-18 (builds y) h =
       test-law (λ (x : Step). refusalOf x ≡ 18 → ⊥) _ _ _ (λ x. omega arith)
-      (λ i. subst (λ (x : Step). refusalOf x ≡ 18 → ⊥) (sym (test-passed (edgeRule (y .triangle) (y .sides .pq) (y .sides .qr) (y .sides .rp) ts) _ _ h)) (λ x. omega arith))
+      (λ i. subst (λ (x : Step). refusalOf x ≡ 18 → ⊥)
+      (sym (test-passed (edgeRule (y .triangle) (y .sides .pq) (y .sides .qr) (y .sides .rp) ts) _ _ h)) (λ x. omega arith))
   not-18 (marks y) h = test-law (λ (x : Step). refusalOf x ≡ 18 → ⊥) _ _ _ (λ x. omega arith) (λ i x. omega arith)
 
   -- on a consistent book these operations are never refused by the edge rule

@@ -12,17 +12,19 @@ use Rattle.rules.specs.declared.Triangle.{Triangle}
 use Rattle.rules.specs.declared.Operation.{Operation}
 use Rattle.rules.specs.declared.Operation.the-variants.{New, Forward, Backward, Border, Split, Close, Union, Start}
 use Rattle.rules.specs.Triangle.{tri, Edge, edge}
-use Rattle.rules.specs.Ring.{Node, opened, marked, Ring, vertex, isOpen, firstOpen, allOpen, startOr, vertexAt, lastOpen, lastVertex, front, onward, reached, shown, loopAt, without}
+use Rattle.rules.specs.Ring.{Node, opened, marked, Ring, vertex, isOpen, firstOpen, allOpen, startOr, vertexAt, lastOpen, lastVertex, front}
+use Rattle.rules.specs.Ring.{onward, reached, shown, loopAt, without}
 use Rattle.rules.specs.Table.{Side, glued, fresh, Effect, not-allowed, builds, marks, allowed, inOrder, marking, atEdge, atRest, effect}
 use Rattle.rules.specs.Machine.{freshSides}
-use Rattle.shown.specs.Spaced.{Spaced}
-use Rattle.shown.proofs.Spaced.{spaced-append, spaced-take, spaced-drop, spaced-front, spaced-turn, spaced-reached}
-use Rattle.shown.specs.Effects.{buildingOf}
+use Rattle.book.specs.Spaced.{Spaced}
+use Rattle.book.proofs.Spaced.{spaced-append, spaced-take, spaced-drop, spaced-front, spaced-turn, spaced-reached}
+use Rattle.book.specs.Parts.{buildingOf}
 use Rattle.book.specs.Sums.{Weight, pathSum, ringSum, loopsSum}
 use Rattle.book.specs.Consistent.{Sound, AllSound, AllCurrent}
-use Rattle.book.proofs.Counting.{and-left, and-right, ifFresh, ifGlued}
+use Rattle.book.proofs.Counting.{ifFresh, ifGlued}
 use Rattle.book.proofs.Sums.{start-append, sum-append, sum-turn, front-last, start-drop, sum-without, length-without, turned}
 use Rattle.book.proofs.ShownSums.{open-ring-sum, fewer-places}
+use Rattle.counting.proofs.Bools.{and-left, and-right}
 
 -- v is the vertex of a place of the loops: no sum over the places is less than what v counts
 abbrev pub At : List Ring → ℕ → Type 0
@@ -57,16 +59,20 @@ pub record Marks (before ls : List Ring) (d : Edge) (rim : ℕ) : Type 0 where
 -- what holds of an effect
 abbrev pub Law : ℕ → List Ring → Effect → Type 0
 Law u before not-allowed = Unit {0}
-Law u before (builds x) = Builds u before (x .loops) (x .triangle) (x .sides .pq) (x .sides .qr) (x .sides .rp) (x .added .vertices) (x .added .starts) (x .added .unions)
+Law u before (builds x) =
+    Builds u before (x .loops) (x .triangle) (x .sides .pq) (x .sides .qr) (x .sides .rp) (x .added .vertices) (x .added .starts)
+    (x .added .unions)
 Law u before (marks x) = Marks before (x .loops) (x .edge) (x .rims)
 
 -- the range of a split's index
 pub split-low : (i k : ℕ) (x y : Bool) → leb 1 i && leb (i + 2) k && x && y ≡ true → 1 ≤ i
-split-low i k x y t = leb-true 1 i (and-left (leb 1 i) (leb (i + 2) k) (and-left (leb 1 i && leb (i + 2) k) x (and-left (leb 1 i && leb (i + 2) k && x) y t)))
+split-low i k x y t = leb-true 1 i
+    (and-left (leb 1 i) (leb (i + 2) k) (and-left (leb 1 i && leb (i + 2) k) x (and-left (leb 1 i && leb (i + 2) k && x) y t)))
 
 pub split-high : (i k : ℕ) (x y : Bool) → leb 1 i && leb (i + 2) k && x && y ≡ true → i + 2 ≤ k
 split-high i k x y t =
-    leb-true (i + 2) k (and-right (leb 1 i) (leb (i + 2) k) (and-left (leb 1 i && leb (i + 2) k) x (and-left (leb 1 i && leb (i + 2) k && x) y t)))
+    leb-true (i + 2) k (and-right (leb 1 i) (leb (i + 2) k)
+    (and-left (leb 1 i && leb (i + 2) k) x (and-left (leb 1 i && leb (i + 2) k && x) y t)))
 
 allowed-law : (u : ℕ) (before : List Ring) (t : Bool) (c : Effect) → (t ≡ true → Law u before c) → Law u before (allowed t c)
 unfolding allowed
@@ -80,7 +86,8 @@ at-path g [] i b h = absurd (omega arith)
 at-path g (p ∷ ps) zero b h = omega arith
 at-path g (p ∷ ps) (suc i) b h = omega (arith, at-path g ps i b (omega arith))
 
-pub sum-order : (w : Weight) (t : Bool) (l m : Ring) (ws : List Ring) → loopsSum w (inOrder t l m ws) ≡ ringSum w l + (ringSum w m + loopsSum w ws)
+pub sum-order : (w : Weight) (t : Bool) (l m : Ring) (ws : List Ring)
+    → loopsSum w (inOrder t l m ws) ≡ ringSum w l + (ringSum w m + loopsSum w ws)
 unfolding inOrder loopsSum
 sum-order w true l m ws = refl
 sum-order w false l m ws = omega arith
@@ -95,7 +102,8 @@ unfolding inOrder
 sound-order true l m ws x y z = (x, (y, z))
 sound-order false l m ws x y z = (y, (x, z))
 
-current-order : (t : Bool) (l m : Ring) (ws : List Ring) → firstOpen l ≡ true → firstOpen m ≡ true → Spaced l false → Spaced m false → AllCurrent ws
+current-order : (t : Bool) (l m : Ring) (ws : List Ring) → firstOpen l ≡ true → firstOpen m ≡ true → Spaced l false → Spaced m false
+    → AllCurrent ws
     → AllCurrent (inOrder t l m ws)
 unfolding inOrder
 current-order true l m ws x y i j z = (x, (y, z, j), i)
@@ -164,13 +172,15 @@ onward-current back (opened v ∷ ps) = (refl, spaced-reached (ps ++ back) false
 onward-current back (marked v ∷ ps) = onward-current (back ++ (marked v ∷ [])) ps
 
 -- the open edges of the ring shown are the same ones, and its places no others
-onward-open : (w : Weight) → ((x y : ℕ) → w x y false ≡ 0) → (back ps : List Node) → ringSum w (shown (onward back ps)) ≡ ringSum w (onward back ps)
+onward-open : (w : Weight) → ((x y : ℕ) → w x y false ≡ 0) → (back ps : List Node)
+    → ringSum w (shown (onward back ps)) ≡ ringSum w (onward back ps)
 unfolding onward
 onward-open w z back [] = refl
 onward-open w z back (opened v ∷ ps) = open-ring-sum w z v (ps ++ back)
 onward-open w z back (marked v ∷ ps) = onward-open w z (back ++ (marked v ∷ [])) ps
 
-pub onward-fewer : (g : ℕ → ℕ) (back ps : List Node) → ringSum (λ x y o. g x) (shown (onward back ps)) ≤ ringSum (λ x y o. g x) (onward back ps)
+pub onward-fewer : (g : ℕ → ℕ) (back ps : List Node)
+    → ringSum (λ x y o. g x) (shown (onward back ps)) ≤ ringSum (λ x y o. g x) (onward back ps)
 unfolding onward ringSum pathSum
 onward-fewer g back [] = omega arith
 onward-fewer g back (opened v ∷ ps) = omega (arith, fewer-places g (ps ++ back) false v)
@@ -233,7 +243,8 @@ module _ (u a : ℕ) (ws : List Ring) (cw : AllCurrent ws) where
       let c = lastVertex (g ∷ ps) in
       let long = leb 3 (suc (length (f ∷ (g ∷ ps)))) in
       let sp′ : Spaced (f ∷ front (g ∷ ps)) false = spaced-front (f ∷ (g ∷ ps)) false sp in
-      allowed-law u ((opened a ∷ (f ∷ (g ∷ ps))) ∷ ws) (long && lastOpen (g ∷ ps) && not (eqb (suc (length (f ∷ (g ∷ ps)))) 3 && allOpen (f ∷ (g ∷ ps))))
+      allowed-law u ((opened a ∷ (f ∷ (g ∷ ps))) ∷ ws)
+      (long && lastOpen (g ∷ ps) && not (eqb (suc (length (f ∷ (g ∷ ps)))) 3 && allOpen (f ∷ (g ∷ ps))))
       (builds (buildingOf ((opened c ∷ (f ∷ front (g ∷ ps))) ∷ ws) (tri (vertex f) a c) glued glued fresh 0 0 0))
       (λ t.
       let e = front-last (g ∷ ps) (and-right long (lastOpen (g ∷ ps)) (and-left (long && lastOpen (g ∷ ps)) _ t)) in
@@ -243,7 +254,12 @@ module _ (u a : ℕ) (ws : List Ring) (cw : AllCurrent ws) where
         sound = λ s. (record { long = omega arith; current = refl; spaced = sp′ }, s .1);
         numbers =
             none (at-b (f ∷ (g ∷ ps))) (at-a (f ∷ (g ∷ ps)))
-            (λ n. omega (arith, sum-append (λ x y o. n x) (f ∷ front (g ∷ ps)) (opened c ∷ []) a, ap (λ (l : List Node). pathSum (λ x y o. n x) (f ∷ l) a) e));
+            (λ n. omega (
+              arith,
+              sum-append (λ x y o. n x) (f ∷ front (g ∷ ps)) (opened c ∷ []) a,
+              ap
+                  (λ (l : List Node). pathSum (λ x y o. n x) (f ∷ l) a) e,
+            ));
         lives = omega arith;
         small = omega arith;
       })
@@ -255,14 +271,19 @@ module _ (u a : ℕ) (ws : List Ring) (cw : AllCurrent ws) where
   law-close (f ∷ (g ∷ (h ∷ ps))) =
       allowed-law u ((opened a ∷ (f ∷ (g ∷ (h ∷ ps)))) ∷ ws) (eqb (suc (length (f ∷ (g ∷ (h ∷ ps))))) 3 && allOpen (f ∷ (g ∷ (h ∷ ps))))
       (builds (buildingOf ws (tri (vertex f) a (vertex g)) glued glued glued 0 0 0))
-      (λ t. absurd (omega (arith, eqb-true (suc (length (f ∷ (g ∷ (h ∷ ps))))) 3 (and-left (eqb (suc (length (f ∷ (g ∷ (h ∷ ps))))) 3) (allOpen (f ∷ (g ∷ (h ∷ ps)))) t))))
+      (λ t. absurd (omega (
+        arith,
+        eqb-true (suc (length (f ∷ (g ∷ (h ∷ ps))))) 3
+            (and-left (eqb (suc (length (f ∷ (g ∷ (h ∷ ps))))) 3) (allOpen (f ∷ (g ∷ (h ∷ ps)))) t),
+      )))
   law-close (marked b ∷ (g ∷ [])) = tt
   law-close (opened b ∷ (marked c ∷ [])) = tt
   law-close (opened b ∷ (opened c ∷ [])) = record {
     sums = λ w. omega arith;
     current = cw;
     sound = λ s. s .1;
-    numbers = none (at-b (opened b ∷ (opened c ∷ []))) (at-a (opened b ∷ (opened c ∷ []))) (at-c (opened b ∷ (opened c ∷ [])) 1 (omega arith));
+    numbers = none (at-b (opened b ∷ (opened c ∷ []))) (at-a (opened b ∷ (opened c ∷ [])))
+        (at-c (opened b ∷ (opened c ∷ [])) 1 (omega arith));
     lives = omega arith;
     small = omega arith;
   }
@@ -302,8 +323,12 @@ module _ (u a : ℕ) (ws : List Ring) (cw : AllCurrent ws) where
   unfolding allowed atEdge
   law-split ps zero sp = tt
   law-split [] (suc i) sp =
-      allowed-law u ((opened a ∷ []) ∷ ws) (leb 1 (suc i) && leb (suc i + 2) 1 && not (eqb (suc i) 1 && false) && not (eqb (suc i + 2) 1 && lastOpen []))
-      (builds (buildingOf (inOrder (leb (length {A = Node} (opened (vertexAt [] (suc i)) ∷ take (suc i) [])) (length {A = Node} (opened a ∷ drop (suc i) []))) (opened (vertexAt [] (suc i)) ∷ take (suc i) []) (opened a ∷ drop (suc i) []) ws) (tri a a (vertexAt [] (suc i))) glued fresh fresh 0 0 0))
+      allowed-law u ((opened a ∷ []) ∷ ws)
+      (leb 1 (suc i) && leb (suc i + 2) 1 && not (eqb (suc i) 1 && false) && not (eqb (suc i + 2) 1 && lastOpen []))
+      (builds (buildingOf (inOrder
+      (leb (length {A = Node} (opened (vertexAt [] (suc i)) ∷ take (suc i) [])) (length {A = Node} (opened a ∷ drop (suc i) [])))
+      (opened (vertexAt [] (suc i)) ∷ take (suc i) []) (opened a ∷ drop (suc i) []) ws) (tri a a (vertexAt [] (suc i))) glued fresh
+      fresh 0 0 0))
       (λ t. absurd (omega (arith, split-high (suc i) 1 (not (eqb (suc i) 1 && false)) (not (eqb (suc i + 2) 1 && lastOpen [])) t)))
   law-split (f ∷ ps) (suc i) sp =
       let j = suc i in
@@ -313,7 +338,8 @@ module _ (u a : ℕ) (ws : List Ring) (cw : AllCurrent ws) where
       let c = vertexAt (f ∷ ps) j in
       let first = leb (length (opened c ∷ take j (f ∷ ps))) (length (opened a ∷ drop j (f ∷ ps))) in
       allowed-law u ((opened a ∷ (f ∷ ps)) ∷ ws) (leb 1 j && leb (j + 2) k && x && y)
-      (builds (buildingOf (inOrder first (opened c ∷ take j (f ∷ ps)) (opened a ∷ drop j (f ∷ ps)) ws) (tri (vertex f) a c) glued fresh fresh 0 0 0))
+      (builds (buildingOf (inOrder first (opened c ∷ take j (f ∷ ps)) (opened a ∷ drop j (f ∷ ps)) ws) (tri (vertex f) a c) glued fresh
+      fresh 0 0 0))
       (λ t. halves first f ps i sp (split-high j k x y t))
 
   law-union : (ps : List Node) (n j : ℕ) → Spaced ps false → Law u ((opened a ∷ ps) ∷ ws) (atEdge (Union n j) u a ps ws)
@@ -322,7 +348,8 @@ module _ (u a : ℕ) (ws : List Ring) (cw : AllCurrent ws) where
       let l = loopAt ws (n - 1) in
       let c = vertexAt l j in
       allowed-law u ((opened a ∷ ps) ∷ ws) (leb 1 n && leb n (length ws) && ltb j (length l))
-      (builds (buildingOf ((opened c ∷ (ps ++ (opened a ∷ (drop j l ++ take j l)))) ∷ without ws (n - 1)) (tri (startOr a ps) a c) glued fresh fresh 0 0 1))
+      (builds (buildingOf ((opened c ∷ (ps ++ (opened a ∷ (drop j l ++ take j l)))) ∷ without ws (n - 1)) (tri (startOr a ps) a c) glued
+      fresh fresh 0 0 1))
       (λ t.
       let t′ = and-left (leb 1 n && leb n (length ws)) (ltb j (length l)) t in
       let h : j < length l = ltb-true j (length l) (and-right (leb 1 n && leb n (length ws)) (ltb j (length l)) t) in
@@ -342,7 +369,11 @@ module _ (u a : ℕ) (ws : List Ring) (cw : AllCurrent ws) where
               sum-without w ws (n - 1) (omega arith),
             );
         current = (refl, current-without ws (n - 1) cw, sp′);
-        sound = λ s. (record { long = simp length-append (omega (arith, s .0 .long)); current = refl; spaced = sp′ }, sound-without ws (n - 1) (s .1));
+        sound = λ s. (
+          record { long = simp length-append (omega (arith, s .0 .long)); current = refl; spaced = sp′ },
+          sound-without ws
+              (n - 1) (s .1),
+        );
         numbers =
             none (at-b ps) (at-a ps)
             (λ g. omega (arith, at-path g l j (startOr 0 l) h, sum-without (λ x y o. g x) ws (n - 1) (omega arith)));
@@ -370,7 +401,13 @@ module _ (u a : ℕ) (ws : List Ring) (cw : AllCurrent ws) where
 
       fewer : (g : ℕ → ℕ) → ringSum (λ x y o. g x) (shown (onward [] (ps ++ (marked a ∷ [])))) ≤ ringSum (λ x y o. g x) (opened a ∷ ps)
       fewer g =
-          omega (arith, onward-fewer g [] (ps ++ (marked a ∷ [])), turned (λ x y o. g x) [] (ps ++ (marked a ∷ [])) .total, whole (λ x y o. g x))
+          omega (
+            arith,
+            onward-fewer g [] (ps ++ (marked a ∷ [])),
+            turned (λ x y o. g x) [] (ps ++ (marked a ∷ [])) .total,
+            whole
+                (λ x y o. g x),
+          )
 
       go : (r : Ring) → shown (onward [] (ps ++ (marked a ∷ []))) ≡ r → Law u ((opened a ∷ ps) ∷ ws) (marking r ws (edge a (startOr a ps)))
       go [] e = record {

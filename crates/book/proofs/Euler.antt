@@ -19,10 +19,12 @@ differences : (a b c d : ℕ) → a + d ≡ c + b → pos a -ℤ pos b ≡ pos c
 differences a b c d h =
     sym (+ℤ-negℤ-cancel (pos a -ℤ pos b) (pos d))
     ∙ ap (λ (x : ℤ). x -ℤ pos d)
-    (minus-plus a b d ∙ ap (λ (n : ℕ). pos n -ℤ pos b) h ∙ ap (λ (x : ℤ). x -ℤ pos b) (sym (pos-+ℤ-pos c b)) ∙ +ℤ-negℤ-cancel (pos c) (pos b))
+    (minus-plus a b d ∙ ap (λ (n : ℕ). pos n -ℤ pos b) h ∙ ap (λ (x : ℤ). x -ℤ pos b) (sym (pos-+ℤ-pos c b))
+    ∙ +ℤ-negℤ-cancel (pos c) (pos b))
 
 pub euler-signed : (b : Book) → Consistent b
-    → totals (b .machine) .euler +ℤ pos (length (b .machine .loops)) +ℤ pos (b .machine .rims) ≡ pos (2 * b .machine .starts) -ℤ pos (2 * b .machine .unions)
+    → totals (b .machine) .euler +ℤ pos (length (b .machine .loops)) +ℤ pos (b .machine .rims)
+    ≡ pos (2 * b .machine .starts) -ℤ pos (2 * b .machine .unions)
 euler-signed b k =
     let v = b .machine .used in
     let e = b .machine .edges in

@@ -16,13 +16,15 @@ use Rattle.rules.specs.Ring.{Node, Ring, vertex, startOr}
 use Rattle.rules.specs.Table.{Side, Effect, not-allowed, builds, marks, effect, sideRule, edgeRule}
 use Rattle.rules.specs.Machine.{empty, afterBuild, afterMark, Step, refused, test, done, operation}
 use Rattle.rules.specs.Book.{Book, entered}
-use Rattle.shown.specs.Effects.{buildingOf, markingOf}
+use Rattle.book.specs.Parts.{buildingOf, markingOf}
 use Rattle.book.specs.Sums.{pathSum, ringSum, loopsSum, openHit, openEdges}
 use Rattle.book.specs.Consistent.{Consistent}
 use Rattle.book.specs.Numbers.{NodesBelow, LoopsBelow}
-use Rattle.book.proofs.Counting.{and-left, and-right, same-is, same-yes, hit-proper, Fits, rule-unjoined, triangle-fits, triangle-pairs, Numbered, add-old, add-next}
+use Rattle.book.proofs.Counting.{Fits, rule-unjoined, triangle-fits, triangle-pairs, Numbered, add-old, add-next}
 use Rattle.book.proofs.Effects.{At, Corners, none, third, three, Builds, Marks, Law, sound-current, effect-law}
 use Rattle.book.proofs.Numbers.{Below, below-effect}
+use Rattle.counting.proofs.Bools.{and-left, and-right}
+use Rattle.counting.proofs.Counts.{same-yes, same-is, hit-proper}
 
 -- an open edge of a loop is a used one
 pub loop-used : (b : Book) → Consistent b → (x y : ℕ) → 1 ≤ openEdges x y (b .machine .loops) → uses x y (b .machine .triangles) ≡ 1
@@ -65,7 +67,8 @@ more-corners ls u n p q r vs three h k =
 
 -- a triangle is built
 kept-built : (b : Book) → Consistent b → (ls : List Ring) (t : Triangle) (pq qr rp : Side) (n s k : ℕ)
-    → Builds (b .machine .used) (b .machine .loops) ls t pq qr rp n s k → LoopsBelow (b .machine .used + n) ls → edgeRule t pq qr rp (b .machine .triangles) ≡ true
+    → Builds (b .machine .used) (b .machine .loops) ls t pq qr rp n s k → LoopsBelow (b .machine .used + n) ls
+    → edgeRule t pq qr rp (b .machine .triangles) ≡ true
     → Consistent (record { machine = afterBuild (b .machine) (buildingOf ls t pq qr rp n s k); borders = b .borders })
 unfolding corners edgesOf count
 kept-built b c ls t pq qr rp n s k l low rule =
@@ -101,7 +104,14 @@ kept-built b c ls t pq qr rp n s k l low rule =
       each = v .each;
       vertices = v .differ;
       once = g .once;
-      proper = λ x. omega (arith, c .proper x, hit-proper x (t .p) (t .q) p-q, hit-proper x (t .q) (t .r) q-r, hit-proper x (t .r) (t .p) r-p);
+      proper = λ x. omega (
+        arith,
+        c .proper x,
+        hit-proper x (t .p) (t .q) p-q,
+        hit-proper x (t .q) (t .r) q-r,
+        hit-proper x (t .r) (t .p)
+            r-p,
+      );
       all = g .all;
       low = low;
       loops = l .sound (c .loops);
@@ -110,7 +120,8 @@ kept-built b c ls t pq qr rp n s k l low rule =
     }
 
 -- an edge is declared border
-kept-marked : (b : Book) → Consistent b → (ls : List Ring) (d : Edge) (rim : ℕ) → Marks (b .machine .loops) ls d rim → LoopsBelow (b .machine .used) ls
+kept-marked : (b : Book) → Consistent b → (ls : List Ring) (d : Edge) (rim : ℕ) → Marks (b .machine .loops) ls d rim
+    → LoopsBelow (b .machine .used) ls
     → Consistent (record { machine = afterMark (b .machine) (markingOf ls d rim); borders = d ∷ b .borders })
 unfolding count
 kept-marked b c ls d rim l low = record {
@@ -142,11 +153,13 @@ kept-by b c (builds y) l v =
     (edgeRule (y .triangle) (y .sides .pq) (y .sides .qr) (y .sides .rp) (b .machine .triangles)) _ _ c
     (λ r. kept-built b c (y .loops) (y .triangle) (y .sides .pq) (y .sides .qr) (y .sides .rp)
     (y .added .vertices) (y .added .starts) (y .added .unions) l (v .0) r))
-kept-by b c (marks y) l v = test-law (λ (x : Step). Consistent (entered b x)) _ _ _ c (λ i. kept-marked b c (y .loops) (y .edge) (y .rims) l v)
+kept-by b c (marks y) l v =
+    test-law (λ (x : Step). Consistent (entered b x)) _ _ _ c (λ i. kept-marked b c (y .loops) (y .edge) (y .rims) l v)
 
 -- an operation, accepted or refused
 pub kept : (b : Book) → Consistent b → (o : Operation) → Consistent (entered b (operation (b .machine) o))
-kept b c o = kept-by b c (effect o (b .machine .used) (b .machine .loops)) (effect-law o (b .machine .used) (b .machine .loops) (sound-current (b .machine .loops) (c .loops)))
+kept b c o = kept-by b c (effect o (b .machine .used) (b .machine .loops))
+    (effect-law o (b .machine .used) (b .machine .loops) (sound-current (b .machine .loops) (c .loops)))
     (below-effect o (b .machine .used) (b .machine .loops) (c .low))
 
 -- the empty book

@@ -12,13 +12,14 @@ use Rattle.rules.specs.declared.Triangle.{Triangle}
 use Rattle.rules.specs.declared.Operation.{Operation}
 use Rattle.rules.specs.declared.Operation.the-variants.{New, Forward, Backward, Border, Split, Close, Union, Start}
 use Rattle.rules.specs.Triangle.{Edge, edge}
-use Rattle.rules.specs.Ring.{Node, opened, marked, Ring, vertex, startOr, vertexAt, lastVertex, front, onward, reached, shown, loopAt, without}
+use Rattle.rules.specs.Ring.{Node, opened, marked, Ring, vertex, startOr, vertexAt, lastVertex, front, onward, reached, shown, loopAt}
+use Rattle.rules.specs.Ring.{without}
 use Rattle.rules.specs.Table.{Side, Effect, not-allowed, builds, marks, allowed, inOrder, marking, atEdge, atRest, effect}
-use Rattle.shown.specs.Effects.{buildingOf, markingOf}
+use Rattle.book.specs.Parts.{buildingOf, markingOf}
 use Rattle.book.specs.Consistent.{AllCurrent}
 use Rattle.book.specs.Numbers.{NodesBelow, LoopsBelow}
-use Rattle.book.proofs.Counting.{and-left, and-right}
 use Rattle.book.proofs.Effects.{split-high}
+use Rattle.counting.proofs.Bools.{and-left, and-right}
 
 -- runs of nodes
 below-append : (u : ℕ) (ps qs : List Node) → NodesBelow u ps → NodesBelow u qs → NodesBelow u (ps ++ qs)
@@ -64,7 +65,8 @@ below-onward : (u : ℕ) (back ps : List Node) → NodesBelow u back → NodesBe
 unfolding onward
 below-onward u back [] k h = tt
 below-onward u back (opened v ∷ ps) k h = (h .0, below-append u ps back (h .1) k)
-below-onward u back (marked v ∷ ps) k h = below-onward u (back ++ (marked v ∷ [])) ps (below-append u back (marked v ∷ []) k (h .0, tt)) (h .1)
+below-onward u back (marked v ∷ ps) k h =
+    below-onward u (back ++ (marked v ∷ [])) ps (below-append u back (marked v ∷ []) k (h .0, tt)) (h .1)
 
 below-reached : (u : ℕ) (ps : List Node) (m : Bool) → NodesBelow u ps → NodesBelow u (reached ps m)
 unfolding reached
@@ -146,13 +148,15 @@ module _ (u a : ℕ) (ps : List Node) (ws : List Ring) (ha : a < u) (hp : NodesB
   unfolding atEdge
   below-backward c e k =
       allowed-below u _ _
-      (λ t. plain ((opened (lastVertex ps) ∷ front ps) ∷ ws) (lastVertex ps) ((omega (arith, e, k), below-front u ps hp), hw) (omega (arith, e, k)))
+      (λ t. plain ((opened (lastVertex ps) ∷ front ps) ∷ ws) (lastVertex ps) ((omega (arith, e, k), below-front u ps hp), hw)
+      (omega (arith, e, k)))
 
   below-border : Below u (atEdge Border u a ps ws)
   unfolding atEdge
   below-border =
       marking-below u (shown (onward [] (ps ++ (marked a ∷ [])))) ws (edge a (startOr a ps))
-      (below-shown u (onward [] (ps ++ (marked a ∷ []))) (below-onward u [] (ps ++ (marked a ∷ [])) tt (below-append u ps (marked a ∷ []) hp (ha, tt)))) hw
+      (below-shown u (onward [] (ps ++ (marked a ∷ [])))
+      (below-onward u [] (ps ++ (marked a ∷ [])) tt (below-append u ps (marked a ∷ []) hp (ha, tt)))) hw
 
   below-split : (i : ℕ) → Below u (atEdge (Split i) u a ps ws)
   unfolding atEdge
@@ -161,9 +165,11 @@ module _ (u a : ℕ) (ps : List Node) (ws : List Ring) (ha : a < u) (hp : NodesB
       (λ t.
       let k = split-high i (suc (length ps)) _ _ t in
       let h = below-at u ps i (omega (arith, k)) hp in
-      plain (inOrder (leb (length (opened (vertexAt ps i) ∷ take i ps)) (length (opened a ∷ drop i ps))) (opened (vertexAt ps i) ∷ take i ps) (opened a ∷ drop i ps) ws)
+      plain (inOrder (leb (length (opened (vertexAt ps i) ∷ take i ps)) (length (opened a ∷ drop i ps)))
+      (opened (vertexAt ps i) ∷ take i ps) (opened a ∷ drop i ps) ws)
       (vertexAt ps i)
-      (below-order u _ (opened (vertexAt ps i) ∷ take i ps) (opened a ∷ drop i ps) ws (h, below-take u i ps hp) (ha, below-drop u i ps hp) hw) h)
+      (below-order u _ (opened (vertexAt ps i) ∷ take i ps) (opened a ∷ drop i ps) ws (h, below-take u i ps hp) (ha, below-drop u i ps hp)
+      hw) h)
 
   below-close : Below u (atEdge Close u a ps ws)
   unfolding atEdge
@@ -183,7 +189,11 @@ module _ (u a : ℕ) (ps : List Node) (ws : List Ring) (ha : a < u) (hp : NodesB
       let k = ltb-true j (length l) (and-right (leb 1 n && leb n (length ws)) _ t) in
       let h = below-at u l j k hl in
       plain ((opened (vertexAt l j) ∷ (ps ++ (opened a ∷ (drop j l ++ take j l)))) ∷ without ws (n - 1)) (vertexAt l j) (
-        (h, below-append u ps (opened a ∷ (drop j l ++ take j l)) hp (ha, below-append u (drop j l) (take j l) (below-drop u j l hl) (below-take u j l hl))),
+        (
+          h,
+          below-append u ps (opened a ∷ (drop j l ++ take j l)) hp
+              (ha, below-append u (drop j l) (take j l) (below-drop u j l hl) (below-take u j l hl)),
+        ),
         below-without u ws (n - 1) hw,
       )
       h)
@@ -220,11 +230,13 @@ below-effect o u ([] ∷ ws) h = tt
 below-effect o u ((e ∷ ps) ∷ ws) h = below-at-edge o u (vertex e) ps ws (h .0 .0) (h .0 .1) (h .1)
 
 -- a triangle is built
-pub below-built : (o : Operation) (u : ℕ) (ls ls′ : List Ring) (t : Triangle) (pq qr rp : Side) (n s k : ℕ) → AllCurrent ls → LoopsBelow u ls
+pub below-built : (o : Operation) (u : ℕ) (ls ls′ : List Ring) (t : Triangle) (pq qr rp : Side) (n s k : ℕ) → AllCurrent ls
+    → LoopsBelow u ls
     → effect o u ls ≡ builds (buildingOf ls′ t pq qr rp n s k) → LoopsBelow (u + n) ls′ × ((t .p < u + n) × (t .q < u + n) × (t .r < u + n))
 below-built o u ls ls′ t pq qr rp n s k c h e = subst (Below u) e (below-effect o u ls h)
 
 -- an edge is marked
-pub below-marked : (o : Operation) (u : ℕ) (ls ls′ : List Ring) (d : Edge) (rim : ℕ) → LoopsBelow u ls → effect o u ls ≡ marks (markingOf ls′ d rim)
+pub below-marked : (o : Operation) (u : ℕ) (ls ls′ : List Ring) (d : Edge) (rim : ℕ) → LoopsBelow u ls
+    → effect o u ls ≡ marks (markingOf ls′ d rim)
     → LoopsBelow u ls′
 below-marked o u ls ls′ d rim h e = subst (Below u) e (below-effect o u ls h)

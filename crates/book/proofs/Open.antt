@@ -21,5 +21,6 @@ open-number o c (suc (suc u)) v h k e = absurd (omega arith)
 pub open-edges-exact : (b : Book) → Consistent b → (x y : ℕ)
     → openEdges x y (b .machine .loops) ≡ modelOpen x y (b .machine .triangles) (b .borders)
 open-edges-exact b k x y =
-    open-number (openEdges x y (b .machine .loops)) (count x y (b .borders)) (uses x y (b .machine .triangles)) (uses y x (b .machine .triangles))
+    open-number (openEdges x y (b .machine .loops)) (count x y (b .borders)) (uses x y (b .machine .triangles))
+    (uses y x (b .machine .triangles))
     (k .once x y) (k .once y x) (k .all x y)

@@ -6,7 +6,8 @@ use mathlib.Core.Bool.{true, false, false≢true}
 use mathlib.Core.List.{List, [], _∷_, _++_, append-nil, append-assoc}
 use mathlib.Core.Path.{_≡_, refl, ap, _∙_}
 use lib.ListN.{length, drop}
-use Rattle.rules.specs.Ring.{Node, opened, marked, Ring, vertex, isOpen, startOr, vertexAt, lastOpen, lastVertex, front, onward, loopAt, without}
+use Rattle.rules.specs.Ring.{Node, opened, marked, Ring, vertex, isOpen, startOr, vertexAt, lastOpen, lastVertex, front, onward, loopAt}
+use Rattle.rules.specs.Ring.{without}
 use Rattle.book.specs.Sums.{Weight, pathSum, ringSum, loopsSum}
 
 pub start-append : (b : ℕ) (ps qs : List Node) → startOr b (ps ++ qs) ≡ startOr (startOr b qs) ps
@@ -47,7 +48,8 @@ start-drop b (p ∷ ps) zero h = refl
 start-drop b (p ∷ ps) (suc i) h = start-drop b ps i (omega arith)
 
 -- one waiting loop, and the others
-pub sum-without : (w : Weight) (ws : List Ring) (n : ℕ) → n < length ws → loopsSum w ws ≡ ringSum w (loopAt ws n) + loopsSum w (without ws n)
+pub sum-without : (w : Weight) (ws : List Ring) (n : ℕ) → n < length ws
+    → loopsSum w ws ≡ ringSum w (loopAt ws n) + loopsSum w (without ws n)
 unfolding loopsSum loopAt without
 sum-without w [] n h = absurd (omega arith)
 sum-without w (l ∷ ws) zero h = refl

@@ -12,7 +12,7 @@ use Rattle.rules.specs.Count.{occurs, count, uses, different, pairs}
 use Rattle.rules.specs.Ring.{Ring, firstOpen}
 use Rattle.rules.specs.Machine.{Machine, within}
 use Rattle.rules.specs.Book.{Book}
-use Rattle.shown.specs.Spaced.{Spaced}
+use Rattle.book.specs.Spaced.{Spaced}
 use Rattle.book.specs.Sums.{openEdges}
 use Rattle.book.specs.Numbers.{LoopsBelow}
 

@@ -1,6 +1,9 @@
-pub mod Sums
 pub mod Below
-pub mod Consistent
 pub mod Bounded
+pub mod Consistent
 pub mod Numbers
+pub mod Parts
 pub mod Reached
+pub mod Shown
+pub mod Spaced
+pub mod Sums

@@ -1,1 +1,2 @@
-// Theorems about the builder's book: what holds of it after any list of calls. Definitions in specs/, proofs in proofs/; no code.
+// Theorems about the loops and the builder's book: what holds of it after any list of calls. Definitions in specs/, proofs in proofs/; no
+// code.

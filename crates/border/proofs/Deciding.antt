@@ -7,20 +7,23 @@ use mathlib.Core.Path.{_≡_, refl, sym, ap, ap₂, _∙_}
 use lib.Dec.{eqb, leb}
 use borrow.Author.Tests.{le-leb, lt-leb, eq-eqb, ne-eqb}
 use Rattle.rules.specs.declared.Operation.{Operation}
-use Rattle.memory.specs.declared.Loops.{Loops}
-use Rattle.memory.specs.declared.Front.{Front}
-use Rattle.memory.specs.declared.Plan.{Plan}
-use Rattle.memory.specs.declared.Decided.{Decided}
-use Rattle.memory.specs.declared.Decided.the-variants.{Refused, Builds}
-use Rattle.memory.specs.Decision.{restProposed, edgeProposed, proposedAt, proposed, newEdges, roomFor, roomBy, decidedBy, decided}
+use Rattle.cutborder.specs.declared.Loops.{Loops}
+use Rattle.cutborder.specs.declared.Front.{Front}
+use Rattle.cutborder.specs.declared.Plan.{Plan}
+use Rattle.cutborder.specs.declared.Decided.{Decided}
+use Rattle.cutborder.specs.declared.Decided.the-variants.{Refused, Builds}
+use Rattle.border_theory.specs.Memory.Decision.{restProposed, edgeProposed, proposedAt, proposed, newEdges, roomFor, roomBy, decidedBy}
+use Rattle.border_theory.specs.Memory.Decision.{decided}
 
 pub rest-by : (u : ℕ) (o o′ : Operation) (r : Decided) → o ≡ o′ → r ≡ restProposed u o′ → r ≡ restProposed u o
 rest-by u o o′ r e h = rw e h
 
-pub edge-by : (n : ℕ) (l : Loops) (m : List ℕ) (u : ℕ) (o o′ : Operation) (r : Decided) → o ≡ o′ → r ≡ edgeProposed n l m u o′ → r ≡ edgeProposed n l m u o
+pub edge-by : (n : ℕ) (l : Loops) (m : List ℕ) (u : ℕ) (o o′ : Operation) (r : Decided) → o ≡ o′ → r ≡ edgeProposed n l m u o′
+    → r ≡ edgeProposed n l m u o
 edge-by n l m u o o′ r e h = rw e h
 
-pub proposed-rest : (n : ℕ) (l : Loops) (m : List ℕ) (u : ℕ) (o : Operation) (r : Decided) → l .live ≡ 0 → r ≡ restProposed u o → r ≡ proposedAt n l m u o
+pub proposed-rest : (n : ℕ) (l : Loops) (m : List ℕ) (u : ℕ) (o : Operation) (r : Decided) → l .live ≡ 0 → r ≡ restProposed u o
+    → r ≡ proposedAt n l m u o
 proposed-rest n l m u o r z h = let t : eqb (l .live) 0 ≡ true = eq-eqb (l .live) 0 z in rw t h
 
 pub proposed-edge : (n : ℕ) (l : Loops) (m : List ℕ) (u : ℕ) (o : Operation) (r : Decided) → (l .live ≡ 0 → ⊥)
@@ -45,7 +48,8 @@ third false b c e = refl
 module _ (n : ℕ) (s : Front) (p : Plan) where
   pub room-vertices : s .stated .vertices < s .used + p .vertices → false ≡ roomFor n s p
   unfolding roomFor
-  room-vertices h = let t : leb (s .used + p .vertices) (s .stated .vertices) ≡ false = lt-leb (s .used + p .vertices) (s .stated .vertices) h in rw t
+  room-vertices h = let t : leb (s .used + p .vertices) (s .stated .vertices) ≡ false =
+      lt-leb (s .used + p .vertices) (s .stated .vertices) h in rw t
 
   pub room-triangles : s .stated .triangles < s .built + 1 → false ≡ roomFor n s p
   unfolding roomFor
@@ -86,6 +90,7 @@ tested-room n s p t e h = ap (λ (x : Bool). roomBy x p) (sym (sym e ∙ h))
 pub tested-full : (n : ℕ) (s : Front) (p : Plan) (t : Bool) → t ≡ roomFor n s p → t ≡ false → Refused 17 ≡ decidedBy n s (Builds p)
 tested-full n s p t e h = ap (λ (x : Bool). roomBy x p) (sym (sym e ∙ h))
 
-pub decided-by : (n : ℕ) (s : Front) (m : List ℕ) (o : Operation) (d r : Decided) → d ≡ proposedAt n (s .loops) m (s .used) o → r ≡ decidedBy n s d → r ≡ decided n s m o
+pub decided-by : (n : ℕ) (s : Front) (m : List ℕ) (o : Operation) (d r : Decided) → d ≡ proposedAt n (s .loops) m (s .used) o
+    → r ≡ decidedBy n s d → r ≡ decided n s m o
 unfolding decided proposed
 decided-by n s m o d r e h = h ∙ ap (decidedBy n s) e

@@ -5,25 +5,28 @@ use mathlib.Core.List.{List}
 use mathlib.Core.Path.{_≡_, sym, ap, _∙_, subst}
 use Rattle.rules.specs.declared.Operation.{Operation}
 use Rattle.rules.specs.declared.Peaks.{Peaks}
-use Rattle.memory.specs.declared.Loops.{Loops}
-use Rattle.memory.specs.declared.Front.{Front}
-use Rattle.memory.specs.declared.Plan.{Plan}
-use Rattle.memory.specs.declared.Decided.the-variants.{Builds}
-use Rattle.memory.specs.Moves.{markedHeld}
-use Rattle.memory.specs.Decision.{decided, newEdges, heldBy, heldAfter, builtFront, markedFront}
-use Rattle.memory.specs.Keeps.{Ready}
-use Rattle.memory.specs.Performs.{Performs, Counts16}
-use Rattle.memory.proofs.Ready.{ready-borders}
-use Rattle.memory.proofs.Performed.{counts16, marked-free, marked-live, marked-less}
+use Rattle.cutborder.specs.declared.Loops.{Loops}
+use Rattle.cutborder.specs.declared.Front.{Front}
+use Rattle.cutborder.specs.declared.Plan.{Plan}
+use Rattle.cutborder.specs.declared.Decided.the-variants.{Builds}
+use Rattle.border_theory.specs.Memory.Moves.{markedHeld}
+use Rattle.border_theory.specs.Memory.Decision.{decided, newEdges, heldBy, heldAfter, builtFront, markedFront}
+use Rattle.border_theory.specs.Memory.Keeps.{Ready}
+use Rattle.border_theory.specs.Memory.Performs.{Performs, Counts16}
+use Rattle.border_theory.proofs.Memory.Ready.{ready-borders}
+use Rattle.border_theory.proofs.Memory.Performed.{counts16, marked-free, marked-live, marked-less}
 
-pub performs-as : (n : ℕ) (l : Loops) (m : List ℕ) (u : ℕ) (o o′ : Operation) (c : ℕ) → o ≡ o′ → Performs n l m u o c → Performs n l m u o′ c
+pub performs-as : (n : ℕ) (l : Loops) (m : List ℕ) (u : ℕ) (o o′ : Operation) (c : ℕ) → o ≡ o′ → Performs n l m u o c
+    → Performs n l m u o′ c
 performs-as n l m u o o′ c e h = subst (λ (x : Operation). Performs n l m u x c) e h
 
 pub altered : (n : ℕ) (l : Loops) (m : List ℕ) (u : ℕ) (o o′ : Operation) (c : ℕ) (r : Loops) (m₁ : List ℕ) → o ≡ o′
-    → (r ≡ heldBy n l m u o′ c .loops) × (m₁ ≡ heldBy n l m u o′ c .memory) → (r ≡ heldBy n l m u o c .loops) × (m₁ ≡ heldBy n l m u o c .memory)
+    → (r ≡ heldBy n l m u o′ c .loops) × (m₁ ≡ heldBy n l m u o′ c .memory)
+    → (r ≡ heldBy n l m u o c .loops) × (m₁ ≡ heldBy n l m u o c .memory)
 altered n l m u o o′ c r m₁ e h = rw e h
 
-pub built-is : (n : ℕ) (s : Front) (p : Plan) (l : Loops) (k : Peaks) → (k .places ≡ max (s .peaks .places) (n - l .free)) × (k .loops ≡ max (s .peaks .loops) (l .live))
+pub built-is : (n : ℕ) (s : Front) (p : Plan) (l : Loops) (k : Peaks)
+    → (k .places ≡ max (s .peaks .places) (n - l .free)) × (k .loops ≡ max (s .peaks .loops) (l .live))
     → record {
       stated = s .stated;
       used = s .used + p .vertices;
@@ -38,7 +41,8 @@ pub built-is : (n : ℕ) (s : Front) (p : Plan) (l : Loops) (k : Peaks) → (k .
 unfolding builtFront
 built-is n s p l k e = let a = e .0 in let b = e .1 in rw (a, b)
 
-pub marked-is : (n : ℕ) (s : Front) (l : Loops) (k : Peaks) → (k .places ≡ max (s .peaks .places) (n - l .free)) × (k .loops ≡ max (s .peaks .loops) (l .live))
+pub marked-is : (n : ℕ) (s : Front) (l : Loops) (k : Peaks)
+    → (k .places ≡ max (s .peaks .places) (n - l .free)) × (k .loops ≡ max (s .peaks .loops) (l .live))
     → record {
       stated = s .stated;
       used = s .used;
@@ -62,7 +66,8 @@ pub built-state : (n : ℕ) (s : Front) (m : List ℕ) (o : Operation) (p : Plan
     → (r ≡ builtFront n s p (heldAfter n s m o p .loops)) × (m₁ ≡ heldAfter n s m o p .memory)
 built-state n s m o p l m₁ r h e = (e ∙ ap (builtFront n s p) (h .0), h .1)
 
-pub marked-counts : (n : ℕ) (s : Front) (m : List ℕ) (l : Loops) → Ready n s m × (s .loops .live ≡ 0 → ⊥) → l ≡ markedHeld n (s .loops) m .loops
+pub marked-counts : (n : ℕ) (s : Front) (m : List ℕ) (l : Loops) → Ready n s m × (s .loops .live ≡ 0 → ⊥)
+    → l ≡ markedHeld n (s .loops) m .loops
     → (n ≤ 1024) × (l .free ≤ n) × (l .live ≤ s .loops .live) × (s .loops .live ≤ l .live + 1) × (s .rims ≤ 24576)
 marked-counts n s m l r e =
     rw e (

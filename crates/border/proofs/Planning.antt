@@ -8,14 +8,15 @@ use mathlib.Core.Path.{_≡_, sym, ap, ap₂, _∙_, subst}
 use lib.ListN.{length}
 use lib.Dec.{eqb, ltb}
 use borrow.Author.Tests.{le-leb, lt-leb, lt-ltb, le-ltb, eq-eqb, ne-eqb}
-use Rattle.memory.specs.declared.Loops.{Loops}
-use Rattle.memory.specs.declared.Plan.{Plan}
-use Rattle.memory.specs.declared.Decided.{Decided}
-use Rattle.memory.specs.declared.Decided.the-variants.{Refused, Builds, Marks}
-use Rattle.memory.specs.Layout.{at, vertexOf, beforeOf, afterOf, walked}
-use Rattle.memory.specs.Decision.{isOpenAt, allowedIf, planAt, isThree, besideNext, besideLast, newPlan, forwardPlan, backwardPlan, borderPlan, splitPlan, closePlan, unionPlan}
-use Rattle.memory.specs.Near.{Near}
-use Rattle.memory.proofs.Near.{near-e, near-f}
+use Rattle.cutborder.specs.declared.Loops.{Loops}
+use Rattle.cutborder.specs.declared.Plan.{Plan}
+use Rattle.cutborder.specs.declared.Decided.{Decided}
+use Rattle.cutborder.specs.declared.Decided.the-variants.{Refused, Builds, Marks}
+use Rattle.border_theory.specs.Memory.Layout.{at, vertexOf, beforeOf, afterOf, walked}
+use Rattle.border_theory.specs.Memory.Decision.{isOpenAt, allowedIf, planAt, isThree, besideNext, besideLast, newPlan, forwardPlan}
+use Rattle.border_theory.specs.Memory.Decision.{backwardPlan, borderPlan, splitPlan, closePlan, unionPlan}
+use Rattle.border_theory.specs.Memory.Near.{Near}
+use Rattle.border_theory.proofs.Memory.Near.{near-e, near-f}
 
 no-if : (t : Bool) (d : Decided) → t ≡ false → Refused 16 ≡ allowedIf t d
 unfolding allowedIf
@@ -26,12 +27,14 @@ unfolding allowedIf
 yes-if t d r e f = rw e f
 
 -- the two places that each plan reads
-pub plan-near : (n : ℕ) (l : Loops) (m : List ℕ) → Near n l m → (4 * l .current + 3 < length m) × (4 * at m (4 * l .current + 2) + 3 < length m)
+pub plan-near : (n : ℕ) (l : Loops) (m : List ℕ) → Near n l m
+    → (4 * l .current + 3 < length m) × (4 * at m (4 * l .current + 2) + 3 < length m)
 plan-near n l m h = (omega (arith, near-e n l m h, h .long), omega (arith, near-f n l m h, h .long))
 
 module _ (l : Loops) (m : List ℕ) where
   pub plan-is : (a b f c qr rp v k p : ℕ) → f ≡ afterOf m (l .current) → b ≡ vertexOf m f → a ≡ vertexOf m (l .current)
-      → record { triangle = record { p = b; q = a; r = c }; pq = 0; qr = qr; rp = rp; vertices = v; starts = 0; unions = k; place = p } ≡ planAt l m c qr rp v k p
+      → record { triangle = record { p = b; q = a; r = c }; pq = 0; qr = qr; rp = rp; vertices = v; starts = 0; unions = k; place = p }
+      ≡ planAt l m c qr rp v k p
   plan-is a b f c qr rp v k p ef eb ea = rw (eb, ea, ef)
 
   pub new-builds : (u : ℕ) (r : Plan) → r ≡ planAt l m u 1 1 1 0 0 → Builds r ≡ newPlan l m u
@@ -50,7 +53,8 @@ module _ (l : Loops) (m : List ℕ) where
       let o : isOpenAt m (afterOf m (l .current)) ≡ false = ap (isOpenAt m) (sym ef) ∙ sym eb ∙ z in
       rw (t, o)
 
-  pub three-is : (f c : ℕ) (b d : Bool) → l .size ≡ 3 → f ≡ afterOf m (l .current) → b ≡ isOpenAt m f → b ≡ true → c ≡ afterOf m f → d ≡ isOpenAt m c
+  pub three-is : (f c : ℕ) (b d : Bool) → l .size ≡ 3 → f ≡ afterOf m (l .current) → b ≡ isOpenAt m f → b ≡ true → c ≡ afterOf m f
+      → d ≡ isOpenAt m c
       → d ≡ isThree l m
   unfolding isThree
   three-is f c b d h ef eb z ec ed =
@@ -63,17 +67,20 @@ module _ (l : Loops) (m : List ℕ) where
   unfolding forwardPlan
   forward-small h = no-if _ _ (lt-leb 3 (l .size) h)
 
-  pub forward-marked : (f : ℕ) (b : Bool) → 3 ≤ l .size → f ≡ afterOf m (l .current) → b ≡ isOpenAt m f → b ≡ false → Refused 16 ≡ forwardPlan l m
+  pub forward-marked : (f : ℕ) (b : Bool) → 3 ≤ l .size → f ≡ afterOf m (l .current) → b ≡ isOpenAt m f → b ≡ false
+      → Refused 16 ≡ forwardPlan l m
   unfolding forwardPlan
   forward-marked f b h ef eb z = yes-if _ _ _ (le-leb 3 (l .size) h) (no-if _ _ (sym (eb ∙ ap (isOpenAt m) ef) ∙ z))
 
-  pub forward-three : (f : ℕ) (b t : Bool) → 3 ≤ l .size → f ≡ afterOf m (l .current) → b ≡ isOpenAt m f → b ≡ true → t ≡ isThree l m → t ≡ true
+  pub forward-three : (f : ℕ) (b t : Bool) → 3 ≤ l .size → f ≡ afterOf m (l .current) → b ≡ isOpenAt m f → b ≡ true → t ≡ isThree l m
+      → t ≡ true
       → Refused 16 ≡ forwardPlan l m
   unfolding forwardPlan
   forward-three f b t h ef eb z et y =
       yes-if _ _ _ (le-leb 3 (l .size) h) (yes-if _ _ _ (sym (eb ∙ ap (isOpenAt m) ef) ∙ z) (no-if _ _ (ap not (sym et ∙ y))))
 
-  pub forward-builds : (f c v : ℕ) (b t : Bool) (r : Plan) → 3 ≤ l .size → f ≡ afterOf m (l .current) → b ≡ isOpenAt m f → b ≡ true → t ≡ isThree l m
+  pub forward-builds : (f c v : ℕ) (b t : Bool) (r : Plan) → 3 ≤ l .size → f ≡ afterOf m (l .current) → b ≡ isOpenAt m f → b ≡ true
+      → t ≡ isThree l m
       → t ≡ false → c ≡ afterOf m f → v ≡ vertexOf m c → r ≡ planAt l m v 1 0 0 0 0 → Builds r ≡ forwardPlan l m
   unfolding forwardPlan
   forward-builds f c v b t r h ef eb z et y ec ev er =
@@ -86,17 +93,20 @@ module _ (l : Loops) (m : List ℕ) where
   unfolding backwardPlan
   backward-small h = no-if _ _ (lt-leb 3 (l .size) h)
 
-  pub backward-marked : (c : ℕ) (b : Bool) → 3 ≤ l .size → c ≡ beforeOf m (l .current) → b ≡ isOpenAt m c → b ≡ false → Refused 16 ≡ backwardPlan l m
+  pub backward-marked : (c : ℕ) (b : Bool) → 3 ≤ l .size → c ≡ beforeOf m (l .current) → b ≡ isOpenAt m c → b ≡ false
+      → Refused 16 ≡ backwardPlan l m
   unfolding backwardPlan
   backward-marked c b h ec eb z = yes-if _ _ _ (le-leb 3 (l .size) h) (no-if _ _ (sym (eb ∙ ap (isOpenAt m) ec) ∙ z))
 
-  pub backward-three : (c : ℕ) (b t : Bool) → 3 ≤ l .size → c ≡ beforeOf m (l .current) → b ≡ isOpenAt m c → b ≡ true → t ≡ isThree l m → t ≡ true
+  pub backward-three : (c : ℕ) (b t : Bool) → 3 ≤ l .size → c ≡ beforeOf m (l .current) → b ≡ isOpenAt m c → b ≡ true → t ≡ isThree l m
+      → t ≡ true
       → Refused 16 ≡ backwardPlan l m
   unfolding backwardPlan
   backward-three c b t h ec eb z et y =
       yes-if _ _ _ (le-leb 3 (l .size) h) (yes-if _ _ _ (sym (eb ∙ ap (isOpenAt m) ec) ∙ z) (no-if _ _ (ap not (sym et ∙ y))))
 
-  pub backward-builds : (c v : ℕ) (b t : Bool) (r : Plan) → 3 ≤ l .size → c ≡ beforeOf m (l .current) → b ≡ isOpenAt m c → b ≡ true → t ≡ isThree l m
+  pub backward-builds : (c v : ℕ) (b t : Bool) (r : Plan) → 3 ≤ l .size → c ≡ beforeOf m (l .current) → b ≡ isOpenAt m c → b ≡ true
+      → t ≡ isThree l m
       → t ≡ false → v ≡ vertexOf m c → r ≡ planAt l m v 0 1 0 0 0 → Builds r ≡ backwardPlan l m
   unfolding backwardPlan
   backward-builds c v b t r h ec eb z et y ev er =
@@ -144,7 +154,8 @@ module _ (l : Loops) (m : List ℕ) where
       yes-if _ _ _ (le-leb 1 i g)
       (yes-if _ _ _ (le-leb (i + 2) (l .size) h) (yes-if _ _ _ (ap not (sym eb ∙ z)) (no-if _ _ (ap not (sym ed ∙ y)))))
 
-  pub split-builds : (i f c v : ℕ) (b d : Bool) (r : Plan) → 1 ≤ i → i + 2 ≤ l .size → b ≡ besideNext l m i → b ≡ false → d ≡ besideLast l m i → d ≡ false
+  pub split-builds : (i f c v : ℕ) (b d : Bool) (r : Plan) → 1 ≤ i → i + 2 ≤ l .size → b ≡ besideNext l m i → b ≡ false
+      → d ≡ besideLast l m i → d ≡ false
       → f ≡ afterOf m (l .current) → c ≡ walked m i f → v ≡ vertexOf m c → r ≡ planAt l m v 1 1 0 0 c → Builds r ≡ splitPlan l m i
   unfolding splitPlan
   split-builds i f c v b d r g h eb z ed y ef ec ev er =
@@ -159,18 +170,21 @@ module _ (l : Loops) (m : List ℕ) where
   unfolding closePlan
   close-other h = no-if _ _ (ne-eqb (l .size) 3 h)
 
-  pub close-first : (f : ℕ) (b : Bool) → l .size ≡ 3 → f ≡ afterOf m (l .current) → b ≡ isOpenAt m f → b ≡ false → Refused 16 ≡ closePlan l m
+  pub close-first : (f : ℕ) (b : Bool) → l .size ≡ 3 → f ≡ afterOf m (l .current) → b ≡ isOpenAt m f → b ≡ false
+      → Refused 16 ≡ closePlan l m
   unfolding closePlan
   close-first f b h ef eb z = yes-if _ _ _ (eq-eqb (l .size) 3 h) (no-if _ _ (sym (eb ∙ ap (isOpenAt m) ef) ∙ z))
 
-  pub close-second : (f c : ℕ) (b d : Bool) → l .size ≡ 3 → f ≡ afterOf m (l .current) → c ≡ afterOf m f → b ≡ isOpenAt m f → b ≡ true → d ≡ isOpenAt m c
+  pub close-second : (f c : ℕ) (b d : Bool) → l .size ≡ 3 → f ≡ afterOf m (l .current) → c ≡ afterOf m f → b ≡ isOpenAt m f → b ≡ true
+      → d ≡ isOpenAt m c
       → d ≡ false → Refused 16 ≡ closePlan l m
   unfolding closePlan
   close-second f c b d h ef ec eb z ed y =
       yes-if _ _ _ (eq-eqb (l .size) 3 h)
       (yes-if _ _ _ (sym (eb ∙ ap (isOpenAt m) ef) ∙ z) (no-if _ _ (sym (ed ∙ ap (isOpenAt m) (ec ∙ ap (afterOf m) ef)) ∙ y)))
 
-  pub close-builds : (f c v : ℕ) (b d : Bool) (r : Plan) → l .size ≡ 3 → f ≡ afterOf m (l .current) → c ≡ afterOf m f → b ≡ isOpenAt m f → b ≡ true
+  pub close-builds : (f c v : ℕ) (b d : Bool) (r : Plan) → l .size ≡ 3 → f ≡ afterOf m (l .current) → c ≡ afterOf m f → b ≡ isOpenAt m f
+      → b ≡ true
       → d ≡ isOpenAt m c → d ≡ true → v ≡ vertexOf m c → r ≡ planAt l m v 0 0 0 0 0 → Builds r ≡ closePlan l m
   unfolding closePlan
   close-builds f c v b d r h ef ec eb z ed y ev er =
@@ -189,14 +203,16 @@ module _ (l : Loops) (m : List ℕ) where
     unfolding unionPlan
     union-high g h = yes-if _ _ _ (le-leb 1 p g) (no-if _ _ (lt-leb p (l .live - 1) h))
 
-    pub union-far : (k : ℕ) → 1 ≤ p → p ≤ l .live - 1 → k ≡ at m (5 * n + 2 * (l .live - 1 - p) + 1) → k ≤ j → Refused 16 ≡ unionPlan n l m p j
+    pub union-far : (k : ℕ) → 1 ≤ p → p ≤ l .live - 1 → k ≡ at m (5 * n + 2 * (l .live - 1 - p) + 1) → k ≤ j
+        → Refused 16 ≡ unionPlan n l m p j
     unfolding unionPlan
     union-far k g h ek i =
         yes-if _ _ _ (le-leb 1 p g)
         (yes-if _ _ _ (le-leb p (l .live - 1) h) (no-if _ _ (ap (ltb j) (sym ek) ∙ le-ltb j k i)))
 
     pub union-builds : (k s c v : ℕ) (r : Plan) → 1 ≤ p → p ≤ l .live - 1 → k ≡ at m (5 * n + 2 * (l .live - 1 - p) + 1) → j < k
-        → s ≡ at m (5 * n + 2 * (l .live - 1 - p)) → c ≡ walked m j s → v ≡ vertexOf m c → r ≡ planAt l m v 1 1 0 1 c → Builds r ≡ unionPlan n l m p j
+        → s ≡ at m (5 * n + 2 * (l .live - 1 - p)) → c ≡ walked m j s → v ≡ vertexOf m c → r ≡ planAt l m v 1 1 0 1 c
+        → Builds r ≡ unionPlan n l m p j
     unfolding unionPlan
     union-builds k s c v r g h ek i es ec ev er =
         let w : c ≡ walked m j (at m (5 * n + 2 * (l .live - 1 - p))) = ec ∙ ap (walked m j) es in
@@ -220,7 +236,8 @@ module _ (n : ℕ) (l : Loops) (m : List ℕ) (h : Near n l m) where
   module _ (p j k s : ℕ) (low : 1 ≤ p) (high : p ≤ l .live - 1) (ek : k ≡ at m (5 * n + 2 * (l .live - 1 - p) + 1)) (jk : j < k)
       (es : s ≡ at m (5 * n + 2 * (l .live - 1 - p))) where
     union-walk : (i : ℕ) → i ≤ j → walked m i s < n
-    union-walk i a = rw es (h .waiting (l .live - 1 - p) (omega (arith, low, high, h .live)) i (subst (λ (x : ℕ). i < x) ek (omega (arith, a, jk))))
+    union-walk i a = rw es (h .waiting (l .live - 1 - p) (omega (arith, low, high, h .live)) i
+        (subst (λ (x : ℕ). i < x) ek (omega (arith, a, jk))))
 
     pub union-near : (i : ℕ) → i < j → 4 * walked m i s + 3 < length m
     union-near i a = omega (arith, union-walk i (omega (arith, a)), h .long)

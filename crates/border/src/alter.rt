@@ -1,5 +1,5 @@
 // The surgery of a planned operation.
-use memory::Loops;
+use cutborder::Loops;
 use rings::surgery::cut_current;
 use rings::surgery::cut_next;
 use rings::surgery::end_loop;
@@ -10,8 +10,8 @@ use rings::surgery::split_loop;
 use rings::surgery::start_loop;
 use rules::Operation;
 ghost use mathlib.Core.Path.{_≡_};
-ghost use Rattle.memory.specs.Decision.{heldBy};
-ghost use Rattle.memory.specs.Performs.{Performs};
+ghost use Rattle.border_theory.specs.Memory.Decision.{heldBy};
+ghost use Rattle.border_theory.specs.Memory.Performs.{Performs};
 
 // The loops after the planned operation o, where u is the next unused number and c the plan's place.
 pub fn alter(m: &mut [u16], n: usize, l: Loops, u: u16, o: Operation, c: u16) -> Loops

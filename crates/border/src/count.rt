@@ -1,12 +1,13 @@
 // The counts after an operation. Both peaks are taken after it.
-use memory::Front;
-use memory::Loops;
-use memory::Plan;
+use cutborder::Front;
+use cutborder::Loops;
+use cutborder::Plan;
 use rules::Peaks;
 ghost use mathlib.Core.Path.{_≡_};
 ghost use Prim.Native.Nat.{_+_, _-_, _≤_, max};
-ghost use Rattle.memory.specs.Decision.{builtFront, markedFront};
-ghost use Rattle.memory.specs.Performs.{Counts16};
+ghost use Rattle.rules.specs.Limits.{maxNumbers, maxPlaces};
+ghost use Rattle.border_theory.specs.Memory.Decision.{builtFront, markedFront};
+ghost use Rattle.border_theory.specs.Memory.Performs.{Counts16};
 
 // The larger of two numbers.
 fn larger(a: u16, b: u16) -> u16
@@ -20,7 +21,7 @@ fn larger(a: u16, b: u16) -> u16
 
 // The most places and loops so far, those of l included.
 fn raise(n: usize, k: Peaks, l: Loops) -> Peaks
-    requires { ⌜ (n ≤ 1024) × (l .free ≤ n) ⌝ }
+    requires { ⌜ (n ≤ maxPlaces) × (l .free ≤ n) ⌝ }
     ensures { λ r. ⌜ (r .places ≡ max (k .places) (n - l .free)) × (r .loops ≡ max (k .loops) (l .live)) ⌝ }
 {
     let taken = n - (l.free as usize);
@@ -52,7 +53,7 @@ pub fn count_built(n: usize, s: Front, p: Plan, l: Loops) -> Front
 
 // The counts after an edge is marked: a loop that has ended is a rim.
 pub(crate) fn count_marked(n: usize, s: Front, l: Loops) -> Front
-    requires { ⌜ (n ≤ 1024) × (l .free ≤ n) × (l .live ≤ s .loops .live) × (s .loops .live ≤ l .live + 1) × (s .rims ≤ 24576) ⌝ }
+    requires { ⌜ (n ≤ maxPlaces) × (l .free ≤ n) × (l .live ≤ s .loops .live) × (s .loops .live ≤ l .live + 1) × (s .rims ≤ maxNumbers) ⌝ }
     ensures { λ r. ⌜ r ≡ markedFront n s l ⌝ }
 {
     let stated = s.stated;

@@ -2,6 +2,7 @@
 // the caller, and then it is done. The contracts cite the crate memory, whose theorem `decides` joins them to the machine of the rules.
 pub mod alter; // the surgery of a planned operation
 pub mod count; // the counts after an operation
+pub mod notes; // what an operation touched, noted for the write-back to the lent list
 pub mod plan; // what each operation would do
 pub mod verdict; // whether an operation is allowed and has room
 
@@ -10,10 +11,10 @@ use crate::count::count_built;
 use crate::count::count_marked;
 use crate::verdict::propose;
 use crate::verdict::test_room;
-use memory::Decided;
-use memory::Front;
-use memory::Loops;
-use memory::Plan;
+use cutborder::Decided;
+use cutborder::Front;
+use cutborder::Loops;
+use cutborder::Plan;
 use rings::stack::free_all;
 use rings::surgery::mark_border;
 use rules::Counts;
@@ -22,15 +23,16 @@ use rules::Peaks;
 ghost use mathlib.Core.Path.{_≡_};
 ghost use Prim.Native.Nat.{_*_, _≤_};
 ghost use lib.ListN.{length};
-ghost use Rattle.memory.specs.declared.Decided.the-variants.{Builds};
-ghost use Rattle.memory.specs.Moves.{markedHeld};
-ghost use Rattle.memory.specs.Decision.{decided, heldAfter, builtFront, markedFront};
-ghost use Rattle.memory.specs.Keeps.{Ready};
-ghost use Rattle.memory.specs.Fresh.{allFree, freshFront};
+ghost use Rattle.rules.specs.Limits.{maxPlaces};
+ghost use Rattle.cutborder.specs.declared.Decided.the-variants.{Builds};
+ghost use Rattle.border_theory.specs.Memory.Moves.{markedHeld};
+ghost use Rattle.border_theory.specs.Memory.Decision.{decided, heldAfter, builtFront, markedFront};
+ghost use Rattle.border_theory.specs.Memory.Keeps.{Ready};
+ghost use Rattle.border_theory.specs.Memory.Fresh.{allFree, freshFront};
 
 // A building with the counts stated begins in a memory of n places: the state, with every place free.
 pub fn begin(m: &mut [u16], n: usize, stated: Counts) -> Front
-    requires { ⌜ (n ≤ 1024) × (5 * n ≤ length (now m)) ⌝ }
+    requires { ⌜ (n ≤ maxPlaces) × (5 * n ≤ length (now m)) ⌝ }
     ensures state { λ r. ⌜ r ≡ freshFront n stated ⌝ }
     ensures memory { λ _. ⌜ now (m .exit) ≡ allFree n (now (m .entry)) n ⌝ }
 {

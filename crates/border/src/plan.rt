@@ -1,7 +1,7 @@
 // What each operation would do at the current edge: 16, a plan, or the edge to be marked. Nothing is changed.
-use memory::Decided;
-use memory::Loops;
-use memory::Plan;
+use cutborder::Decided;
+use cutborder::Loops;
+use cutborder::Plan;
 use rings::place::after_of;
 use rings::place::before_of;
 use rings::place::is_open;
@@ -13,9 +13,11 @@ use rules::Triangle;
 ghost use mathlib.Core.Path.{_≡_};
 ghost use Prim.Native.Nat.{_+_, _*_, _-_, _≤_, _<_};
 ghost use lib.ListN.{length};
-ghost use Rattle.memory.specs.Layout.{at};
-ghost use Rattle.memory.specs.Decision.{planAt, isThree, besideNext, besideLast, newPlan, forwardPlan, backwardPlan, borderPlan, splitPlan, closePlan, unionPlan, startPlan};
-ghost use Rattle.memory.specs.Near.{Near};
+ghost use Rattle.rules.specs.Limits.{maxVertices};
+ghost use Rattle.border_theory.specs.Memory.Layout.{at};
+ghost use Rattle.border_theory.specs.Memory.Decision.{planAt, isThree, besideNext, besideLast, newPlan, forwardPlan, backwardPlan};
+ghost use Rattle.border_theory.specs.Memory.Decision.{borderPlan, splitPlan, closePlan, unionPlan, startPlan};
+ghost use Rattle.border_theory.specs.Memory.Near.{Near};
 
 // The triangle b a c at the current edge, from a to b, and its numbers.
 fn plan_at(m: &[u16], l: Loops, c: u16, qr: u16, rp: u16, v: u16, k: u16, p: u16) -> Plan
@@ -222,7 +224,7 @@ pub(crate) fn union_plan(m: &[u16], n: usize, l: Loops, p: u16, j: u16) -> Decid
 
 // Start: the triangle of the next three unused numbers, all of whose edges are new.
 pub(crate) fn start_plan(u: u16) -> Decided
-    requires { ⌜ u ≤ 4096 ⌝ }
+    requires { ⌜ u ≤ maxVertices ⌝ }
     ensures { λ r. ⌜ r ≡ startPlan u ⌝ }
 {
     let t = Triangle {

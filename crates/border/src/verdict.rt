@@ -7,20 +7,21 @@ use crate::plan::new_plan;
 use crate::plan::split_plan;
 use crate::plan::start_plan;
 use crate::plan::union_plan;
-use memory::Decided;
-use memory::Front;
-use memory::Loops;
-use memory::Plan;
+use cutborder::Decided;
+use cutborder::Front;
+use cutborder::Loops;
+use cutborder::Plan;
 use rules::Operation;
 ghost use mathlib.Core.Path.{_≡_};
 ghost use Prim.Native.Nat.{_+_, _*_, _-_, _≤_, _<_};
-ghost use Rattle.memory.specs.Decision.{restProposed, edgeProposed, proposedAt, roomFor, decidedBy};
-ghost use Rattle.memory.specs.Near.{Near};
-ghost use Rattle.memory.specs.Performs.{Proposable};
+ghost use Rattle.rules.specs.Limits.{maxPlaces, maxVertices};
+ghost use Rattle.border_theory.specs.Memory.Decision.{restProposed, edgeProposed, proposedAt, roomFor, decidedBy};
+ghost use Rattle.border_theory.specs.Memory.Near.{Near};
+ghost use Rattle.border_theory.specs.Memory.Performs.{Proposable};
 
 // With no live loop only a start is allowed.
 fn propose_rest(u: u16, o: Operation) -> Decided
-    requires { ⌜ u ≤ 4096 ⌝ }
+    requires { ⌜ u ≤ maxVertices ⌝ }
     ensures { λ r. ⌜ r ≡ restProposed u o ⌝ }
 {
     match o {
@@ -65,7 +66,7 @@ pub fn propose(m: &[u16], n: usize, l: Loops, u: u16, o: Operation) -> Decided
 
 // 17: whether the counts after the plan are within those stated.
 fn has_room(n: usize, s: Front, p: Plan) -> bool
-    requires { ⌜ (s .loops .free ≤ n) × (n ≤ 1024) ⌝ }
+    requires { ⌜ (s .loops .free ≤ n) × (n ≤ maxPlaces) ⌝ }
     ensures { λ r. ⌜ r ≡ roomFor n s p ⌝ }
 {
     let c = s.stated;
@@ -86,7 +87,7 @@ fn has_room(n: usize, s: Front, p: Plan) -> bool
 
 // 17, if what is proposed has no room.
 pub fn test_room(n: usize, s: Front, d: Decided) -> Decided
-    requires { ⌜ (s .loops .free ≤ n) × (n ≤ 1024) ⌝ }
+    requires { ⌜ (s .loops .free ≤ n) × (n ≤ maxPlaces) ⌝ }
     ensures { λ r. ⌜ r ≡ decidedBy n s d ⌝ }
 {
     match d {

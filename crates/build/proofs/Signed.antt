@@ -33,7 +33,8 @@ module _ (n : ℤ) (h : SFits w32 n) where
       go (negsuc a) f l = absurd (false≢true (sym l))
 
   -- of one that is
-  pub turned-fits : ltZ (toZ w64 (ofZ w64 (toZ w32 (ofZ w32 n)))) (pos 0) ≡ true → SFits w64 (pos 0 -ℤ toZ w64 (ofZ w64 (toZ w32 (ofZ w32 n))))
+  pub turned-fits : ltZ (toZ w64 (ofZ w64 (toZ w32 (ofZ w32 n)))) (pos 0) ≡ true
+      → SFits w64 (pos 0 -ℤ toZ w64 (ofZ w64 (toZ w32 (ofZ w32 n))))
   turned-fits k = rw wide-is (go n h (subst (λ (z : ℤ). ltZ z (pos 0) ≡ true) wide-is k))
     where
       go : (z : ℤ) → SFits w32 z → ltZ z (pos 0) ≡ true → SFits w64 (pos 0 -ℤ z)

@@ -3,10 +3,10 @@ use crate::words::Named;
 use crate::words::Numbers;
 use crate::words::numbers_from;
 use crate::words::operation_from;
-use calls::begin::begin_on;
-use calls::finish::finish_on;
-use calls::operation::operation_on;
-use places::Memory;
+use builder::begin::begin_on;
+use builder::finish::finish_on;
+use builder::operation::operation_on;
+use cutborder::Memory;
 use places::settle;
 use rules::Builder;
 use rules::Checked;
@@ -16,14 +16,15 @@ use rules::Operated;
 use rules::Operation;
 use rules::Totals;
 use rules::Triangle;
-use show::print_refusal;
-use streams::Output;
-use text::is_same;
-use text::word_end;
-use text::word_start;
+use text::show::print_refusal;
+use text::streams::Output;
+use text::words::is_same;
+use text::words::word_end;
+use text::words::word_start;
 ghost use Prim.Native.Nat.{_≤_};
 ghost use mathlib.Core.Path.{_≡_};
 ghost use lib.ListN.{length};
+ghost use Rattle.rules.specs.Limits.{maxPlaces};
 
 // A builder, how long the buffers are that it is lent, and where the answers go.
 pub struct Session {
@@ -131,8 +132,8 @@ fn print_finished(out: Output, f: Finished) -> Output {
 
 // A beginning: the model that is begun, or the one as it was.
 fn begin(n: Numbers, s: Session, triangles: &mut [u16], m: &mut Memory) -> Session
-    requires { ⌜ (s .entries ≤ length (now triangles)) × (s .records ≤ 1024) ⌝ }
-    ensures { λ r. ⌜ (r .entries ≤ length (now (triangles .entry))) × (r .records ≤ 1024) ⌝ }
+    requires { ⌜ (s .entries ≤ length (now triangles)) × (s .records ≤ maxPlaces) ⌝ }
+    ensures { λ r. ⌜ (r .entries ≤ length (now (triangles .entry))) × (r .records ≤ maxPlaces) ⌝ }
 {
     let v = n.values;
     let stated = Counts {
@@ -161,8 +162,8 @@ fn begin(n: Numbers, s: Session, triangles: &mut [u16], m: &mut Memory) -> Sessi
 
 // The line of a beginning.
 fn begin_line(n: Numbers, s: Session, triangles: &mut [u16], m: &mut Memory) -> Session
-    requires { ⌜ (s .entries ≤ length (now triangles)) × (s .records ≤ 1024) ⌝ }
-    ensures { λ r. ⌜ (r .entries ≤ length (now (triangles .entry))) × (r .records ≤ 1024) ⌝ }
+    requires { ⌜ (s .entries ≤ length (now triangles)) × (s .records ≤ maxPlaces) ⌝ }
+    ensures { λ r. ⌜ (r .entries ≤ length (now (triangles .entry))) × (r .records ≤ maxPlaces) ⌝ }
 {
     if n.count != 6 {
         return told(s, b"error no such call");
@@ -175,8 +176,8 @@ fn begin_line(n: Numbers, s: Session, triangles: &mut [u16], m: &mut Memory) -> 
 
 // An operation.
 fn operate(o: Operation, s: Session, triangles: &mut [u16], m: &mut Memory) -> Session
-    requires { ⌜ (s .entries ≤ length (now triangles)) × (s .records ≤ 1024) ⌝ }
-    ensures { λ r. ⌜ (r .entries ≤ length (now (triangles .entry))) × (r .records ≤ 1024) ⌝ }
+    requires { ⌜ (s .entries ≤ length (now triangles)) × (s .records ≤ maxPlaces) ⌝ }
+    ensures { λ r. ⌜ (r .entries ≤ length (now (triangles .entry))) × (r .records ≤ maxPlaces) ⌝ }
 {
     let entries = s.entries;
     let records = s.records;
@@ -195,8 +196,8 @@ fn operate(o: Operation, s: Session, triangles: &mut [u16], m: &mut Memory) -> S
 
 // The line of an operation.
 fn operation_line(o: Named, s: Session, triangles: &mut [u16], m: &mut Memory) -> Session
-    requires { ⌜ (s .entries ≤ length (now triangles)) × (s .records ≤ 1024) ⌝ }
-    ensures { λ r. ⌜ (r .entries ≤ length (now (triangles .entry))) × (r .records ≤ 1024) ⌝ }
+    requires { ⌜ (s .entries ≤ length (now triangles)) × (s .records ≤ maxPlaces) ⌝ }
+    ensures { λ r. ⌜ (r .entries ≤ length (now (triangles .entry))) × (r .records ≤ maxPlaces) ⌝ }
 {
     match o {
         Named::Found(o) => operate(o, s, triangles, m),
@@ -207,7 +208,7 @@ fn operation_line(o: Named, s: Session, triangles: &mut [u16], m: &mut Memory) -
 
 // A finish, where nothing follows the word.
 fn finish_line(n: Numbers, s: Session, triangles: &[u16], m: &mut Memory) -> Session
-    requires { ⌜ (s .entries ≤ length (now triangles)) × (s .records ≤ 1024) ⌝ }
+    requires { ⌜ (s .entries ≤ length (now triangles)) × (s .records ≤ maxPlaces) ⌝ }
     ensures { λ r. ⌜ (r .entries ≡ s .entries) × (r .records ≡ s .records) ⌝ }
 {
     if n.count != 0 {
@@ -223,8 +224,8 @@ fn finish_line(n: Numbers, s: Session, triangles: &[u16], m: &mut Memory) -> Ses
 
 // Answers a line.
 pub(crate) fn answer_line(line: &[u8], s: Session, triangles: &mut [u16], m: &mut Memory) -> Session
-    requires { ⌜ (s .entries ≤ length (now triangles)) × (s .records ≤ 1024) ⌝ }
-    ensures { λ r. ⌜ (r .entries ≤ length (now (triangles .entry))) × (r .records ≤ 1024) ⌝ }
+    requires { ⌜ (s .entries ≤ length (now triangles)) × (s .records ≤ maxPlaces) ⌝ }
+    ensures { λ r. ⌜ (r .entries ≤ length (now (triangles .entry))) × (r .records ≤ maxPlaces) ⌝ }
 {
     if is_remark(line) {
         return told(s, line);

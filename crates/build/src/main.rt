@@ -10,17 +10,19 @@ mod words; // the words of a line
 use crate::answer::Session;
 use crate::answer::answer_line;
 use crate::answer::fresh;
+use cutborder::Memory;
 use libc::STDIN_FILENO;
-use places::Memory;
-use streams::Output;
-use streams::Read;
-use streams::read_more;
-use streams::say;
-use streams::say_failed;
-use text::line_end;
+use rules::CORNERS;
+use text::streams::Output;
+use text::streams::Read;
+use text::streams::read_more;
+use text::streams::say;
+use text::streams::say_failed;
+use text::words::line_end;
 ghost use Prim.Native.Nat.{_≤_, _<_};
 ghost use mathlib.Core.Path.{_≡_};
 ghost use lib.ListN.{length};
+ghost use Rattle.rules.specs.Limits.{maxPlaces};
 
 // The most bytes of a line. The buffer has one more, for its line feed or to tell a longer line.
 const MOST_BYTES: usize = 65536;
@@ -75,8 +77,9 @@ fn answer_whole(
     triangles: &mut [u16],
     m: &mut Memory,
 ) -> Answered
-    requires { ⌜ (from ≤ length (now input)) × (start .entries ≤ length (now triangles)) × (start .records ≤ 1024) ⌝ }
-    ensures { λ r. ⌜ (r .next ≤ length (now (input .entry))) × (r .session .entries ≤ length (now (triangles .entry))) × (r .session .records ≤ 1024) ⌝ }
+    requires { ⌜ (from ≤ length (now input)) × (start .entries ≤ length (now triangles)) × (start .records ≤ maxPlaces) ⌝ }
+    ensures { λ r. ⌜ (r .next ≤ length (now (input .entry))) × (r .session .entries ≤ length (now (triangles .entry)))
+        × (r .session .records ≤ maxPlaces) ⌝ }
 {
     let mut s = start;
     let mut at = 0;
@@ -94,8 +97,8 @@ fn answer_whole(
 
 // Answers what the input ends with: a line with no line feed, or nothing.
 fn answer_last(line: &[u8], s: Session, triangles: &mut [u16], m: &mut Memory) -> Turn
-    requires { ⌜ (s .entries ≤ length (now triangles)) × (s .records ≤ 1024) ⌝ }
-    ensures { λ r. ⌜ (r .held ≡ 0) × (r .session .entries ≤ length (now (triangles .entry))) × (r .session .records ≤ 1024) ⌝ }
+    requires { ⌜ (s .entries ≤ length (now triangles)) × (s .records ≤ maxPlaces) ⌝ }
+    ensures { λ r. ⌜ (r .held ≡ 0) × (r .session .entries ≤ length (now (triangles .entry))) × (r .session .records ≤ maxPlaces) ⌝ }
 {
     if line.len() == 0 {
         return over(s);
@@ -149,8 +152,9 @@ fn answer_read(
     triangles: &mut [u16],
     m: &mut Memory,
 ) -> Turn
-    requires { ⌜ (held < n) × (n ≤ length (now input)) × (s .entries ≤ length (now triangles)) × (s .records ≤ 1024) ⌝ }
-    ensures { λ r. ⌜ (r .held < length (now (input .entry))) × (r .session .entries ≤ length (now (triangles .entry))) × (r .session .records ≤ 1024) ⌝ }
+    requires { ⌜ (held < n) × (n ≤ length (now input)) × (s .entries ≤ length (now triangles)) × (s .records ≤ maxPlaces) ⌝ }
+    ensures { λ r. ⌜ (r .held < length (now (input .entry))) × (r .session .entries ≤ length (now (triangles .entry)))
+        × (r .session .records ≤ maxPlaces) ⌝ }
 {
     let a = answer_whole(&input[..n], held, s, triangles, m);
     let next = a.next;
@@ -166,8 +170,9 @@ fn take_turn(
     triangles: &mut [u16],
     m: &mut Memory,
 ) -> Turn
-    requires { ⌜ (held < length (now input)) × (s .entries ≤ length (now triangles)) × (s .records ≤ 1024) ⌝ }
-    ensures { λ r. ⌜ (r .held < length (now (input .entry))) × (r .session .entries ≤ length (now (triangles .entry))) × (r .session .records ≤ 1024) ⌝ }
+    requires { ⌜ (held < length (now input)) × (s .entries ≤ length (now triangles)) × (s .records ≤ maxPlaces) ⌝ }
+    ensures { λ r. ⌜ (r .held < length (now (input .entry))) × (r .session .entries ≤ length (now (triangles .entry)))
+        × (r .session .records ≤ maxPlaces) ⌝ }
 {
     let r = read_more(STDIN_FILENO, input, held);
     let Read::To(n) = r else {
@@ -206,7 +211,7 @@ fn run(input: &mut [u8], triangles: &mut [u16], m: &mut Memory) -> Output
 
 fn main() {
     let mut input = [0u8; MOST_BYTES + 1];
-    let mut triangles = [0u16; 24576];
+    let mut triangles = [0u16; CORNERS];
     let mut m = places::empty();
     run(&mut input, &mut triangles, &mut m).end(b"build");
 }

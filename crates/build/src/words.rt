@@ -1,9 +1,9 @@
 // The words of a line.
 use rules::Operation;
-use text::is_same;
-use text::number_of;
-use text::word_end;
-use text::word_start;
+use text::words::is_same;
+use text::words::number_of;
+use text::words::word_end;
+use text::words::word_start;
 ghost use Prim.Native.Nat.{_≤_};
 ghost use lib.ListN.{length};
 

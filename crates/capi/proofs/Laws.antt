@@ -15,19 +15,20 @@ use Rattle.rules.specs.declared.Performed.{Performed}
 use Rattle.rules.specs.declared.Finished.{Finished}
 use Rattle.rules.specs.declared.Packed.{Packed}
 use Rattle.rules.specs.declared.Unpacked.{Unpacked}
-use Rattle.rules.specs.Answer.{Answer, refusal, accepted, triangle, no-triangle, numbers, packed, unpacked, checkedAnswer, begunAnswer, operatedAnswer, finishedAnswer, packedAnswer, unpackedAnswer}
+use Rattle.rules.specs.Answer.{Answer, refusal, accepted, triangle, no-triangle, numbers, packed, unpacked, checkedAnswer, begunAnswer}
+use Rattle.rules.specs.Answer.{operatedAnswer, finishedAnswer, packedAnswer, unpackedAnswer}
 use Rattle.rules.specs.Machine.{Step, refused, begun, built, declared, finished}
 use Rattle.rules.specs.Book.{answerOf}
 use Rattle.rules.specs.Buffer.{Buffers}
 use Rattle.rules.specs.Build.{begins, operates, BegunBy, OperatedBy}
-use Rattle.building.specs.Promised.{lentTo, Beginning, Operating, Finishing}
-use Rattle.service.specs.Packing as P
-use Rattle.service.specs.Calls as U
+use Rattle.promises.specs.Promises.{lentTo, Beginning, Operating, Finishing}
+use Rattle.promises.specs.Promises as P
 use Rattle.capi.specs.Answered.{numberOf, sizeAfter, modelAfter, totalsAfter, eulerAfter, builtAfter, keptOr}
 use Rattle.capi.specs.Exported.{Packs, Unpacks, BegunAs, Begins, Operates, Finishes}
 
 pub packs-for : (v : ℕ) (xs ns bs : List ℕ) (ps : List Place) (z : ℕ) (r : Packed) (n : ℕ) (ns′ bs′ : List ℕ) (ps′ : List Place) (z′ : ℕ)
-    → P.Packs v xs ns bs ps r ns′ bs′ ps′ → (n ≡ numberOf (packedAnswer r)) × (z′ ≡ sizeAfter z (packedAnswer r)) → Packs v xs ns bs ps z n ns′ bs′ ps′ z′
+    → P.Packs v xs ns bs ps r ns′ bs′ ps′ → (n ≡ numberOf (packedAnswer r)) × (z′ ≡ sizeAfter z (packedAnswer r))
+    → Packs v xs ns bs ps z n ns′ bs′ ps′ z′
 packs-for v xs ns bs ps z r n ns′ bs′ ps′ z′ k e = record {
   number = e .0 ∙ ap numberOf (k .answer);
   size = e .1 ∙ ap (λ (a : Answer). sizeAfter z a) (k .answer);
@@ -36,8 +37,10 @@ packs-for v xs ns bs ps z r n ns′ bs′ ps′ z′ k e = record {
   places = k .places;
 }
 
-pub unpacks-for : (bytes ts : List ℕ) (ps : List Place) (ms : List ℕ) (e : ℤ) (r : Unpacked) (n : ℕ) (ts′ : List ℕ) (ps′ : List Place) (ms′ : List ℕ) (e′ : ℤ)
-    → U.Unpacks bytes ts ps r ts′ ps′ → (n ≡ numberOf (unpackedAnswer r)) × ((ms′ ≡ modelAfter ms (unpackedAnswer r)) × (e′ ≡ eulerAfter e (unpackedAnswer r)))
+pub unpacks-for : (bytes ts : List ℕ) (ps : List Place) (ms : List ℕ) (e : ℤ) (r : Unpacked) (n : ℕ) (ts′ : List ℕ) (ps′ : List Place)
+    (ms′ : List ℕ) (e′ : ℤ)
+    → P.Unpacks bytes ts ps r ts′ ps′
+    → (n ≡ numberOf (unpackedAnswer r)) × ((ms′ ≡ modelAfter ms (unpackedAnswer r)) × (e′ ≡ eulerAfter e (unpackedAnswer r)))
     → Unpacks bytes ts ps ms e n ts′ ps′ ms′ e′
 unpacks-for bytes ts ps ms e r n ts′ ps′ ms′ e′ k f = record {
   number = f .0 ∙ ap numberOf (k .answer);
@@ -79,8 +82,10 @@ begun-as r s b (Refused i) new r′ (built t m) e k = absurd (subst IsRefusal e 
 begun-as r s b (Refused i) new r′ (declared d m) e k = absurd (subst IsRefusal e tt)
 begun-as r s b (Refused i) new r′ (finished x) e k = absurd (subst IsRefusal e tt)
 
-pub begins-for : (s c : Counts) (ts : List ℕ) (ps : List Place) (b : Builder) (r : Begun) (n : ℕ) (ts′ : List ℕ) (ps′ : List Place) (b′ : Builder)
-    → c ≡ s → Beginning c ts ps r ts′ ps′ → b′ ≡ keptOr b (r .answer) (r .state) → n ≡ numberOf (begunAnswer r) → Begins s ts ps b n ts′ ps′ b′
+pub begins-for : (s c : Counts) (ts : List ℕ) (ps : List Place) (b : Builder) (r : Begun) (n : ℕ) (ts′ : List ℕ) (ps′ : List Place)
+    (b′ : Builder)
+    → c ≡ s → Beginning c ts ps r ts′ ps′ → b′ ≡ keptOr b (r .answer) (r .state) → n ≡ numberOf (begunAnswer r)
+    → Begins s ts ps b n ts′ ps′ b′
 begins-for s c ts ps b r n ts′ ps′ b′ ec k eb en =
     subst (λ (d : Counts). Begins d ts ps b n ts′ ps′ b′) ec (record {
       number = en ∙ ap numberOf (k .answer);
@@ -88,8 +93,10 @@ begins-for s c ts ps b r n ts′ ps′ b′ ec k eb en =
           (begun-as (lentTo ts ps) c b (r .answer) (r .state) (lentTo ts′ ps′) (begins (lentTo ts ps) c) (k .answer) (k .after));
     })
 
-pub operates-for : (b : Builder) (p o : Operation) (ts : List ℕ) (ps : List Place) (xs : List ℕ) (r : Performed) (n : ℕ) (b′ : Builder) (ts′ : List ℕ) (ps′ : List Place) (xs′ : List ℕ)
-    → o ≡ p → Operating b o ts ps r ts′ ps′ → b′ ≡ r .state → (n ≡ numberOf (operatedAnswer (r .answer))) × (xs′ ≡ builtAfter xs (operatedAnswer (r .answer)))
+pub operates-for : (b : Builder) (p o : Operation) (ts : List ℕ) (ps : List Place) (xs : List ℕ) (r : Performed) (n : ℕ) (b′ : Builder)
+    (ts′ : List ℕ) (ps′ : List Place) (xs′ : List ℕ)
+    → o ≡ p → Operating b o ts ps r ts′ ps′ → b′ ≡ r .state
+    → (n ≡ numberOf (operatedAnswer (r .answer))) × (xs′ ≡ builtAfter xs (operatedAnswer (r .answer)))
     → Operates b p ts ps xs n b′ ts′ ps′ xs′
 operates-for b p o ts ps xs r n b′ ts′ ps′ xs′ eo k eb e =
     subst (λ (q : Operation). Operates b q ts ps xs n b′ ts′ ps′ xs′) eo (record {
@@ -99,7 +106,8 @@ operates-for b p o ts ps xs r n b′ ts′ ps′ xs′ eo k eb e =
     })
 
 pub finishes-for : (b : Builder) (ts : List ℕ) (ps : List Place) (xs : List ℕ) (e : ℤ) (r : Finished) (n : ℕ) (xs′ : List ℕ) (e′ : ℤ)
-    → Finishing b ts ps r → (n ≡ numberOf (finishedAnswer r)) × ((xs′ ≡ totalsAfter xs (finishedAnswer r)) × (e′ ≡ eulerAfter e (finishedAnswer r)))
+    → Finishing b ts ps r → (n ≡ numberOf (finishedAnswer r))
+    × ((xs′ ≡ totalsAfter xs (finishedAnswer r)) × (e′ ≡ eulerAfter e (finishedAnswer r)))
     → Finishes b ts ps xs e n xs′ e′
 finishes-for b ts ps xs e r n xs′ e′ k f = record {
   number = f .0 ∙ ap numberOf (k .answer);

@@ -1,3 +1,3 @@
-pub mod Numbers
 pub mod Laws
 pub mod Meaning
+pub mod Numbers

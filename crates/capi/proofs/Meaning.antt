@@ -14,7 +14,7 @@ use Rattle.rules.specs.declared.Operation.the-variants.{Union}
 use Rattle.rules.specs.Limits.{maxTriangles, minPlaces, maxPlaces, maxLoops, between, vertexRange, inRange}
 use Rattle.rules.specs.Machine.{Machine, refused, operation, done, beginning, test}
 use Rattle.rules.specs.Buffer.{Buffers}
-use Rattle.rules.specs.Test21.{sound}
+use Rattle.rules.specs.Sound.{sound}
 use Rattle.rules.specs.Build.{viewed, begins, operates}
 use Rattle.rules.specs.Ring.{Ring}
 use Rattle.rules.specs.Table.{Effect, not-allowed, effect, atEdge, atRest, allowed}
@@ -89,10 +89,15 @@ fourth false false true = refl
 fourth false false false = refl
 
 pub triangles-above : (v t p l : ℕ) → 65536 ≤ t → inRange (countsOf v t p l) ≡ false
-triangles-above v t p l h = ap (λ (k : ℕ). inRange (counts (within16 v) k (within16 p) (within16 l))) (sym (within-large t h)) ∙ second (vertexRange (within16 v)) (between minPlaces (within16 p) maxPlaces) (between 1 (within16 l) maxLoops)
+triangles-above v t p l h =
+    ap (λ (k : ℕ). inRange (counts (within16 v) k (within16 p) (within16 l))) (sym (within-large t h))
+    ∙ second (vertexRange (within16 v)) (between minPlaces (within16 p) maxPlaces) (between 1 (within16 l) maxLoops)
 
 pub places-above : (v t p l : ℕ) → 65536 ≤ p → inRange (countsOf v t p l) ≡ false
-places-above v t p l h = ap (λ (k : ℕ). inRange (counts (within16 v) (within16 t) k (within16 l))) (sym (within-large p h)) ∙ third (vertexRange (within16 v)) (between 1 (within16 t) maxTriangles) (between 1 (within16 l) maxLoops)
+places-above v t p l h =
+    ap (λ (k : ℕ). inRange (counts (within16 v) (within16 t) k (within16 l))) (sym (within-large p h))
+    ∙ third (vertexRange (within16 v)) (between 1 (within16 t) maxTriangles) (between 1 (within16 l) maxLoops)
 
 pub loops-above : (v t p l : ℕ) → 65536 ≤ l → inRange (countsOf v t p l) ≡ false
-loops-above v t p l h = ap (λ (k : ℕ). inRange (counts (within16 v) (within16 t) (within16 p) k)) (sym (within-large l h)) ∙ fourth (vertexRange (within16 v)) (between 1 (within16 t) maxTriangles) (between minPlaces (within16 p) maxPlaces)
+loops-above v t p l h = ap (λ (k : ℕ). inRange (counts (within16 v) (within16 t) (within16 p) k)) (sym (within-large l h))
+    ∙ fourth (vertexRange (within16 v)) (between 1 (within16 t) maxTriangles) (between minPlaces (within16 p) maxPlaces)

@@ -35,7 +35,8 @@ within-large n h = rw (within16, le-ltb n 65536 h)
 abbrev pub counts : ℕ → ℕ → ℕ → ℕ → Counts
 counts a b c d = record { vertices = a; triangles = b; places = c; loops = d }
 
-pub counts-are : (a b c d v t p l : ℕ) → a ≡ within16 v → b ≡ within16 t → c ≡ within16 p → d ≡ within16 l → counts a b c d ≡ countsOf v t p l
+pub counts-are : (a b c d v t p l : ℕ) → a ≡ within16 v → b ≡ within16 t → c ≡ within16 p → d ≡ within16 l
+    → counts a b c d ≡ countsOf v t p l
 counts-are a b c d v t p l ea eb ec ed i = record { vertices = ea i; triangles = eb i; places = ec i; loops = ed i }
 
 pub split-small : (i : ℕ) → i < 65536 → Split i ≡ splitOf i
@@ -63,7 +64,8 @@ pub code-is : (k n p j : ℕ) → n ≡ k → operationOf k p j ≡ operationOf 
 code-is k n p j e = ap (λ (m : ℕ). operationOf m p j) (sym e)
 
 -- a code that is none of the eight
-pub code-rest : (n p j : ℕ) → (n ≡ 0 → ⊥) → (n ≡ 1 → ⊥) → (n ≡ 2 → ⊥) → (n ≡ 3 → ⊥) → (n ≡ 4 → ⊥) → (n ≡ 5 → ⊥) → (n ≡ 6 → ⊥) → (n ≡ 7 → ⊥) → none ≡ operationOf n p j
+pub code-rest : (n p j : ℕ) → (n ≡ 0 → ⊥) → (n ≡ 1 → ⊥) → (n ≡ 2 → ⊥) → (n ≡ 3 → ⊥) → (n ≡ 4 → ⊥) → (n ≡ 5 → ⊥) → (n ≡ 6 → ⊥) → (n ≡ 7 → ⊥)
+    → none ≡ operationOf n p j
 unfolding operationOf
 code-rest zero p j h0 h1 h2 h3 h4 h5 h6 h7 = absurd (h0 refl)
 code-rest (suc zero) p j h0 h1 h2 h3 h4 h5 h6 h7 = absurd (h1 refl)
@@ -77,22 +79,38 @@ code-rest (suc (suc (suc (suc (suc (suc (suc (suc n)))))))) p j h0 h1 h2 h3 h4 h
 
 pub built-is : (xs : List ℕ) (a : Operated) (t : Triangle) → a ≡ O.Built t
     → (0 ≡ numberOf (operatedAnswer a)) × ((1 ∷ (t .p ∷ (t .q ∷ (t .r ∷ [])))) ≡ builtAfter xs (operatedAnswer a))
-built-is xs a t e = (ap (λ (x : Operated). numberOf (operatedAnswer x)) (sym e), ap (λ (x : Operated). builtAfter xs (operatedAnswer x)) (sym e))
+built-is xs a t e = (
+  ap (λ (x : Operated). numberOf (operatedAnswer x)) (sym e),
+  ap (λ (x : Operated). builtAfter xs (operatedAnswer x))
+      (sym e),
+)
 
 -- a signed number is stored by its bits
 stored : (z : ℤ) → mag z < 2 ^ hbits w32 → toZ w32 (ofZ w32 z) ≡ z
 stored z f = toZ-ofZ w32 z (record { sfits = f })
 
 pub totals-are : (xs : List ℕ) (z : ℤ) (a : Finished) (t : Totals) → a ≡ F.Totals t → mag (t .euler) < 2 ^ hbits w32
-    → (0 ≡ numberOf (finishedAnswer a)) × (((t .edges ∷ (t .rims ∷ (t .unions ∷ []))) ≡ totalsAfter xs (finishedAnswer a)) × (toZ w32 (ofZ w32 (t .euler)) ≡ eulerAfter z (finishedAnswer a)))
+    → (0 ≡ numberOf (finishedAnswer a))
+    × (((t .edges ∷ (t .rims ∷ (t .unions ∷ []))) ≡ totalsAfter xs (finishedAnswer a))
+    × (toZ w32 (ofZ w32 (t .euler)) ≡ eulerAfter z (finishedAnswer a)))
 totals-are xs z a t e f = (
   ap (λ (x : Finished). numberOf (finishedAnswer x)) (sym e),
-  (ap (λ (x : Finished). totalsAfter xs (finishedAnswer x)) (sym e), stored (t .euler) f ∙ ap (λ (x : Finished). eulerAfter z (finishedAnswer x)) (sym e)),
+  (
+    ap (λ (x : Finished). totalsAfter xs (finishedAnswer x)) (sym e),
+    stored (t .euler) f
+        ∙ ap (λ (x : Finished). eulerAfter z (finishedAnswer x)) (sym e),
+  ),
 )
 
 pub model-is : (xs : List ℕ) (z : ℤ) (a : Unpacked) (m : Model) → a ≡ U.Model m → mag (m .totals .euler) < 2 ^ hbits w32
-    → (0 ≡ numberOf (unpackedAnswer a)) × (((m .vertices ∷ (m .triangles ∷ (m .totals .edges ∷ (m .totals .rims ∷ (m .totals .unions ∷ []))))) ≡ modelAfter xs (unpackedAnswer a)) × (toZ w32 (ofZ w32 (m .totals .euler)) ≡ eulerAfter z (unpackedAnswer a)))
+    → (0 ≡ numberOf (unpackedAnswer a))
+    × (((m .vertices ∷ (m .triangles ∷ (m .totals .edges ∷ (m .totals .rims ∷ (m .totals .unions ∷ [])))))
+    ≡ modelAfter xs (unpackedAnswer a)) × (toZ w32 (ofZ w32 (m .totals .euler)) ≡ eulerAfter z (unpackedAnswer a)))
 model-is xs z a m e f = (
   ap (λ (x : Unpacked). numberOf (unpackedAnswer x)) (sym e),
-  (ap (λ (x : Unpacked). modelAfter xs (unpackedAnswer x)) (sym e), stored (m .totals .euler) f ∙ ap (λ (x : Unpacked). eulerAfter z (unpackedAnswer x)) (sym e)),
+  (
+    ap (λ (x : Unpacked). modelAfter xs (unpackedAnswer x)) (sym e),
+    stored (m .totals .euler) f
+        ∙ ap (λ (x : Unpacked). eulerAfter z (unpackedAnswer x)) (sym e),
+  ),
 )

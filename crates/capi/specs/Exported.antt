@@ -14,8 +14,8 @@ use Rattle.rules.specs.Buffer.{Buffers}
 use Rattle.rules.specs.Build.{begins, operates, finishes, begunBuilder, begunBuffers, OperatedBy}
 use Rattle.rules.specs.Pack.{pack}
 use Rattle.rules.specs.Unpack.{unpack}
-use Rattle.building.specs.Promised.{lentTo}
-use Rattle.service.specs.Packing.{packingBuffers}
+use Rattle.promises.specs.Promises.{lentTo}
+use Rattle.promises.specs.Promises.{packingBuffers}
 use Rattle.capi.specs.Answered.{numberOf, sizeAfter, modelAfter, totalsAfter, eulerAfter, builtAfter}
 
 -- a packing: z is the memory for the pack's length
@@ -27,7 +27,8 @@ pub record Packs (v : ℕ) (xs ns bs : List ℕ) (ps : List Place) (z n : ℕ) (
   pub places : ps′ ≡ pack v xs (packingBuffers ns bs ps) .buffers .places
 
 -- an unpacking: ms and e are the memory for the model's numbers and its Euler number
-pub record Unpacks (bytes ts : List ℕ) (ps : List Place) (ms : List ℕ) (e : ℤ) (n : ℕ) (ts′ : List ℕ) (ps′ : List Place) (ms′ : List ℕ) (e′ : ℤ) : Type 0 where
+pub record Unpacks (bytes ts : List ℕ) (ps : List Place) (ms : List ℕ) (e : ℤ) (n : ℕ) (ts′ : List ℕ) (ps′ : List Place) (ms′ : List ℕ)
+    (e′ : ℤ) : Type 0 where
   pub number : n ≡ numberOf (unpack bytes (lentTo ts ps) .answer)
   pub model : ms′ ≡ modelAfter ms (unpack bytes (lentTo ts ps) .answer)
   pub euler : e′ ≡ eulerAfter e (unpack bytes (lentTo ts ps) .answer)
@@ -43,12 +44,14 @@ BegunAs r s b (declared d m) b′ r′ = ⊥
 BegunAs r s b (finished x) b′ r′ = ⊥
 
 -- a beginning with the counts s, in the memory of the builder b
-pub record Begins (s : Counts) (ts : List ℕ) (ps : List Place) (b : Builder) (n : ℕ) (ts′ : List ℕ) (ps′ : List Place) (b′ : Builder) : Type 0 where
+pub record Begins (s : Counts) (ts : List ℕ) (ps : List Place) (b : Builder) (n : ℕ) (ts′ : List ℕ) (ps′ : List Place) (b′ : Builder) : Type
+    0 where
   pub number : n ≡ numberOf (answerOf (begins (lentTo ts ps) s))
   pub after : BegunAs (lentTo ts ps) s b (begins (lentTo ts ps) s) b′ (lentTo ts′ ps′)
 
 -- an operation on the builder b: xs is the memory for the triangle
-pub record Operates (b : Builder) (o : Operation) (ts : List ℕ) (ps : List Place) (xs : List ℕ) (n : ℕ) (b′ : Builder) (ts′ : List ℕ) (ps′ : List Place) (xs′ : List ℕ) : Type 0 where
+pub record Operates (b : Builder) (o : Operation) (ts : List ℕ) (ps : List Place) (xs : List ℕ) (n : ℕ) (b′ : Builder) (ts′ : List ℕ)
+    (ps′ : List Place) (xs′ : List ℕ) : Type 0 where
   pub number : n ≡ numberOf (answerOf (operates b (lentTo ts ps) o))
   pub built : xs′ ≡ builtAfter xs (answerOf (operates b (lentTo ts ps) o))
   pub after : OperatedBy b (lentTo ts ps) o (operates b (lentTo ts ps) o) b′ (lentTo ts′ ps′)

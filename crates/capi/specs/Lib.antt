@@ -1,3 +1,3 @@
-pub mod Given
 pub mod Answered
 pub mod Exported
+pub mod Given

@@ -42,7 +42,8 @@ pub extern "C" fn cutborder_pack(
     places: &mut [Place],
     size: &mut u32,
 ) -> u32
-    ensures { λ n. ⌜ Packs v (now (list .entry)) (now (numbering .entry)) (now (buffer .entry)) (now (places .entry)) (now (size .entry)) n (now (numbering .exit)) (now (buffer .exit)) (now (places .exit)) (now (size .exit)) ⌝ }
+    ensures { λ n. ⌜ Packs v (now (list .entry)) (now (numbering .entry)) (now (buffer .entry)) (now (places .entry)) (now (size .entry)) n
+        (now (numbering .exit)) (now (buffer .exit)) (now (places .exit)) (now (size .exit)) ⌝ }
 {
     let r = service::pack(v, list, numbering, buffer, places);
     packed(r, size)
@@ -58,7 +59,8 @@ pub extern "C" fn cutborder_unpack(
     model: &mut [u16; 5],
     euler: &mut i32,
 ) -> u32
-    ensures { λ n. ⌜ Unpacks (now (pack .entry)) (now (triangles .entry)) (now (places .entry)) (now (model .entry)) (now (euler .entry)) n (now (triangles .exit)) (now (places .exit)) (now (model .exit)) (now (euler .exit)) ⌝ }
+    ensures { λ n. ⌜ Unpacks (now (pack .entry)) (now (triangles .entry)) (now (places .entry)) (now (model .entry)) (now (euler .entry)) n
+        (now (triangles .exit)) (now (places .exit)) (now (model .exit)) (now (euler .exit)) ⌝ }
 {
     let r = service::unpack(pack, triangles, places);
     unpacked(r, model, euler)
@@ -76,7 +78,8 @@ pub extern "C" fn cutborder_begin(
     places: &mut [Place],
     state: &mut Builder,
 ) -> u32
-    ensures { λ n. ⌜ Begins (countsOf v t «most_places» «most_loops») (now (triangles .entry)) (now (places .entry)) (now (state .entry)) n (now (triangles .exit)) (now (places .exit)) (now (state .exit)) ⌝ }
+    ensures { λ n. ⌜ Begins (countsOf v t «most_places» «most_loops») (now (triangles .entry)) (now (places .entry)) (now (state .entry)) n
+        (now (triangles .exit)) (now (places .exit)) (now (state .exit)) ⌝ }
 {
     let c = counts_of(v, t, most_places, most_loops);
     let r = service::begin(c, triangles, places);
@@ -97,7 +100,8 @@ pub extern "C" fn cutborder_operation(
     places: &mut [Place],
     built: &mut [u16; 4],
 ) -> u32
-    ensures { λ n. ⌜ Operates (now (state .entry)) (operationOf code p j) (now (triangles .entry)) (now (places .entry)) (now (built .entry)) n (now (state .exit)) (now (triangles .exit)) (now (places .exit)) (now (built .exit)) ⌝ }
+    ensures { λ n. ⌜ Operates (now (state .entry)) (operationOf code p j) (now (triangles .entry)) (now (places .entry))
+        (now (built .entry)) n (now (state .exit)) (now (triangles .exit)) (now (places .exit)) (now (built .exit)) ⌝ }
 {
     let o = operation_of(code, p, j);
     let r = service::operation(*state, o, triangles, places);
@@ -114,7 +118,8 @@ pub extern "C" fn cutborder_finish(
     totals: &mut [u16; 3],
     euler: &mut i32,
 ) -> u32
-    ensures { λ n. ⌜ Finishes (now (state .entry)) (now (triangles .entry)) (now (places .entry)) (now (totals .entry)) (now (euler .entry)) n (now (totals .exit)) (now (euler .exit)) ⌝ }
+    ensures { λ n. ⌜ Finishes (now (state .entry)) (now (triangles .entry)) (now (places .entry)) (now (totals .entry)) (now (euler .entry))
+        n (now (totals .exit)) (now (euler .exit)) ⌝ }
 {
     let r = service::finish(*state, triangles, places);
     finished(r, totals, euler)

@@ -8,9 +8,9 @@ use mathlib.Core.List.{List}
 use mathlib.Core.Path.{_≡_, sym, ap, ap₂, _∙_, subst}
 use lib.Dec.{eqb}
 use borrow.Author.Tests.{not-true, not-false, eq-eqb, ne-eqb}
-use Rattle.memory.specs.Layout.{vertexOf, afterOf, walked}
-use Rattle.memory.specs.Decision.{isOpenAt}
-use Rattle.choosing.specs.Seeking.{startsAt, goneBy, Inside}
+use Rattle.border_theory.specs.Memory.Layout.{vertexOf, afterOf, walked}
+use Rattle.border_theory.specs.Memory.Decision.{isOpenAt}
+use Rattle.pack_theory.specs.Choosing.Seeking.{startsAt, goneBy, Inside}
 
 -- the test at one place: its three parts in their order
 module _ (m : List ℕ) (p x y : ℕ) where

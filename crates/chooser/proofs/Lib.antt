@@ -1,3 +1,3 @@
 pub mod Counting
-pub mod Naming
 pub mod Looking
+pub mod Naming

@@ -9,11 +9,11 @@ use mathlib.Core.Path.{_≡_, refl, sym, ap, ap₂, _∙_, subst}
 use lib.ListN.{length}
 use borrow.Author.Tests.{lt-ltb, le-ltb}
 use Rattle.rules.specs.Limits.{maxPlaces}
-use Rattle.memory.specs.declared.Loops.{Loops}
-use Rattle.memory.specs.Layout.{at, beforeOf, afterOf, walked}
-use Rattle.choosing.specs.declared.Seat.{Seat}
-use Rattle.choosing.specs.declared.Seat.the-variants.{Nowhere, At}
-use Rattle.choosing.specs.Seeking.{startsAt, goneBy, seatAmong, waitingSeat, walkedSeat, seatIn, Inside, Seekable}
+use Rattle.cutborder.specs.declared.Loops.{Loops}
+use Rattle.border_theory.specs.Memory.Layout.{at, beforeOf, afterOf, walked}
+use Rattle.cutborder.specs.declared.Seat.{Seat}
+use Rattle.cutborder.specs.declared.Seat.the-variants.{Nowhere, At}
+use Rattle.pack_theory.specs.Choosing.Seeking.{startsAt, goneBy, seatAmong, waitingSeat, walkedSeat, seatIn, Inside, Seekable}
 
 -- one loop, if the edge is in it, else the others
 among-here : (w k i : ℕ) (s : Seat) → i < k → At w k i ≡ seatAmong w k i s
@@ -45,7 +45,8 @@ module _ (l : Loops) (m : List ℕ) (h : Seekable l m) (x y j w : ℕ) (k : Look
       (h .waiting (j - 1) (omega (arith, h .live, k .sum, k .first, some)) i (subst (λ (q : ℕ). i < q) en b))
 
 -- one loop of the search
-waiting-step : (m : List ℕ) (x y j w n p i : ℕ) → 0 < j → n ≡ at m (5 * maxPlaces + 2 * (j - 1) + 1) → p ≡ at m (5 * maxPlaces + 2 * (j - 1))
+waiting-step : (m : List ℕ) (x y j w n p i : ℕ) → 0 < j → n ≡ at m (5 * maxPlaces + 2 * (j - 1) + 1)
+    → p ≡ at m (5 * maxPlaces + 2 * (j - 1))
     → i ≡ goneBy m n 0 p x y → seatAmong w n i (waitingSeat m (j - 1) (w + 1) x y) ≡ waitingSeat m j w x y
 unfolding waitingSeat
 waiting-step m x y zero w n p i h en ep ei = absurd (omega arith)
@@ -55,7 +56,8 @@ waiting-step m x y (suc j) w n p i h en ep ei =
     let p′ : p ≡ at m (5 * maxPlaces + 2 * j) = ep ∙ ap (λ (q : ℕ). at m (5 * maxPlaces + 2 * q)) d in
     ap₂ (λ (q v : ℕ). seatAmong w n i (waitingSeat m q v x y)) d (add-one w)
     ∙ (ap (λ (q : ℕ). seatAmong w n q (waitingSeat m j (suc w) x y)) (ei ∙ ap₂ (λ (a b : ℕ). goneBy m a 0 b x y) n′ p′)
-    ∙ ap (λ (q : ℕ). seatAmong w q (goneBy m (at m (5 * maxPlaces + 2 * j + 1)) 0 (at m (5 * maxPlaces + 2 * j)) x y) (waitingSeat m j (suc w) x y)) n′)
+    ∙ ap (λ (q : ℕ). seatAmong w q (goneBy m (at m (5 * maxPlaces + 2 * j + 1)) 0 (at m (5 * maxPlaces + 2 * j)) x y)
+    (waitingSeat m j (suc w) x y)) n′)
 
 module _ (m : List ℕ) (x y j₀ w₀ j w : ℕ) (k : Looking m x y j₀ w₀ j w) where
   pub looking-found : (n p i : ℕ) → 0 < j → n ≡ at m (5 * maxPlaces + 2 * (j - 1) + 1) → p ≡ at m (5 * maxPlaces + 2 * (j - 1))

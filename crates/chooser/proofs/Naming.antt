@@ -10,10 +10,10 @@ use borrow.Author.Tests.{eq-eqb, ne-eqb}
 use Rattle.rules.specs.declared.Operation.{Operation}
 use Rattle.rules.specs.declared.Operation.the-variants.{Forward, Backward, Split, Close, Union}
 use Rattle.rules.specs.Choice.{following}
-use Rattle.memory.specs.declared.Loops.{Loops}
-use Rattle.memory.specs.Layout.{beforeOf, afterOf}
-use Rattle.memory.specs.Decision.{isOpenAt}
-use Rattle.choosing.specs.Seeking.{operationBy}
+use Rattle.cutborder.specs.declared.Loops.{Loops}
+use Rattle.border_theory.specs.Memory.Layout.{beforeOf, afterOf}
+use Rattle.border_theory.specs.Memory.Decision.{isOpenAt}
+use Rattle.pack_theory.specs.Choosing.Seeking.{operationBy}
 
 module _ (k i : ℕ) where
   pub following-end : i + 1 ≡ k → 0 ≡ following k i
@@ -61,7 +61,8 @@ module _ (k i : ℕ) (u v : Bool) where
     unfolding operationBy
     names-backward c d e ec f ed g = of w h (closing false e) (sym ec ∙ f) (sym ed ∙ g)
       where
-        of : (x : ℕ) → x ≤ 0 → eqb k 3 && (u && v) ≡ false → eqb i 2 && u ≡ false → eqb (i + 1) k && v ≡ true → Backward ≡ operationBy k u v x i
+        of : (x : ℕ) → x ≤ 0 → eqb k 3 && (u && v) ≡ false → eqb i 2 && u ≡ false → eqb (i + 1) k && v ≡ true
+            → Backward ≡ operationBy k u v x i
         of zero l f g z = rw (operationBy, f, g, z) refl
         of (suc x) l f g z = absurd (omega arith)
 
@@ -70,7 +71,8 @@ module _ (k i : ℕ) (u v : Bool) where
     unfolding operationBy
     names-split c d j e ec f ed g ej = of w h (closing false e) (sym ec ∙ f) (sym ed ∙ g)
       where
-        of : (x : ℕ) → x ≤ 0 → eqb k 3 && (u && v) ≡ false → eqb i 2 && u ≡ false → eqb (i + 1) k && v ≡ false → Split j ≡ operationBy k u v x i
+        of : (x : ℕ) → x ≤ 0 → eqb k 3 && (u && v) ≡ false → eqb i 2 && u ≡ false → eqb (i + 1) k && v ≡ false
+            → Split j ≡ operationBy k u v x i
         of zero l f g z = rw (operationBy, f, g, z) (ap Split ej)
         of (suc x) l f g z = absurd (omega arith)
 

@@ -8,18 +8,18 @@ use crate::name::place_operation;
 use crate::seek::seat_of;
 use crate::turn::turn_in;
 use crate::turn::turn_out;
-use choosing::Flags;
-use choosing::Seat;
-use memory::Loops;
-use mesh::Links;
+use corners::Links;
+use cutborder::Flags;
+use cutborder::Loops;
+use cutborder::Seat;
 use rules::Operation;
 ghost use Prim.Native.Nat.{_<_};
 ghost use mathlib.Core.Path.{_≡_};
 ghost use Rattle.rules.specs.Limits.{maxPlaces};
 ghost use Rattle.rules.specs.Choice.{choosePlace};
-ghost use Rattle.memory.specs.Stands.{loopsIn};
-ghost use Rattle.choosing.specs.Choosable.{unbuiltOf, Choosable};
-ghost use Rattle.choosing.specs.Places.{enterSeat, leaveSeat};
+ghost use Rattle.border_theory.specs.Memory.Stands.{loopsIn};
+ghost use Rattle.pack_theory.specs.Choosing.Choosable.{unbuiltOf, Choosable};
+ghost use Rattle.pack_theory.specs.Choosing.Places.{enterSeat, leaveSeat};
 
 // Where the open edge into c starts at which turning back from the triangle ends.
 fn enter_seat(

@@ -1,5 +1,5 @@
 // Which operation a place names: union in a waiting loop; in the current one close, forward, backward or split.
-use memory::Loops;
+use cutborder::Loops;
 use rings::place::after_of;
 use rings::place::before_of;
 use rings::place::is_open;
@@ -8,9 +8,9 @@ ghost use Prim.Native.Nat.{_-_};
 ghost use mathlib.Core.Bool.{_&&_};
 ghost use mathlib.Core.Path.{_≡_};
 ghost use lib.Dec.{eqb};
-ghost use Rattle.memory.specs.Layout.{beforeOf, afterOf};
-ghost use Rattle.memory.specs.Decision.{isOpenAt};
-ghost use Rattle.choosing.specs.Seeking.{operationBy, Seekable};
+ghost use Rattle.border_theory.specs.Memory.Layout.{beforeOf, afterOf};
+ghost use Rattle.border_theory.specs.Memory.Decision.{isOpenAt};
+ghost use Rattle.pack_theory.specs.Choosing.Seeking.{operationBy, Seekable};
 
 // A place counted from e on, as it is counted from f on.
 fn from_f(i: u16) -> u16
@@ -65,7 +65,8 @@ fn operation_for(k: u16, u: bool, v: bool, w: u16, i: u16) -> Operation
 // The operation for place i of loop w, by the edges next to the current one.
 pub(crate) fn place_operation(m: &[u16], l: Loops, w: u16, i: u16) -> Operation
     requires { ⌜ Seekable l (now m) ⌝ }
-    ensures { λ r. ⌜ r ≡ operationBy (l .size) (isOpenAt (now (m .entry)) (afterOf (now (m .entry)) (l .current))) (isOpenAt (now (m .entry)) (beforeOf (now (m .entry)) (l .current))) w i ⌝ }
+    ensures { λ r. ⌜ r ≡ operationBy (l .size) (isOpenAt (now (m .entry)) (afterOf (now (m .entry)) (l .current)))
+        (isOpenAt (now (m .entry)) (beforeOf (now (m .entry)) (l .current))) w i ⌝ }
 {
     let e = l.current;
     let f = after_of(m, e);

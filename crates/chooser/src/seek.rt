@@ -1,6 +1,6 @@
 // Looking for an open edge in the memory. Where forward, backward or close is right it is found at once, else by walking.
-use choosing::Seat;
-use memory::Loops;
+use cutborder::Loops;
+use cutborder::Seat;
 use rings::place::after_of;
 use rings::place::before_of;
 use rings::place::is_open;
@@ -10,8 +10,8 @@ use rings::stack::size_at;
 use rules::Builder;
 ghost use Prim.Native.Nat.{ℕ, _-_, _<_};
 ghost use mathlib.Core.Path.{_≡_};
-ghost use Rattle.memory.specs.Layout.{walked};
-ghost use Rattle.choosing.specs.Seeking.{startsAt, goneBy, waitingSeat, walkedSeat, seatIn, Inside, Seekable};
+ghost use Rattle.border_theory.specs.Memory.Layout.{walked};
+ghost use Rattle.pack_theory.specs.Choosing.Seeking.{startsAt, goneBy, waitingSeat, walkedSeat, seatIn, Inside, Seekable};
 
 // Whether the open edge x→y starts at place p.
 fn is_start(m: &[u16], p: u16, x: u16, y: u16) -> bool

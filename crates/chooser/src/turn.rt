@@ -1,17 +1,17 @@
 // Turning about a vertex, through triangles that are not built: one look-up in the chains for each.
-use choosing::Flags;
-use choosing::Turned;
-use mesh::Links;
-use mesh::across;
+use corners::Links;
+use corners::across;
+use cutborder::Flags;
+use cutborder::Turned;
 use rules::Across;
 ghost use Prim.Native.Nat.{_<_};
 ghost use mathlib.Core.Bool.{not};
 ghost use mathlib.Core.Path.{_≡_};
 ghost use lib.Dec.{eqb};
 ghost use Rattle.rules.specs.Limits.{maxTriangles};
-ghost use Rattle.chains.specs.Chains.{Linked};
-ghost use Rattle.choosing.specs.Choosable.{flagOf};
-ghost use Rattle.choosing.specs.Turning.{EndsIn, EndsOut};
+ghost use Rattle.mesh_theory.specs.Chains.Linked.{Linked};
+ghost use Rattle.pack_theory.specs.Choosing.Choosable.{flagOf};
+ghost use Rattle.pack_theory.specs.Choosing.Turning.{EndsIn, EndsOut};
 
 // Whether triangle n is built.
 fn is_built(built: &Flags, n: u16) -> bool

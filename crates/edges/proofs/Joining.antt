@@ -13,9 +13,10 @@ use Rattle.rules.specs.Triangle.{Edge, edge, edgesOf}
 use Rattle.rules.specs.Count.{num, hit, count, unjoined}
 use Rattle.rules.specs.Table.{Side, sideRule, edgeRule}
 use Rattle.rules.specs.View.{trianglesBuilt}
-use Rattle.memory.specs.declared.Plan.{Plan}
-use Rattle.memory.specs.Decision.{sideOf}
+use Rattle.cutborder.specs.declared.Plan.{Plan}
+use Rattle.border_theory.specs.Memory.Decision.{sideOf}
 use Rattle.edges.specs.Joined.{isEdge, isPair, joinsAt, noneJoins}
+use Rattle.counting.proofs.Bools.{and-no}
 
 -- one edge more
 add-hit : (a : Bool) (c : ℕ) → eqb (num a + c) 0 ≡ not a && eqb c 0
@@ -28,7 +29,8 @@ both false true true f = refl
 both false true false f = refl
 both false false e f = refl
 
-unjoined-more : (p q x y : ℕ) (ds : List Edge) → unjoined x y (edge p q ∷ ds) ≡ elim (isPair p q x y) [ true ↦ false | false ↦ unjoined x y ds ]
+unjoined-more : (p q x y : ℕ) (ds : List Edge)
+    → unjoined x y (edge p q ∷ ds) ≡ elim (isPair p q x y) [ true ↦ false | false ↦ unjoined x y ds ]
 unfolding count hit isPair isEdge
 unjoined-more p q x y ds =
     ap₂ _&&_ (add-hit (eqb x p && eqb y q) (count x y ds)) (add-hit (eqb y p && eqb x q) (count y x ds))
@@ -51,11 +53,14 @@ none-unjoined xs (suc n) x y =
     let r = getD xs (3 * n + 2) 0 in
     let ds : List Edge = edgesOf (trianglesBuilt xs n) in
     three (isPair r p x y) (isPair q r x y) (isPair p q x y) (noneJoins xs n x y)
-    ∙ ap (λ (z : Bool). elim (isPair r p x y) [ true ↦ false | false ↦ elim (isPair q r x y) [ true ↦ false | false ↦ elim (isPair p q x y) [ true ↦ false | false ↦ z ] ] ]) (none-unjoined xs n x y)
+    ∙ ap (λ (z : Bool). elim (isPair r p x y)
+    [ true ↦ false | false ↦ elim (isPair q r x y) [ true ↦ false | false ↦ elim (isPair p q x y) [ true ↦ false | false ↦ z ] ] ])
+    (none-unjoined xs n x y)
     ∙ sym
     (unjoined-more r p x y (edge q r ∷ (edge p q ∷ ds))
     ∙ ap (λ (z : Bool). elim (isPair r p x y) [ true ↦ false | false ↦ z ])
-    (unjoined-more q r x y (edge p q ∷ ds) ∙ ap (λ (z : Bool). elim (isPair q r x y) [ true ↦ false | false ↦ z ]) (unjoined-more p q x y ds)))
+    (unjoined-more q r x y (edge p q ∷ ds)
+    ∙ ap (λ (z : Bool). elim (isPair q r x y) [ true ↦ false | false ↦ z ]) (unjoined-more p q x y ds)))
 
 -- the functions
 pub edge-other : (a b x y : ℕ) → (x ≡ a → ⊥) → false ≡ isEdge a b x y
@@ -88,7 +93,8 @@ module _ (xs : List ℕ) (j x y : ℕ) where
       rw (z, w)
 
   pub joins-third : (t r q : Bool) → t ≡ isPair (getD xs (3 * j + 2) 0) (getD xs (3 * j) 0) x y → t ≡ false
-      → r ≡ isPair (getD xs (3 * j + 1) 0) (getD xs (3 * j + 2) 0) x y → r ≡ false → q ≡ isPair (getD xs (3 * j) 0) (getD xs (3 * j + 1) 0) x y
+      → r ≡ isPair (getD xs (3 * j + 1) 0) (getD xs (3 * j + 2) 0) x y → r ≡ false
+      → q ≡ isPair (getD xs (3 * j) 0) (getD xs (3 * j + 1) 0) x y
       → q ≡ joinsAt xs j x y
   unfolding joinsAt
   joins-third t r q e h f k g =
@@ -97,7 +103,8 @@ module _ (xs : List ℕ) (j x y : ℕ) where
       rw (z, w) g
 
 module _ (xs : List ℕ) (x y : ℕ) where
-  pub none-here : (n j : ℕ) (t : Bool) → 0 < j → noneJoins xs j x y ≡ noneJoins xs n x y → t ≡ joinsAt xs (j - 1) x y → t ≡ true → false ≡ noneJoins xs n x y
+  pub none-here : (n j : ℕ) (t : Bool) → 0 < j → noneJoins xs j x y ≡ noneJoins xs n x y → t ≡ joinsAt xs (j - 1) x y → t ≡ true
+      → false ≡ noneJoins xs n x y
   unfolding noneJoins
   none-here n zero t l e f h = absurd (omega arith)
   none-here n (suc j) t l e f h =
@@ -122,14 +129,10 @@ module _ (xs : List ℕ) (x y : ℕ) where
   pub side-glued : (n s : ℕ) → s ≡ 0 → false ≡ not (sideRule (sideOf s) x y (trianglesBuilt xs n))
   side-glued n s e = rw e
 
-  pub side-fresh : (n s : ℕ) (t r : Bool) → (s ≡ 0 → ⊥) → t ≡ noneJoins xs n x y → t ≡ r → not r ≡ not (sideRule (sideOf s) x y (trianglesBuilt xs n))
+  pub side-fresh : (n s : ℕ) (t r : Bool) → (s ≡ 0 → ⊥) → t ≡ noneJoins xs n x y → t ≡ r
+      → not r ≡ not (sideRule (sideOf s) x y (trianglesBuilt xs n))
   side-fresh n zero t r z e h = absurd (z refl)
   side-fresh n (suc s) t r z e h = ap not (sym h ∙ e ∙ none-unjoined xs n x y)
-
--- a test that fails, and all that hold
-no-right : (a b : Bool) → b ≡ false → a && b ≡ false
-no-right true b e = e
-no-right false b e = refl
 
 not-true : (a t : Bool) → t ≡ not a → t ≡ true → a ≡ false
 not-true true t e h = sym (sym e ∙ h)
@@ -146,19 +149,19 @@ first : (a b c d e f : Bool) → a ≡ false → false ≡ a && b && c && d && e
 first a b c d e f h = rw h
 
 second : (a b c d e f : Bool) → b ≡ false → false ≡ a && b && c && d && e && f
-second a b c d e f h = let z : a && b ≡ false = no-right a b h in rw z
+second a b c d e f h = let z : a && b ≡ false = and-no a b h in rw z
 
 third : (a b c d e f : Bool) → c ≡ false → false ≡ a && b && c && d && e && f
-third a b c d e f h = let z : a && b && c ≡ false = no-right (a && b) c h in rw z
+third a b c d e f h = let z : a && b && c ≡ false = and-no (a && b) c h in rw z
 
 fourth : (a b c d e f : Bool) → d ≡ false → false ≡ a && b && c && d && e && f
-fourth a b c d e f h = let z : a && b && c && d ≡ false = no-right (a && b && c) d h in rw z
+fourth a b c d e f h = let z : a && b && c && d ≡ false = and-no (a && b && c) d h in rw z
 
 fifth : (a b c d e f : Bool) → e ≡ false → false ≡ a && b && c && d && e && f
-fifth a b c d e f h = let z : a && b && c && d && e ≡ false = no-right (a && b && c && d) e h in rw z
+fifth a b c d e f h = let z : a && b && c && d && e ≡ false = and-no (a && b && c && d) e h in rw z
 
 sixth : (a b c d e f : Bool) → f ≡ false → false ≡ a && b && c && d && e && f
-sixth a b c d e f h = sym (no-right (a && b && c && d && e) f h)
+sixth a b c d e f h = sym (and-no (a && b && c && d && e) f h)
 
 module _ (plan : Plan) (xs : List ℕ) (n : ℕ) where
   abbrev t : Triangle
@@ -212,8 +215,10 @@ module _ (plan : Plan) (xs : List ℕ) (n : ℕ) where
   pub side-rp : (k : Bool) → k ≡ not (sideRule z (t .r) (t .p) ts) → k ≡ true → false ≡ edgeRule t x y z ts
   side-rp k e h = sixth a₁ a₂ a₃ a₄ a₅ a₆ (not-true a₆ k e h)
 
-  pub rule-holds : (k l m : Bool) → (t .p ≡ t .q → ⊥) → (t .q ≡ t .r → ⊥) → (t .r ≡ t .p → ⊥) → k ≡ not (sideRule x (t .p) (t .q) ts) → k ≡ false
+  pub rule-holds : (k l m : Bool) → (t .p ≡ t .q → ⊥) → (t .q ≡ t .r → ⊥) → (t .r ≡ t .p → ⊥) → k ≡ not (sideRule x (t .p) (t .q) ts)
+      → k ≡ false
       → l ≡ not (sideRule y (t .q) (t .r) ts) → l ≡ false → m ≡ not (sideRule z (t .r) (t .p) ts) → m ≡ false → true ≡ edgeRule t x y z ts
   rule-holds k l m a b c ek hk el hl em hm =
-      six a₁ a₂ a₃ a₄ a₅ a₆ (ap not (ne-eqb (t .p) (t .q) a)) (ap not (ne-eqb (t .q) (t .r) b)) (ap not (ne-eqb (t .r) (t .p) c)) (not-false a₄ k ek hk)
+      six a₁ a₂ a₃ a₄ a₅ a₆ (ap not (ne-eqb (t .p) (t .q) a)) (ap not (ne-eqb (t .q) (t .r) b)) (ap not (ne-eqb (t .r) (t .p) c))
+      (not-false a₄ k ek hk)
       (not-false a₅ l el hl) (not-false a₆ m em hm)

@@ -1,13 +1,13 @@
 // The edge rule, tested over the triangles that are built so far: a plain search of the triangle buffer.
 // The contracts cite specs/Joined.antt, and `edgeRule` and `trianglesBuilt` of the crate rules.
-use memory::Plan;
+use cutborder::Plan;
 ghost use mathlib.Core.Path.{_≡_};
 ghost use mathlib.Core.Bool.{not};
 ghost use Prim.Native.Nat.{_+_, _*_, _≤_, _<_};
 ghost use lib.ListN.{length};
 ghost use Rattle.rules.specs.Table.{sideRule, edgeRule};
 ghost use Rattle.rules.specs.View.{trianglesBuilt};
-ghost use Rattle.memory.specs.Decision.{sideOf};
+ghost use Rattle.border_theory.specs.Memory.Decision.{sideOf};
 ghost use Rattle.edges.specs.Joined.{isEdge, isPair, joinsAt, noneJoins};
 
 // Whether x→y is the edge a→b.

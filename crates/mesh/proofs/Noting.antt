@@ -13,13 +13,13 @@ use Rattle.rules.specs.declared.Across.the-variants.{Found}
 use Rattle.rules.specs.Limits.{maxVertices}
 use Rattle.rules.specs.Triangle.{trianglesOf}
 use Rattle.rules.specs.Across.{across}
-use Rattle.fans.proofs.Tests.{all-distinct}
-use Rattle.fans.proofs.Finding.{across-found, found-in}
-use Rattle.chains.specs.Corner.{cornerAfter, cornerBefore, seenFrom, lastWith, latest}
-use Rattle.chains.specs.Chains.{Linked, Newest, Older}
-use Rattle.chains.specs.Turn.{leftBack, leftOn}
-use Rattle.chains.proofs.Walking.{At, at-found, at-more, latest-with, Counting, counting-all}
-use Rattle.chains.proofs.Finding.{with-across, linked-first}
+use Rattle.mesh_theory.proofs.Fans.Tests.{all-distinct}
+use Rattle.mesh_theory.proofs.Fans.Finding.{across-found, found-in}
+use Rattle.mesh_theory.specs.Chains.Corner.{cornerAfter, cornerBefore, seenFrom, lastWith, latest}
+use Rattle.mesh_theory.specs.Chains.Linked.{Linked, Newest, Older}
+use Rattle.mesh_theory.specs.Chains.Turn.{leftBack, leftOn}
+use Rattle.mesh_theory.proofs.Chains.Walking.{At, at-found, at-more, latest-with, Counting, counting-all}
+use Rattle.mesh_theory.proofs.Chains.Finding.{with-across, linked-first}
 use Rattle.mesh.specs.Turns.{noted, Fresh, Note, absent, present, Noted, AllNoted}
 
 -- what one note changes
@@ -204,8 +204,12 @@ module _ (xs cs : List ℕ) (linked : Linked xs cs) (v : ℕ) where
       go (present s i j q l) =
           let d =
           all-distinct (trianglesOf xs) .0 (linked .sound .distinct) v y (getD ns (2 * y + 1) 0)
-          (found-in (trianglesOf xs) (across-found v y (trianglesOf xs) i j (getD ns (2 * y + 1) 0) q)) in
-          (ap (leftOn (trianglesOf xs) v x (getD ns (2 * y + 1) 0)) (one-before n) ∙ sym (rw (leftOn, ne-eqb y x a, q)), λ k. d .z-x (sym k), l)
+          (found-in (trianglesOf xs) (across-found v y (trianglesOf xs) i j (getD ns (2 * y + 1) 0) q)) in (
+            ap (leftOn (trianglesOf xs) v x (getD ns (2 * y + 1) 0)) (one-before n) ∙ sym (rw (leftOn, ne-eqb y x a, q)),
+            λ k.
+                d .z-x (sym k),
+            l,
+          )
 
   pub noted-back : (ns : List ℕ) → Noted xs v ns → (x y n r : ℕ) → 0 < n → (y ≡ x → ⊥) → (v ≡ y → ⊥) → (getD ns (2 * y) 0 ≡ v + 1 → ⊥)
       → r ≡ leftBack (trianglesOf xs) v x n → r ≡ leftOn (trianglesOf xs) v x y n

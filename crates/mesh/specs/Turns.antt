@@ -13,7 +13,7 @@ use Rattle.rules.specs.Limits.{maxVertices}
 use Rattle.rules.specs.Triangle.{trianglesOf}
 use Rattle.rules.specs.Across.{across}
 use Rattle.rules.specs.Fan.{about, oneRun}
-use Rattle.chains.specs.Chains.{CountsFrom}
+use Rattle.mesh_theory.specs.Chains.Linked.{CountsFrom}
 
 -- z noted as the third vertex at v→y; of several the first stays
 unfoldable pub noted : List ℕ → ℕ → ℕ → ℕ → List ℕ

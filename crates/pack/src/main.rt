@@ -4,13 +4,13 @@
 use libc::STDIN_FILENO;
 use rules::Builder;
 use rules::Packed;
-use show::print_refusal;
-use streams::Output;
-use streams::Read;
-use streams::read_full;
-use streams::say;
-use streams::say_failed;
-use text::is_space;
+use text::show::print_refusal;
+use text::streams::Output;
+use text::streams::Read;
+use text::streams::read_full;
+use text::streams::say;
+use text::streams::say_failed;
+use text::words::is_space;
 
 // A text is read in parts of so many bytes, and fewer than so many whole ones.
 const PART: usize = 65536;

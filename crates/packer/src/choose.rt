@@ -1,10 +1,10 @@
 // What the packer takes at the current edge of a live loop.
 use chooser::choose_place;
-use choosing::Flags;
-use memory::Loops;
-use mesh::Links;
-use mesh::across;
-use packing::Move;
+use corners::Links;
+use corners::across;
+use cutborder::Flags;
+use cutborder::Loops;
+use cutborder::Move;
 use rings::place::after_of;
 use rings::place::vertex_of;
 use rules::Across;
@@ -12,8 +12,8 @@ use rules::Operation;
 ghost use mathlib.Core.Path.{_≡_};
 ghost use Prim.Native.Nat.{_<_};
 ghost use lib.ListN.{length};
-ghost use Rattle.choosing.specs.Choosable.{Choosable};
-ghost use Rattle.packing.specs.Course.{isNumbered, placedBy, moveOf, flagsOf, Chooses};
+ghost use Rattle.pack_theory.specs.Choosing.Choosable.{Choosable};
+ghost use Rattle.pack_theory.specs.Packing.Course.{isNumbered, placedBy, moveOf, flagsOf, Chooses};
 
 // The entry of a vertex that has no number yet.
 pub(crate) const UNNUMBERED: u16 = 65535;
@@ -42,7 +42,8 @@ fn place_move(
     c: u16,
 ) -> Move
     requires { ⌜ (c < length (now numbering)) × Choosable (now list) (now chains) (now built) (now m) l a b c ⌝ }
-    ensures { λ r. ⌜ r ≡ placedBy (isNumbered (now (numbering .entry)) c) (now (list .entry)) (now (built .entry)) (now (m .entry)) l a b c ⌝ }
+    ensures { λ r. ⌜ r ≡ placedBy (isNumbered (now (numbering .entry)) c) (now (list .entry)) (now (built .entry)) (now (m .entry)) l a b c
+        ⌝ }
 {
     if is_numbered(numbering, c) {
         let operation = choose_place(list, chains, built, m, l, a, b, c);

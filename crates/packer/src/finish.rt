@@ -1,8 +1,8 @@
 // The end of a packing: 11, the header, and the answer.
-use buffers::clear;
-use buffers::clear_bytes;
-use packing::Course;
-use packing::Ran;
+use cutborder::Course;
+use cutborder::Ran;
+use places::buffers::clear;
+use places::buffers::clear_bytes;
 use rules::Counts;
 use rules::Packed;
 use wire::fields::write_header;
@@ -11,12 +11,13 @@ ghost use Prim.Native.Nat.{ℕ, _≤_};
 ghost use lib.ListN.{length};
 ghost use Rattle.rules.specs.declared.Packed.the-variants as Packs;
 ghost use Rattle.rules.specs.Buffer.{zeroed};
-ghost use Rattle.packing.specs.declared.Ran.the-variants as Runs;
-ghost use Rattle.packing.specs.Finish.{countsAt, finishAnswer, finishNumbers, finishPack, Sized};
+ghost use Rattle.rules.specs.Limits.{maxTriangles, maxVertices};
+ghost use Rattle.cutborder.specs.declared.Ran.the-variants as Runs;
+ghost use Rattle.pack_theory.specs.Packing.Finish.{countsAt, finishAnswer, finishNumbers, finishPack, Sized};
 
 // The counts that the pack of v vertices and k triangles states.
 fn counts_at(v: usize, k: usize, t: Course) -> Counts
-    requires { ⌜ (v ≤ 4096) × (k ≤ 8192) ⌝ }
+    requires { ⌜ (v ≤ maxVertices) × (k ≤ maxTriangles) ⌝ }
     ensures { λ r. ⌜ r ≡ countsAt v k t ⌝ }
 {
     let front = t.front;
@@ -59,7 +60,7 @@ pub(crate) fn finish(
     numbering: &mut [u16],
     buffer: &mut [u8],
 ) -> Packed
-    requires { ⌜ (v ≤ 4096) × (k ≤ 8192) × (v ≤ length (now numbering)) × Sized end ⌝ }
+    requires { ⌜ (v ≤ maxVertices) × (k ≤ maxTriangles) × (v ≤ length (now numbering)) × Sized end ⌝ }
     ensures answer { λ r. ⌜ r ≡ finishAnswer end (length (now (buffer .entry))) ⌝ }
     ensures numbers { λ _. ⌜ now (numbering .exit) ≡ finishNumbers end v (length (now (buffer .entry))) (now (numbering .entry)) ⌝ }
     ensures pack { λ _. ⌜ now (buffer .exit) ≡ finishPack end v k (now (buffer .entry)) ⌝ }

@@ -10,31 +10,30 @@ use crate::choose::UNNUMBERED;
 use crate::finish::finish;
 use crate::step::run;
 use border::begin;
-use buffers::fill;
-use mesh::CORNERS;
-use mesh::Links;
-use mesh::VERTICES;
+use corners::Links;
+use cutborder::CORE;
+use cutborder::Course;
+use cutborder::PLACES;
 use mesh::check_into;
-use packing::Course;
+use places::buffers::fill;
 use rules::Builder;
+use rules::CORNERS;
 use rules::Checked;
 use rules::Counts;
 use rules::Packed;
+use rules::TRIANGLES;
+use rules::VERTICES;
 ghost use mathlib.Core.Path.{_≡_};
 ghost use Prim.Native.Nat.{ℕ, _≤_};
 ghost use Rattle.rules.specs.declared.Checked.the-variants as Checks;
 ghost use Rattle.rules.specs.declared.Packed.the-variants as Packs;
-ghost use Rattle.packing.specs.Doing.{statedFor};
-ghost use Rattle.packing.specs.Lent.{PackedOn, Fitting, RunGives, clearedBy};
-
-// How many places the memory has, and how many numbers.
-pub(crate) const PLACES: usize = Builder::MAX_PLACES;
-
-const MEMORY: usize = 5320;
+ghost use Rattle.rules.specs.Limits.{maxTriangles, maxVertices};
+ghost use Rattle.pack_theory.specs.Packing.Doing.{statedFor};
+ghost use Rattle.pack_theory.specs.Packing.Lent.{PackedOn, Fitting, RunGives, clearedBy};
 
 // What a packing of v vertices and k triangles may not exceed.
 fn stated_for(v: usize, k: usize) -> Counts
-    requires { ⌜ (v ≤ 4096) × (k ≤ 8192) ⌝ }
+    requires { ⌜ (v ≤ maxVertices) × (k ≤ maxTriangles) ⌝ }
     ensures { λ r. ⌜ r ≡ statedFor v k ⌝ }
 {
     Counts {
@@ -55,10 +54,11 @@ fn pack_accepted(
     m: &mut [u16],
 ) -> Packed
     requires { ⌜ Fitting v (now list) (now chains) (now numbering) (now m) ⌝ }
-    ensures { λ r. ⌜ RunGives v (now (list .entry)) (now (numbering .entry)) (now (buffer .entry)) r (now (numbering .exit)) (now (buffer .exit)) ⌝ }
+    ensures { λ r. ⌜ RunGives v (now (list .entry)) (now (numbering .entry)) (now (buffer .entry)) r (now (numbering .exit))
+        (now (buffer .exit)) ⌝ }
 {
     let k = list.len() / 3;
-    let mut built = [0u8; 8192];
+    let mut built = [0u8; TRIANGLES];
     let front = begin(m, PLACES, stated_for(v, k));
     fill(numbering, v, UNNUMBERED);
     let start = Course {
@@ -92,7 +92,8 @@ fn refusal_of(c: Checked) -> Packed
 // Packs any list of a model of v vertices into any buffers, where n place records were lent: of these only the number counts, for the
 // packing works in a memory of its own. Before 8 nothing changes.
 pub fn pack_on(v: usize, list: &[u16], numbering: &mut [u16], buffer: &mut [u8], n: usize) -> Packed
-    ensures { λ r. ⌜ PackedOn v (now (list .entry)) (now (numbering .entry)) (now (buffer .entry)) n r (now (numbering .exit)) (now (buffer .exit)) ⌝ }
+    ensures { λ r. ⌜ PackedOn v (now (list .entry)) (now (numbering .entry)) (now (buffer .entry)) n r (now (numbering .exit))
+        (now (buffer .exit)) ⌝ }
 {
     let mut chains = [0u16; VERTICES + CORNERS];
     let checked = check_into(v, list, &mut chains);
@@ -105,7 +106,7 @@ pub fn pack_on(v: usize, list: &[u16], numbering: &mut [u16], buffer: &mut [u8],
     if n < PLACES {
         return Packed::Refused(8);
     }
-    let mut m = [0u16; MEMORY];
+    let mut m = [0u16; CORE];
     pack_accepted(v, list, &chains, numbering, buffer, &mut m)
 }
 

@@ -1,21 +1,21 @@
 // An operation on the loops, whose vertices are the list's own numbers.
-use crate::PLACES;
 use border::build;
 use border::mark;
 use border::verdict::propose;
 use border::verdict::test_room;
-use memory::Decided;
-use memory::Front;
-use packing::Done;
-use packing::Taken;
+use cutborder::Decided;
+use cutborder::Done;
+use cutborder::Front;
+use cutborder::PLACES;
+use cutborder::Taken;
 use rules::Operation;
 ghost use mathlib.Core.Path.{_≡_};
 ghost use Prim.Native.Nat.{ℕ};
 ghost use Rattle.rules.specs.Limits.{maxPlaces};
-ghost use Rattle.memory.specs.Keeps.{Ready};
-ghost use Rattle.packing.specs.declared.Done.the-variants as Does;
-ghost use Rattle.packing.specs.declared.Taken.the-variants as Takes;
-ghost use Rattle.packing.specs.Doing.{readied, refusalAt, doneOf, memoryOf};
+ghost use Rattle.border_theory.specs.Memory.Keeps.{Ready};
+ghost use Rattle.cutborder.specs.declared.Done.the-variants as Does;
+ghost use Rattle.cutborder.specs.declared.Taken.the-variants as Takes;
+ghost use Rattle.pack_theory.specs.Packing.Doing.{readied, refusalAt, doneOf, memoryOf};
 
 // The state in which `new` places the vertex c; what a packing does not count is zero.
 pub(crate) fn ready_for(f: Front, c: u16) -> Front

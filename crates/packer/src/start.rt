@@ -2,23 +2,24 @@
 use crate::operate::operate;
 use crate::operate::ready_for;
 use crate::operate::refusal_of;
-use choosing::Flags;
-use memory::Front;
-use packing::Course;
-use packing::Done;
-use packing::Taken;
+use cutborder::Course;
+use cutborder::Done;
+use cutborder::Flags;
+use cutborder::Front;
+use cutborder::Taken;
 use rings::place::after_of;
 use rings::place::set_vertex;
 use rules::Operation;
 ghost use mathlib.Core.Path.{_≡_};
 ghost use Prim.Native.Nat.{_+_, _*_, _≤_, _<_};
 ghost use lib.ListN.{length};
-ghost use Rattle.packing.specs.Course.{renamed, numberedThree};
-ghost use Rattle.packing.specs.Steps.{Lowest, Renames, Resting, Starts, StepOf};
+ghost use Rattle.rules.specs.Limits.{maxTriangles};
+ghost use Rattle.pack_theory.specs.Packing.Course.{renamed, numberedThree};
+ghost use Rattle.pack_theory.specs.Packing.Steps.{Lowest, Renames, Resting, Starts, StepOf};
 
 // The lowest triangle from k on that is not built, of n; or n.
 fn lowest_left(built: &Flags, k: usize, n: usize) -> usize
-    requires { ⌜ (k ≤ n) × (n ≤ 8192) ⌝ }
+    requires { ⌜ (k ≤ n) × (n ≤ maxTriangles) ⌝ }
     ensures { λ r. ⌜ Lowest (now (built .entry)) k n r ⌝ }
 {
     let mut i = k;
@@ -63,7 +64,8 @@ fn start_at(
     m: &mut [u16],
 ) -> Taken
     requires { ⌜ Starts (now list) t k (now built) (now numbering) (now m) ⌝ }
-    ensures { λ r. ⌜ StepOf (now (list .entry)) t (now (built .entry)) (now (numbering .entry)) (now (m .entry)) r (now (built .exit)) (now (numbering .exit)) (now (m .exit)) ⌝ }
+    ensures { λ r. ⌜ StepOf (now (list .entry)) t (now (built .entry)) (now (numbering .entry)) (now (m .entry)) r (now (built .exit))
+        (now (numbering .exit)) (now (m .exit)) ⌝ }
 {
     let p = list[3 * k];
     let q = list[3 * k + 1];
@@ -97,7 +99,8 @@ pub(crate) fn begin_piece(
     m: &mut [u16],
 ) -> Taken
     requires { ⌜ Resting (now list) t (now built) (now numbering) (now m) ⌝ }
-    ensures { λ r. ⌜ StepOf (now (list .entry)) t (now (built .entry)) (now (numbering .entry)) (now (m .entry)) r (now (built .exit)) (now (numbering .exit)) (now (m .exit)) ⌝ }
+    ensures { λ r. ⌜ StepOf (now (list .entry)) t (now (built .entry)) (now (numbering .entry)) (now (m .entry)) r (now (built .exit))
+        (now (numbering .exit)) (now (m .exit)) ⌝ }
 {
     let n = list.len() / 3;
     let k = lowest_left(built, t.lowest as usize, n);

@@ -4,22 +4,22 @@ use crate::operate::operate;
 use crate::operate::ready_for;
 use crate::operate::refusal_of;
 use crate::start::begin_piece;
-use choosing::Flags;
-use memory::Front;
-use mesh::Links;
-use packing::Course;
-use packing::Done;
-use packing::Ran;
-use packing::Taken;
+use corners::Links;
+use cutborder::Course;
+use cutborder::Done;
+use cutborder::Flags;
+use cutborder::Front;
+use cutborder::Ran;
+use cutborder::Taken;
 use wire::writer::write_operation;
 ghost use mathlib.Core.Bool.{false};
 ghost use mathlib.Core.Path.{_≡_};
 ghost use Prim.Native.Nat.{ℕ, _+_, _≤_, _<_};
 ghost use lib.ListN.{length};
-ghost use Rattle.packing.specs.declared.Taken.the-variants as Takes;
-ghost use Rattle.packing.specs.declared.Ran.the-variants as Runs;
-ghost use Rattle.packing.specs.Course.{Held, givenBy, numbersBy};
-ghost use Rattle.packing.specs.Steps.{isDone, Alive, StepOf, RunOf};
+ghost use Rattle.cutborder.specs.declared.Taken.the-variants as Takes;
+ghost use Rattle.cutborder.specs.declared.Ran.the-variants as Runs;
+ghost use Rattle.pack_theory.specs.Packing.Course.{Held, givenBy, numbersBy};
+ghost use Rattle.pack_theory.specs.Packing.Steps.{isDone, Alive, StepOf, RunOf};
 
 // The next number k is given to the vertex c, or not: how many are given then.
 fn give(numbering: &mut [u16], fresh: bool, c: u16, k: u16) -> u16
@@ -44,7 +44,8 @@ fn go_on(
     m: &mut [u16],
 ) -> Taken
     requires { ⌜ Alive (now list) (now chains) t (now built) (now numbering) (now m) ⌝ }
-    ensures { λ r. ⌜ StepOf (now (list .entry)) t (now (built .entry)) (now (numbering .entry)) (now (m .entry)) r (now (built .exit)) (now (numbering .exit)) (now (m .exit)) ⌝ }
+    ensures { λ r. ⌜ StepOf (now (list .entry)) t (now (built .entry)) (now (numbering .entry)) (now (m .entry)) r (now (built .exit))
+        (now (numbering .exit)) (now (m .exit)) ⌝ }
 {
     let front = t.front;
     let next = choose_move(list, chains, built, numbering, m, front.loops);
@@ -88,7 +89,8 @@ pub fn step(
     m: &mut [u16],
 ) -> Taken
     requires { ⌜ Held (now list) (now chains) t (now built) (now numbering) (now m) × (isDone (t .front) ≡ false) ⌝ }
-    ensures { λ r. ⌜ StepOf (now (list .entry)) t (now (built .entry)) (now (numbering .entry)) (now (m .entry)) r (now (built .exit)) (now (numbering .exit)) (now (m .exit)) ⌝ }
+    ensures { λ r. ⌜ StepOf (now (list .entry)) t (now (built .entry)) (now (numbering .entry)) (now (m .entry)) r (now (built .exit))
+        (now (numbering .exit)) (now (m .exit)) ⌝ }
 {
     let front = t.front;
     let loops = front.loops;
@@ -121,7 +123,8 @@ pub fn run(
     m: &mut [u16],
 ) -> Ran
     requires { ⌜ Held (now list) (now chains) start (now built) (now numbering) (now m) × (budget ≤ 32769) ⌝ }
-    ensures { λ r. ⌜ RunOf (now (list .entry)) budget start (now (built .entry)) (now (numbering .entry)) (now (buffer .entry)) (now (m .entry)) r (now (built .exit)) (now (numbering .exit)) (now (buffer .exit)) (now (m .exit)) ⌝ }
+    ensures { λ r. ⌜ RunOf (now (list .entry)) budget start (now (built .entry)) (now (numbering .entry)) (now (buffer .entry))
+        (now (m .entry)) r (now (built .exit)) (now (numbering .exit)) (now (buffer .exit)) (now (m .exit)) ⌝ }
 {
     let mut t = start;
     let mut at = 112;

@@ -1,8 +1,3 @@
-pub mod Counting
-pub mod Stored
-pub mod Own
-pub mod Reading
-pub mod Clearing
+pub mod Filling
 pub mod Lent
-pub mod Settling
 pub mod Walking

@@ -1,33 +1,23 @@
 // The list of place records that a caller lends: thin functions over it, and the way to the core's plain memory and back.
 // The contracts cite specs/Records.antt, specs/Memory.antt and specs/Touched.antt, and `placeAt` of the crate rules.
-use rules::Builder;
+pub mod buffers; // filling lent buffers of numbers and bytes
+
+use cutborder::FREED;
+use cutborder::LINKED;
+use cutborder::Memory;
+use cutborder::NUMBERS;
+use cutborder::PLACES;
+use cutborder::RECORDS;
 use rules::Place;
 ghost use mathlib.Core.Path.{_≡_};
 ghost use Prim.Native.Nat.{ℕ, _+_, _*_, _<_, _≤_};
 ghost use lib.ListN.{length, getD, set};
 ghost use Rattle.rules.specs.Limits.{maxPlaces};
 ghost use Rattle.rules.specs.View.{placeAt};
-ghost use Rattle.places.specs.Records.{linkedAt, freedAt, clearedTo};
-ghost use Rattle.places.specs.Touched.{linkedCount, linkedPlace, freedStart, freedEnd, freedPlace, Linkable, Freeable, linkedAll, freedAll};
-ghost use Rattle.places.specs.Memory.{numberOf, isOne, storedAt, recordAt, loaded, blank, countOf};
-
-// All loops together have at most so many places.
-pub const PLACES: usize = Builder::MAX_PLACES;
-
-// How many numbers the core's plain memory has: four for each of 1,024 records, then 1,224 that are the core's own, of which the
-// first 1,024 are its stack of free places, and then eight in which an operation notes what it touched.
-pub const NUMBERS: usize = 5328;
-
-// Where the core's own numbers start, and where it notes how many records it linked, which they are, and from where to where the
-// stack holds those that it freed.
-const OWN: usize = 4096;
-
-const LINKED: usize = 5320;
-
-const FREED: usize = 5326;
-
-// The core's plain memory.
-pub type Memory = [u16; NUMBERS];
+ghost use Rattle.border_theory.specs.Records.Changes.{linkedAt, freedAt, clearedTo};
+ghost use Rattle.border_theory.specs.Records.Notes.{linkedCount, linkedPlace, freedStart, freedEnd, freedPlace, Linkable, Freeable};
+ghost use Rattle.border_theory.specs.Records.Notes.{linkedAll, freedAll};
+ghost use Rattle.border_theory.specs.Records.Plain.{numberOf, isOne, storedAt, recordAt, loaded, blank, countOf};
 
 // A record that is zero, its edge not open.
 pub const FREE: Place = Place {
@@ -196,7 +186,7 @@ pub fn freed_at(m: &Memory, k: usize) -> usize
     requires { ⌜ k < maxPlaces ⌝ }
     ensures { λ r. ⌜ r ≡ freedPlace (now (m .entry)) k ⌝ }
 {
-    wide(m[OWN + k])
+    wide(m[RECORDS + k])
 }
 
 // The records that an operation linked go into the list, out of the plain memory.

@@ -20,12 +20,13 @@ use Rattle.rules.specs.Book.{Call, begin, operate, finish}
 use Rattle.rules.specs.Calls.{lastState}
 use Rattle.rules.specs.Buffer.{Buffers}
 use Rattle.rules.specs.Build.{emptyBuilder, BegunBy}
-use Rattle.building.specs.Promised.{lentTo, Beginning, Operating, Finishing}
-use Rattle.building.specs.Building.{World, Called, Run}
+use Rattle.promises.specs.Promises.{lentTo, Beginning, Operating, Finishing}
+use Rattle.promises.specs.BuildersBook.{World, Called, Run}
 use Rattle.rehearsal.specs.Rehearsal.{operations, world, lentWorld, Rehearsed}
 
 -- one call more
-pub run-more : (cs : List Call) (w : World) (xs : List Answer) (v : World) (c : Call) (a : Answer) (u : World) → Run cs w xs v → Called c v a u
+pub run-more : (cs : List Call) (w : World) (xs : List Answer) (v : World) (c : Call) (a : Answer) (u : World) → Run cs w xs v
+    → Called c v a u
     → Run (cs ++ (c ∷ [])) w (xs ++ (a ∷ [])) u
 run-more [] w xs v c a u r k = record {
   first = a;

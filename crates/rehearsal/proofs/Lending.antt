@@ -13,7 +13,8 @@ use base.Logic.{ent, sep, ex}
 use base.Fml.{Lft, GName, Share, Fml, fsep, flft, fdead, fobs, fauth, flent, fobor}
 use prog.Wp.{Heap}
 use ghost.Atoms.{Atoms, sem}
-use types.Kit.{Given, ‵, _⊛_, some, later, _$_, _∵_, !, qed, move, use1, use3, drop, split, pick, fsplit, fjoin, frame, await, updating, now as at-once, show, done}
+use types.Kit.{Given, ‵, _⊛_, some, later, _$_, _∵_, !, qed, move, use1, use3, drop, split, pick, fsplit, fjoin, frame, await, updating}
+use types.Kit.{now as at-once, show, done}
 use types.SemTy.{cells, Arr}
 use denote.RattleType.{RattleType}
 use denote.Shadow.{pureL, pureI}
@@ -32,18 +33,23 @@ module _ (R : RattleType) (κ κ′ : Lft) (q : Share) (γ : GName) (b o : ℕ) 
 
   -- what the holder keeps while it has lent ys under the name δ
   abbrev pub LentOn : GName → List (R .Denot) → Fml
-  LentOn δ ys = fsep (flent κ′ (Held R (length ys) b o δ)) (fsep (fobor κ q (Held R (length ys) b o γ)) (fsep (fobs γ (codedHoleys R .code (heres R ys))) (fauth γ (codedHoleys R .code (heres R ys)))))
+  LentOn δ ys = fsep (flent κ′ (Held R (length ys) b o δ))
+      (fsep (fobor κ q (Held R (length ys) b o γ))
+      (fsep (fobs γ (codedHoleys R .code (heres R ys))) (fauth γ (codedHoleys R .code (heres R ys)))))
 
   module _ {M : Type 1} (𝓤 : URA M) (H : Heap 𝓤) (A : Atoms 𝓤) (W : Given 𝓤 H A) (ℓ ℓ′ : Lifetime) (ys : List (R .Denot)) where
     -- own (the `&κ mut [T]`) ∗ [κ]_q  ⊢ ⇛ ∃ δ. own (the `&κ′ mut [T]`, named δ) ∗ LentOn δ
     pub lends-on : ent 𝓤 (sep 𝓤 (sem 𝓤 H A (MutSlice ℓ κ R .own (at-list γ ys) (vals ys))) (A .lft κ q))
         (H .⇛ (ex 𝓤 (λ (δ : GName). sep 𝓤 (sem 𝓤 H A (MutSlice ℓ′ κ′ R .own (at-list δ ys) (vals ys))) (sem 𝓤 H A (LentOn δ ys)))))
     lends-on =
-        qed W (‵ (MutSlice ℓ κ R .own (at-list γ ys) (vals ys)) ∷ ‵ (flft κ q) ∷ []) ∵ updating ! $ fsplit ! $ pureL ! (at-slice R (at-list γ ys) (vals ys)) (λ p. fsplit ! $ opens-slice ! tt R ys b o $
+        qed W (‵ (MutSlice ℓ κ R .own (at-list γ ys) (vals ys)) ∷ ‵ (flft κ q) ∷ []) ∵ updating ! $ fsplit !
+        $ pureL ! (at-slice R (at-list γ ys) (vals ys)) (λ p. fsplit ! $ opens-slice ! tt R ys b o $
         use1 W (‵ (cells (mem R) ys b o)) (whole-in 𝓤 H A W R ys b o) $
-        use1 W (later (some (λ (δ : GName). ‵ (MutSlice ℓ′ κ′ R .own (at-list δ ys) (vals ys)) ⊛ ‵ (flent κ′ (Held R (length ys) b o δ))))) (lends-slice 𝓤 H A W R ℓ′ κ′ ys b o (p .1)) $ await ! tt $ pick ! (λ δ. split ! $
+        use1 W (later (some (λ (δ : GName). ‵ (MutSlice ℓ′ κ′ R .own (at-list δ ys) (vals ys)) ⊛ ‵ (flent κ′ (Held R (length ys) b o δ)))))
+        (lends-slice 𝓤 H A W R ℓ′ κ′ ys b o (p .1)) $ await ! tt $ pick ! (λ δ. split ! $
         -- [the slice lent; the lender's part at κ′; the open borrow at κ; obs γ; auth γ]
-        at-once ! $ show ! (λ (ε : GName). sep 𝓤 (sem 𝓤 H A (MutSlice ℓ′ κ′ R .own (at-list ε ys) (vals ys))) (sem 𝓤 H A (LentOn ε ys))) δ $ frame ! $
+        at-once ! $ show ! (λ (ε : GName). sep 𝓤 (sem 𝓤 H A (MutSlice ℓ′ κ′ R .own (at-list ε ys) (vals ys))) (sem 𝓤 H A (LentOn ε ys))) δ
+        $ frame ! $
         move ! (2 ∷ 3 ∷ []) $ fjoin ! $ move ! (2 ∷ 0 ∷ []) $ fjoin ! $ move ! (1 ∷ 0 ∷ []) $ fjoin ! $ done !))
 
     -- [†κ′] ∗ LentOn δ ∗ finally δ zs  ⊢ ⇛ (own (the `&κ mut [T]`, at zs) ∗ [κ]_q)
@@ -51,8 +57,11 @@ module _ (R : RattleType) (κ κ′ : Lft) (q : Share) (γ : GName) (b o : ℕ) 
         → ent 𝓤 (sep 𝓤 (A .dead κ′) (sep 𝓤 (sem 𝓤 H A (LentOn δ ys)) (sem 𝓤 H A (finally R δ zs))))
         (H .⇛ (sep 𝓤 (sem 𝓤 H A (MutSlice ℓ κ R .own (at-list γ zs) (vals zs))) (A .lft κ q)))
     comes-on δ zs e room =
-        qed W (‵ (fdead κ′) ∷ ‵ (LentOn δ ys) ∷ ‵ (finally R δ zs) ∷ []) ∵ updating ! $ move ! (1 ∷ []) $ fsplit ! $ move ! (2 ∷ 0 ∷ 3 ∷ []) $
-        use3 W (later (‵ (Arr (mem R) (length ys) .lies zs b o))) (slice-back 𝓤 H A W R κ′ δ zs (length ys) b o) $ await ! tt $ fsplit ! $ drop ! $
+        qed W (‵ (fdead κ′) ∷ ‵ (LentOn δ ys) ∷ ‵ (finally R δ zs) ∷ []) ∵ updating ! $ move ! (1 ∷ []) $ fsplit !
+        $ move ! (2 ∷ 0 ∷ 3 ∷ []) $
+        use3 W (later (‵ (Arr (mem R) (length ys) .lies zs b o))) (slice-back 𝓤 H A W R κ′ δ zs (length ys) b o) $ await ! tt $ fsplit !
+        $ drop ! $
         use1 W (‵ (row R fullShare zs b o)) (whole-out 𝓤 H A W R zs b o) $
-        move ! (1 ∷ []) $ fsplit ! $ move ! (1 ∷ []) $ fsplit ! $ move ! (3 ∷ 2 ∷ 0 ∷ 1 ∷ []) $ closes-slice ! tt R ys zs e b o $ at-once ! $
+        move ! (1 ∷ []) $ fsplit ! $ move ! (1 ∷ []) $ fsplit ! $ move ! (3 ∷ 2 ∷ 0 ∷ 1 ∷ []) $ closes-slice ! tt R ys zs e b o
+        $ at-once ! $
         fjoin ! $ pureI ! (at-slice R (at-list γ zs) (vals zs)) (tt, (tt, tt)) (refl, room) $ fjoin ! $ done !

@@ -17,9 +17,9 @@ use Rattle.rules.specs.Answer.{Answer, accepted, finishedAnswer}
 use Rattle.rules.specs.Book.{Call, begin, finish, Book, emptyBook, answerOf, answer, after}
 use Rattle.rules.specs.Calls.{answers, afterAll}
 use Rattle.rules.specs.Buffer.{Lengths, lengths}
-use Rattle.building.specs.Promised.{lentTo}
-use Rattle.building.specs.Building.{Run, KeepsTheBook}
-use Rattle.building.proofs.Building.{building-calls-keep-the-book}
+use Rattle.promises.specs.Promises.{lentTo}
+use Rattle.promises.specs.BuildersBook.{Run, KeepsTheBook}
+use Rattle.promises.proofs.BuildersBook.{building-calls-keep-the-book}
 use Rattle.rehearsal.specs.Rehearsal.{operations, callsOf, lentWorld, leftBy, bookOf, RehearsalMeetsTheBook, TetrahedronRehearsed}
 
 -- the last element of a list
@@ -62,5 +62,7 @@ rehearsal-meets-the-book s os ts ps r ts′ ps′ h l k x =
     }
 
 pub tetrahedron-rehearsed : TetrahedronRehearsed
-unfolding corners edgesOf same hit occurs count different pairs about leaving entering turnOn turnBack oneRun oneFanEach allOpen vertexAt lastOpen lastVertex front onward reached places loopAt without allowed inOrder atEdge atRest effect test done finishing operations afterAll
+unfolding corners edgesOf same hit occurs count different pairs about leaving entering turnOn turnBack oneRun oneFanEach allOpen vertexAt
+    lastOpen lastVertex front onward reached places loopAt without allowed inOrder atEdge atRest effect test done finishing operations
+    afterAll
 tetrahedron-rehearsed ts ps r ts′ ps′ l k x = rehearsal-meets-the-book _ _ ts ps r ts′ ps′ refl l k x .answer

@@ -18,8 +18,8 @@ use Rattle.rules.specs.Book.{Call, begin, operate, finish, Book, emptyBook, ans
 use Rattle.rules.specs.Calls.{answers, afterAll}
 use Rattle.rules.specs.Buffer.{Lengths, lengths}
 use Rattle.rules.specs.Build.{emptyBuilder}
-use Rattle.building.specs.Promised.{lentTo}
-use Rattle.building.specs.Building.{World, Run, KeepsTheBook}
+use Rattle.promises.specs.Promises.{lentTo}
+use Rattle.promises.specs.BuildersBook.{World, Run, KeepsTheBook}
 
 unfoldable pub operations : List Operation → List Call
 operations [] = []

@@ -36,7 +36,8 @@ pub fn rehearse(
     triangles: &mut [u16],
     places: &mut [Place],
 ) -> Finished
-    ensures { λ r. ⌜ Rehearsed stated (now (ops .entry)) (now (triangles .entry)) (now (places .entry)) r (now (triangles .exit)) (now (places .exit)) ⌝ }
+    ensures { λ r. ⌜ Rehearsed stated (now (ops .entry)) (now (triangles .entry)) (now (places .entry)) r (now (triangles .exit))
+        (now (places .exit)) ⌝ }
 {
     let n = ops.len();
     let begun = begin(stated, triangles, places);

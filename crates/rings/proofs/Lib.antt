@@ -1,3 +1,3 @@
-pub mod Walking
 pub mod Stacking
 pub mod Storing
+pub mod Walking

@@ -7,8 +7,8 @@ use mathlib.Core.List.{List}
 use mathlib.Core.Path.{_≡_, refl, ap, _∙_}
 use lib.ListN.{length, set, length-set}
 use lib.Seq.{getD-set-other}
-use Rattle.memory.specs.Fresh.{allFree}
-use Rattle.memory.specs.Layout.{at, afterOf, freed, released, walked, waits, movedDown}
+use Rattle.border_theory.specs.Memory.Fresh.{allFree}
+use Rattle.border_theory.specs.Memory.Layout.{at, afterOf, freed, released, walked, waits, movedDown}
 
 -- the places j places along from x, in a memory with the same records
 walked-same : (n : ℕ) (m m′ : List ℕ) → ((i : ℕ) → i < 4 * n → at m′ i ≡ at m i) → (k x : ℕ) → ((i : ℕ) → i < k → walked m i x < n)
@@ -17,7 +17,8 @@ unfolding walked
 walked-same n m m′ h k x near zero l = refl
 walked-same n m m′ h k x near (suc i) l =
     let b : x < n = near 0 (omega arith) in
-    ap (walked m′ i) (h (4 * x + 2) (omega arith)) ∙ walked-same n m m′ h (k - 1) (afterOf m x) (λ j y. near (suc j) (omega (arith, y))) i (omega arith)
+    ap (walked m′ i) (h (4 * x + 2) (omega arith))
+    ∙ walked-same n m m′ h (k - 1) (afterOf m x) (λ j y. near (suc j) (omega (arith, y))) i (omega arith)
 
 -- j places put on the stack from x on, of those from p on
 pub record Releases (n : ℕ) (m₀ : List ℕ) (k₀ j₀ p : ℕ) (m : List ℕ) (k j x : ℕ) : Type 0 where
@@ -33,13 +34,15 @@ pub releases-here : (n : ℕ) (m : List ℕ) (j x : ℕ) → ((i : ℕ) → i < 
 unfolding walked
 releases-here n m j x h l = h 0 l
 
-pub releases-more : (n : ℕ) (m₀ : List ℕ) (k₀ j₀ p : ℕ) (m : List ℕ) (k j x y : ℕ) (m′ : List ℕ) → Releases n m₀ k₀ j₀ p m k j x → y ≡ afterOf m x
+pub releases-more : (n : ℕ) (m₀ : List ℕ) (k₀ j₀ p : ℕ) (m : List ℕ) (k j x y : ℕ) (m′ : List ℕ) → Releases n m₀ k₀ j₀ p m k j x
+    → y ≡ afterOf m x
     → m′ ≡ freed n m k x → 0 < j → Releases n m₀ k₀ j₀ p m′ (k + 1) (j - 1) y
 unfolding released
 releases-more n m₀ k₀ j₀ p m k zero x y m′ r ey em l = absurd (omega arith)
 releases-more n m₀ k₀ j₀ p m k (suc j) x y m′ r ey em l =
     let d : suc j - 1 ≡ j = omega arith in
-    let same : (i : ℕ) → i < 4 * n → at m′ i ≡ at m i = λ i b. ap (λ (z : List ℕ). at z i) em ∙ getD-set-other m (4 * n + k) i x 0 (λ e. omega (arith, e)) in
+    let same : (i : ℕ) → i < 4 * n → at m′ i ≡ at m i = λ i b.
+    ap (λ (z : List ℕ). at z i) em ∙ getD-set-other m (4 * n + k) i x 0 (λ e. omega (arith, e)) in
     let ahead : (i : ℕ) → i < j → walked m i y < n = λ i b. rw ey (unfold walked in r .near (suc i) (omega arith)) in
     record {
       ends = rw (d, em, ey) (r .ends);
@@ -48,7 +51,8 @@ releases-more n m₀ k₀ j₀ p m k (suc j) x y m′ r ey em l =
       long = ap length em ∙ length-set m (4 * n + k) x ∙ r .long;
     }
 
-pub releases-done : (n : ℕ) (m₀ : List ℕ) (k₀ j₀ p : ℕ) (m : List ℕ) (k j x : ℕ) → Releases n m₀ k₀ j₀ p m k j x → j ≤ 0 → m ≡ released n m₀ k₀ j₀ p
+pub releases-done : (n : ℕ) (m₀ : List ℕ) (k₀ j₀ p : ℕ) (m : List ℕ) (k j x : ℕ) → Releases n m₀ k₀ j₀ p m k j x → j ≤ 0
+    → m ≡ released n m₀ k₀ j₀ p
 unfolding released
 releases-done n m₀ k₀ j₀ p m k zero x r l = r .ends
 releases-done n m₀ k₀ j₀ p m k (suc j) x r l = absurd (omega arith)

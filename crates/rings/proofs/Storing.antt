@@ -8,14 +8,17 @@ use mathlib.Core.Path.{_≡_, refl, sym, ap, _∙_}
 use lib.ListN.{length, set}
 use lib.Dec.{eqb, leb}
 use borrow.Author.Tests.{le-leb, lt-leb, eq-eqb, ne-eqb}
-use Rattle.memory.specs.declared.Loops.{Loops}
-use Rattle.memory.specs.Layout.{at, vertexOf, beforeOf, afterOf, openOf, edgeStored, edgesStored, freed, released, waits, movedDown}
-use Rattle.memory.specs.Moves.{Held, turnedBy, splitBy, topFree, newHeld, forwardHeld, backwardHeld, endedHeld, turnedHeld, nextCut, lastCut, markedHeld, doubled, splitHeld, unionHeld, startHeld}
-use Rattle.memory.specs.Near.{Near, Borders}
-use Rattle.memory.proofs.Near.{near-f, near-marked}
+use Rattle.cutborder.specs.declared.Loops.{Loops}
+use Rattle.border_theory.specs.Memory.Layout.{at, vertexOf, beforeOf, afterOf, openOf, edgeStored, edgesStored, freed, released, waits}
+use Rattle.border_theory.specs.Memory.Layout.{movedDown}
+use Rattle.border_theory.specs.Memory.Moves.{Held, turnedBy, splitBy, topFree, newHeld, forwardHeld, backwardHeld, endedHeld, turnedHeld}
+use Rattle.border_theory.specs.Memory.Moves.{nextCut, lastCut, markedHeld, doubled, splitHeld, unionHeld, startHeld}
+use Rattle.border_theory.specs.Memory.Near.{Near, Borders}
+use Rattle.border_theory.proofs.Memory.Near.{near-f, near-marked}
 
 module _ (n : ℕ) (l : Loops) (m : List ℕ) where
-  pub new-memory : (u q f : ℕ) (m₁ m₂ m₃ : List ℕ) → q ≡ topFree n l m → f ≡ afterOf m (l .current) → m₁ ≡ set m (4 * q) u → m₂ ≡ edgeStored m₁ q f 1
+  pub new-memory : (u q f : ℕ) (m₁ m₂ m₃ : List ℕ) → q ≡ topFree n l m → f ≡ afterOf m (l .current) → m₁ ≡ set m (4 * q) u
+      → m₂ ≡ edgeStored m₁ q f 1
       → m₃ ≡ edgeStored m₂ (l .current) q 1 → m₃ ≡ newHeld n l m u .memory
   unfolding newHeld edgesStored
   new-memory u q f m₁ m₂ m₃ eq ef e₁ e₂ e₃ = rw (e₃, e₂, e₁, ef, eq)
@@ -30,13 +33,15 @@ module _ (n : ℕ) (l : Loops) (m : List ℕ) where
   unfolding backwardHeld edgesStored
   backward-memory f c m₁ m₂ ef ec e₁ e₂ = rw (e₂, e₁, ec, ef)
 
-  pub doubled-memory : (c q f b o v : ℕ) (m₁ m₂ m₃ m₄ : List ℕ) → q ≡ topFree n l m → f ≡ afterOf m (l .current) → b ≡ beforeOf m c → o ≡ openOf m b
+  pub doubled-memory : (c q f b o v : ℕ) (m₁ m₂ m₃ m₄ : List ℕ) → q ≡ topFree n l m → f ≡ afterOf m (l .current) → b ≡ beforeOf m c
+      → o ≡ openOf m b
       → v ≡ vertexOf m c → m₁ ≡ set m (4 * q) v → m₂ ≡ edgeStored m₁ (l .current) c 1 → m₃ ≡ edgeStored m₂ b q o → m₄ ≡ edgeStored m₃ q f 1
       → m₄ ≡ doubled n l m c
   unfolding doubled
   doubled-memory c q f b o v m₁ m₂ m₃ m₄ eq ef eb eo ev e₁ e₂ e₃ e₄ = rw (e₄, e₃, e₂, e₁, ev, eo, eb, ef, eq)
 
-  pub new-loops : (u q : ℕ) → q ≡ topFree n l m → record { live = l .live; current = q; size = l .size + 1; free = l .free - 1 } ≡ newHeld n l m u .loops
+  pub new-loops : (u q : ℕ) → q ≡ topFree n l m
+      → record { live = l .live; current = q; size = l .size + 1; free = l .free - 1 } ≡ newHeld n l m u .loops
   unfolding newHeld
   new-loops u q e = rw e
 
@@ -44,7 +49,8 @@ module _ (n : ℕ) (l : Loops) (m : List ℕ) where
   unfolding forwardHeld
   forward-loops = refl
 
-  pub backward-loops : (c : ℕ) → c ≡ beforeOf m (l .current) → record { live = l .live; current = c; size = l .size - 1; free = l .free + 1 } ≡ backwardHeld n l m .loops
+  pub backward-loops : (c : ℕ) → c ≡ beforeOf m (l .current)
+      → record { live = l .live; current = c; size = l .size - 1; free = l .free + 1 } ≡ backwardHeld n l m .loops
   unfolding backwardHeld
   backward-loops c e = rw e
 
@@ -54,7 +60,13 @@ module _ (n : ℕ) (l : Loops) (m : List ℕ) where
   ended-last m₁ h e = let t : leb (l .live) 1 ≡ true = le-leb (l .live) 1 h in rw t (refl, e)
 
   pub ended-more : (m₁ : List ℕ) → 1 < l .live → m₁ ≡ released n m (l .free) (l .size) (l .current)
-      → (record { live = l .live - 1; current = at m (5 * n + 2 * (l .live - 2)); size = at m (5 * n + 2 * (l .live - 2) + 1); free = l .free + l .size } ≡ endedHeld n l m .loops)
+      → (record {
+        live = l .live - 1;
+        current = at m (5 * n + 2 * (l .live - 2));
+        size = at m (5 * n + 2 * (l .live - 2) + 1);
+        free =
+            l .free + l .size;
+      } ≡ endedHeld n l m .loops)
       × (m₁ ≡ endedHeld n l m .memory)
   unfolding endedHeld
   ended-more m₁ h e = let t : leb (l .live) 1 ≡ false = lt-leb (l .live) 1 h in rw t (refl, e)
@@ -73,14 +85,17 @@ module _ (n : ℕ) (l : Loops) (m : List ℕ) where
         let by : ℕ → List ℕ → Held = λ x y. turnedBy (eqb (openOf y x) 0) n l y x in
         ap (λ (x : ℕ). by x (edgeStored m (l .current) x 0)) (sym ef) ∙ ap (by f) (sym em)
 
-    pub mark-ended : (o : ℕ) (r : Loops) (m₂ : List ℕ) → o ≡ openOf m₁ f → o ≡ 0 → r ≡ endedHeld n l m₁ .loops → m₂ ≡ endedHeld n l m₁ .memory
+    pub mark-ended : (o : ℕ) (r : Loops) (m₂ : List ℕ) → o ≡ openOf m₁ f → o ≡ 0 → r ≡ endedHeld n l m₁ .loops
+        → m₂ ≡ endedHeld n l m₁ .memory
         → (r ≡ turnedHeld n l m .loops) × (m₂ ≡ turnedHeld n l m .memory)
     mark-ended o r m₂ eo z er em₂ =
-        let e : turnedHeld n l m ≡ endedHeld n l m₁ = marked-is ∙ ap (λ (x : Bool). turnedBy x n l m₁ f) (eq-eqb (openOf m₁ f) 0 (sym eo ∙ z)) in
+        let e : turnedHeld n l m ≡ endedHeld n l m₁ =
+        marked-is ∙ ap (λ (x : Bool). turnedBy x n l m₁ f) (eq-eqb (openOf m₁ f) 0 (sym eo ∙ z)) in
         (er ∙ ap (λ (x : Held). x .loops) (sym e), em₂ ∙ ap (λ (x : Held). x .memory) (sym e))
 
     pub mark-on : (o : ℕ) → o ≡ openOf m₁ f → (o ≡ 0 → ⊥)
-        → (record { live = l .live; current = f; size = l .size; free = l .free } ≡ turnedHeld n l m .loops) × (m₁ ≡ turnedHeld n l m .memory)
+        → (record { live = l .live; current = f; size = l .size; free = l .free } ≡ turnedHeld n l m .loops)
+        × (m₁ ≡ turnedHeld n l m .memory)
     mark-on o eo z =
         let e : turnedHeld n l m ≡ turnedBy false n l m₁ f =
         marked-is ∙ ap (λ (x : Bool). turnedBy x n l m₁ f) (ne-eqb (openOf m₁ f) 0 (λ y. z (eo ∙ y))) in
@@ -132,7 +147,8 @@ module _ (n : ℕ) (l : Loops) (m : List ℕ) where
 
   pub split-first : (i c q : ℕ) (m₁ m₂ : List ℕ) → q ≡ topFree n l m → m₁ ≡ doubled n l m c → i + 1 ≤ l .size - i
       → m₂ ≡ waits n m₁ (l .live - 1) (l .current) (l .size - i)
-      → (record { live = l .live + 1; current = q; size = i + 1; free = l .free - 1 } ≡ splitHeld n l m i c .loops) × (m₂ ≡ splitHeld n l m i c .memory)
+      → (record { live = l .live + 1; current = q; size = i + 1; free = l .free - 1 } ≡ splitHeld n l m i c .loops)
+      × (m₂ ≡ splitHeld n l m i c .memory)
   split-first i c q m₁ m₂ eq em h e =
       let s = split-is i c q m₁ true eq em (le-leb (i + 1) (l .size - i) h) in
       (ap (λ (x : Held). x .loops) s, e ∙ ap (λ (x : Held). x .memory) s)
@@ -158,7 +174,8 @@ module _ (n : ℕ) (l : Loops) (m : List ℕ) where
 
   -- a start
   pub start-done : (u a b c : ℕ) (m₁ m₂ m₃ m₄ m₅ m₆ : List ℕ) → a ≡ at m (4 * n + (l .free - 1)) → b ≡ at m (4 * n + (l .free - 2))
-      → c ≡ at m (4 * n + (l .free - 3)) → m₁ ≡ set m (4 * a) u → m₂ ≡ set m₁ (4 * b) (u + 1) → m₃ ≡ set m₂ (4 * c) (u + 2) → m₄ ≡ edgeStored m₃ c a 1
+      → c ≡ at m (4 * n + (l .free - 3)) → m₁ ≡ set m (4 * a) u → m₂ ≡ set m₁ (4 * b) (u + 1) → m₃ ≡ set m₂ (4 * c) (u + 2)
+      → m₄ ≡ edgeStored m₃ c a 1
       → m₅ ≡ edgeStored m₄ b c 1 → m₆ ≡ edgeStored m₅ a b 1
       → (record { live = 1; current = a; size = 3; free = l .free - 3 } ≡ startHeld n l m u .loops) × (m₆ ≡ startHeld n l m u .memory)
   unfolding startHeld edgesStored

@@ -5,7 +5,7 @@ use native.Mathlib.Omega.{arith}
 use mathlib.Core.List.{List}
 use mathlib.Core.Path.{_≡_, refl, sym, _∙_}
 use lib.ListN.{length}
-use Rattle.memory.specs.Layout.{afterOf, walked}
+use Rattle.border_theory.specs.Memory.Layout.{afterOf, walked}
 
 -- a walk of i places from p: at place x, k are left
 pub record Walks (m : List ℕ) (i p k x : ℕ) : Type 0 where

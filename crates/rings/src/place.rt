@@ -2,8 +2,9 @@
 ghost use mathlib.Core.Path.{_≡_};
 ghost use Prim.Native.Nat.{ℕ, _+_, _*_, _≤_, _<_};
 ghost use lib.ListN.{length, set};
-ghost use Rattle.memory.specs.Layout.{at, vertexOf, beforeOf, afterOf, openOf, edgeStored, freed, walked};
-ghost use Rattle.memory.specs.Decision.{isOpenAt};
+ghost use Rattle.rules.specs.Limits.{maxPlaces};
+ghost use Rattle.border_theory.specs.Memory.Layout.{at, vertexOf, beforeOf, afterOf, openOf, edgeStored, freed, walked};
+ghost use Rattle.border_theory.specs.Memory.Decision.{isOpenAt};
 
 // The vertex of place p.
 pub fn vertex_of(m: &[u16], p: u16) -> u16
@@ -67,7 +68,7 @@ pub fn store_edge(m: &mut [u16], x: u16, y: u16, o: u16)
 
 // Place p goes on the stack of free places, which has k.
 pub fn free_place(m: &mut [u16], n: usize, k: u16, p: u16)
-    requires { ⌜ (n ≤ 1024) × (4 * n + k < length (now m)) ⌝ }
+    requires { ⌜ (n ≤ maxPlaces) × (4 * n + k < length (now m)) ⌝ }
     ensures { λ _. ⌜ now (m .exit) ≡ freed n (now (m .entry)) k p ⌝ }
 {
     m[4 * n + (k as usize)] = p;

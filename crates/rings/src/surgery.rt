@@ -11,12 +11,14 @@ use crate::stack::move_down;
 use crate::stack::release;
 use crate::stack::size_at;
 use crate::stack::wait_at;
-use memory::Loops;
+use cutborder::Loops;
 ghost use mathlib.Core.Path.{_≡_};
 ghost use Prim.Native.Nat.{_+_, _*_, _-_, _≤_, _<_};
 ghost use lib.ListN.{length};
-ghost use Rattle.memory.specs.Moves.{newHeld, forwardHeld, backwardHeld, endedHeld, turnedHeld, nextCut, lastCut, markedHeld, doubled, splitHeld, unionHeld, startHeld};
-ghost use Rattle.memory.specs.Near.{Near, Borders, Doubles, Starts};
+ghost use Rattle.rules.specs.Limits.{maxVertices};
+ghost use Rattle.border_theory.specs.Memory.Moves.{newHeld, forwardHeld, backwardHeld, endedHeld, turnedHeld, nextCut, lastCut, markedHeld};
+ghost use Rattle.border_theory.specs.Memory.Moves.{doubled, splitHeld, unionHeld, startHeld};
+ghost use Rattle.border_theory.specs.Memory.Near.{Near, Borders, Doubles, Starts};
 
 // New: a free place goes between the current place and the next. It gets vertex u and is current.
 pub fn grow(m: &mut [u16], n: usize, l: Loops, u: u16) -> Loops
@@ -241,7 +243,7 @@ pub fn join_loop(m: &mut [u16], n: usize, l: Loops, p: u16, c: u16) -> Loops
 
 // Start: a loop of three free places, with the vertices u, u + 1 and u + 2.
 pub fn start_loop(m: &mut [u16], n: usize, l: Loops, u: u16) -> Loops
-    requires { ⌜ Starts n l (now m) × (u ≤ 4096) ⌝ }
+    requires { ⌜ Starts n l (now m) × (u ≤ maxVertices) ⌝ }
     ensures loops { λ r. ⌜ r ≡ startHeld n l (now (m .entry)) u .loops ⌝ }
     ensures memory { λ _. ⌜ now (m .exit) ≡ startHeld n l (now (m .entry)) u .memory ⌝ }
 {

@@ -16,15 +16,17 @@ use Rattle.rules.specs.declared.Operation.the-variants.{New, Border, Start}
 use Rattle.rules.specs.Across.{inTriangle, across}
 use Rattle.rules.specs.Ring.{Node, opened, Ring, vertex, startOr, places}
 use Rattle.rules.specs.Table.{Effect, not-allowed, builds, marks, atEdge}
-use Rattle.rules.specs.Choice.{Packing, has, dropTriangle, turnIn, turnOut, nowhere, spot, spotOf, operationFor, sizeOf, following, choosePlace, Next, ended, refuses, takes, limited, choose, afterCurrent}
+use Rattle.rules.specs.Choice.{Packing, has, dropTriangle, turnIn, turnOut, nowhere, spot, spotOf, operationFor, sizeOf, following}
+use Rattle.rules.specs.Choice.{choosePlace, Next, ended, refuses, takes, limited, choose, afterCurrent}
 use Rattle.rules.specs.Pack.{Chosen, stopped, chosen, cons, chooseAll}
-use Rattle.fans.specs.Corner.{at-p, at-q, at-r, In, here, there, Once}
-use Rattle.fans.proofs.Corners.{in-next}
-use Rattle.gap.specs.Turn.{Unused}
-use Rattle.gap.proofs.Links.{in-last, free-rot}
-use Rattle.gap.proofs.Turning.{Told, told, across-some, across-none, look, others, others-length, others-sub, others-once, others-free}
-use Rattle.gap.proofs.Dropping.{drop-others}
-use Rattle.gap.proofs.Taking.{out}
+use Rattle.mesh_theory.specs.Fans.Corner.{at-p, at-q, at-r, In, here, there, Once}
+use Rattle.mesh_theory.proofs.Fans.Corners.{in-next}
+use Rattle.choice_theory.specs.Turn.{Unused}
+use Rattle.choice_theory.proofs.Turning.Links.{in-last, free-rot}
+use Rattle.choice_theory.proofs.Turning.Ways.{Told, told, across-some, across-none, look, others, others-length, others-sub, others-once}
+use Rattle.choice_theory.proofs.Turning.Ways.{others-free}
+use Rattle.choice_theory.proofs.Turning.Dropping.{drop-others}
+use Rattle.choice_theory.proofs.Turning.Taking.{out}
 use Rattle.roundtrip.specs.Run.{startOf, startsBy}
 use Rattle.roundtrip.proofs.Wanting.{Want, idle, wants, wanting, wantTriangle, wantAt, want, doing, choose-want}
 
@@ -87,7 +89,8 @@ unfolding dropTriangle Told
 drop-none x y [] u = refl
 drop-none x y (t ∷ ts) u = go (inTriangle x y t) (told x y t) (drop-none x y ts (λ z i. u z (there i)))
   where
-    go : (m : Across) → Told x y t m → dropTriangle x y ts ≡ ts → _≡_ {A = List Triangle} (elim m [ Found n k w ↦ ts | Nothing ↦ t ∷ dropTriangle x y ts ]) (t ∷ ts)
+    go : (m : Across) → Told x y t m → dropTriangle x y ts ≡ ts
+        → _≡_ {A = List Triangle} (elim m [ Found n k w ↦ ts | Nothing ↦ t ∷ dropTriangle x y ts ]) (t ∷ ts)
     go (Found n k w) h e = absurd (u w (here h))
     go Nothing h e = ap (λ (l : List Triangle). t ∷ l) e
 
@@ -98,9 +101,11 @@ others-keep {x} {y} {z} ts us i j o to a b c k = go (out j (to a b c (others-sub
     go : In a b c (record { p = x; q = y; r = z } ∷ others j) → In a b c (others j)
     go (there l) = l
     go (here (at-p e f g)) =
-        absurd (others-free ts i o b (subst (λ (n : ℕ). In z n b (others i)) (sym e) (subst (λ (n : ℕ). In n a b (others i)) (sym g) (in-last k))))
+        absurd (others-free ts i o b
+        (subst (λ (n : ℕ). In z n b (others i)) (sym e) (subst (λ (n : ℕ). In n a b (others i)) (sym g) (in-last k))))
     go (here (at-q e f g)) =
-        absurd (others-free ts i o a (subst (λ (n : ℕ). In z n a (others i)) (sym g) (subst (λ (n : ℕ). In n c a (others i)) (sym f) (in-next k))))
+        absurd (others-free ts i o a
+        (subst (λ (n : ℕ). In z n a (others i)) (sym g) (subst (λ (n : ℕ). In n c a (others i)) (sym f) (in-next k))))
     go (here (at-r e f g)) =
         absurd (others-free ts i o c (subst (λ (n : ℕ). In z n c (others i)) (sym f) (subst (λ (n : ℕ). In n b c (others i)) (sym e) k)))
 
@@ -123,21 +128,25 @@ drop-same x y ts us s = go (look x y ts)
 -- the same is wanted
 pub data SameWant (w w′ : Want) : Type 0 where
   both-idle : w ≡ idle → w′ ≡ idle → SameWant w w′
-  both-want : (o : Operation) (ts us : List Triangle) (vs : List ℕ) (ls : List Ring) → w ≡ wants o ts vs ls → w′ ≡ wants o us vs ls → Same ts us
+  both-want : (o : Operation) (ts us : List Triangle) (vs : List ℕ) (ls : List Ring) → w ≡ wants o ts vs ls → w′ ≡ wants o us vs ls
+      → Same ts us
       → SameWant w w′
 
-wanting-same : (o : Operation) (ts us : List Triangle) (vs : List ℕ) (ef : Effect) → Same ts us → SameWant (wanting o ts vs ef) (wanting o us vs ef)
+wanting-same : (o : Operation) (ts us : List Triangle) (vs : List ℕ) (ef : Effect) → Same ts us
+    → SameWant (wanting o ts vs ef) (wanting o us vs ef)
 wanting-same o ts us vs not-allowed s = both-idle refl refl
 wanting-same o ts us vs (builds x) s = both-want o ts us vs (x .loops) refl refl s
 wanting-same o ts us vs (marks x) s = both-want o ts us vs (x .loops) refl refl s
 
 triangle-same : (L L′ : List Triangle) (N : List ℕ) (ls : List Ring) (a b c : ℕ) (ps : List Node) (ws : List Ring) (t : Bool) → Same L L′
     → SameWant (wantTriangle L N ls a b c ps ws t) (wantTriangle L′ N ls a b c ps ws t)
-triangle-same L L′ N ls a b c ps ws false s = wanting-same New (dropTriangle b a L) (dropTriangle b a L′) (N ++ (c ∷ [])) (atEdge New c a ps ws) (drop-same b a L L′ s)
+triangle-same L L′ N ls a b c ps ws false s =
+    wanting-same New (dropTriangle b a L) (dropTriangle b a L′) (N ++ (c ∷ [])) (atEdge New c a ps ws) (drop-same b a L L′ s)
 triangle-same L L′ N ls a b c ps ws true s =
     let d = drop-same b a L L′ s in
     let o = choosePlace a b c (dropTriangle b a L) ls in
-    subst (λ (o′ : Operation). SameWant (wanting o (dropTriangle b a L) N (atEdge o c a ps ws)) (wanting o′ (dropTriangle b a L′) N (atEdge o′ c a ps ws)))
+    subst (λ (o′ : Operation).
+    SameWant (wanting o (dropTriangle b a L) N (atEdge o c a ps ws)) (wanting o′ (dropTriangle b a L′) N (atEdge o′ c a ps ws)))
     (place-same a b c (dropTriangle b a L) (dropTriangle b a L′) ls d)
     (wanting-same o (dropTriangle b a L) (dropTriangle b a L′) N (atEdge o c a ps ws) d)
 
@@ -198,7 +207,8 @@ unfolding startsBy
 starts-by n s x e = ap (startsNext n (startOf (s .loops) (s .left))) e
 
 both-by : (n : ℕ) (s u : Packing) (x y : Next) → choose s ≡ x → choose u ≡ y → startsBy (suc n) s ≡ startsBy (suc n) u
-    → (startsNext n (startOf (s .loops) (s .left)) x ≡ startsNext n (startOf (u .loops) (u .left)) y → SameChosen (allBy n s x) (allBy n u y))
+    → (startsNext n (startOf (s .loops) (s .left)) x ≡ startsNext n (startOf (u .loops) (u .left)) y
+    → SameChosen (allBy n s x) (allBy n u y))
     → SameChosen (chooseAll (suc n) s) (chooseAll (suc n) u)
 both-by n s u x y a b e k =
     subst (λ (c : Chosen). SameChosen c (chooseAll (suc n) u)) (sym (all-by n s x a))
@@ -265,8 +275,10 @@ module _ (n : ℕ) (again : Alike n) (mp ml lp ll : ℕ) (N : List ℕ) (M M′ 
           (λ w f. again _ _ lp ll _ _ M M′ ts ts′ m (rest-same t ts ts′ w) f)
 
       go : (u v : Bool) → startsNext n (t ∷ []) (next M ts t u v) ≡ startsNext n (t′ ∷ []) (next M′ ts′ t′ u v)
-          → SameChosen (allBy n (packing mp ml lp ll N [] M (t ∷ ts)) (next M ts t u v)) (allBy n (packing mp ml lp ll N [] M′ (t′ ∷ ts′)) (next M′ ts′ t′ u v))
-      go true true f = cons-same Start (chooseAll n (after M ts t)) (chooseAll n (after M′ ts′ t′)) (same t′ (ap (firstOf t) f) s (ap restOf f))
+          → SameChosen (allBy n (packing mp ml lp ll N [] M (t ∷ ts)) (next M ts t u v))
+          (allBy n (packing mp ml lp ll N [] M′ (t′ ∷ ts′)) (next M′ ts′ t′ u v))
+      go true true f = cons-same Start (chooseAll n (after M ts t)) (chooseAll n (after M′ ts′ t′))
+          (same t′ (ap (firstOf t) f) s (ap restOf f))
       go true false f = refl
       go false v f = refl
 
@@ -278,7 +290,8 @@ module _ (n : ℕ) (again : Alike n) (mp ml lp ll : ℕ) (N : List ℕ) (M M′ 
   unfolding limited
   alike-want ls L L′ l ws q (both-idle a b) e =
       both-by n (packing mp ml lp ll N ls M L) (packing mp ml lp ll N ls M′ L′) ended ended
-      (choose-want _ ∙ ap (doing (packing mp ml lp ll N ls M L)) a) (choose-want _ ∙ ap (doing (packing mp ml lp ll N ls M′ L′)) b) e (λ f. (refl, refl, refl, refl))
+      (choose-want _ ∙ ap (doing (packing mp ml lp ll N ls M L)) a) (choose-want _ ∙ ap (doing (packing mp ml lp ll N ls M′ L′)) b) e
+      (λ f. (refl, refl, refl, refl))
   alike-want ls L L′ l ws q (both-want o ts us vs ks a b s) e =
       both-by n (packing mp ml lp ll N ls M L) (packing mp ml lp ll N ls M′ L′) _ _
       (choose-want _ ∙ ap (doing (packing mp ml lp ll N ls M L)) a) (choose-want _ ∙ ap (doing (packing mp ml lp ll N ls M′ L′)) b) e
@@ -298,7 +311,8 @@ module _ (n : ℕ) (again : Alike n) (mp ml lp ll : ℕ) (N : List ℕ) (M M′ 
       go true true f =
           cons-same o (chooseAll n (after M ts)) (chooseAll n (after M′ us))
           (again _ _ lp ll vs ks M M′ ts us m s
-          (sym (ap (λ (k : List Triangle). k ++ startsBy n (after M ts)) (none L)) ∙ (f ∙ ap (λ (k : List Triangle). k ++ startsBy n (after M′ us)) (none L′))))
+          (sym (ap (λ (k : List Triangle). k ++ startsBy n (after M ts)) (none L))
+          ∙ (f ∙ ap (λ (k : List Triangle). k ++ startsBy n (after M′ us)) (none L′))))
       go true false f = refl
       go false v f = refl
 
@@ -307,7 +321,8 @@ pub alike : (n : ℕ) → Alike n
 unfolding chooseAll
 alike zero mp ml lp ll N ls M M′ L L′ m s e = (refl, refl, refl, refl)
 alike (suc n) mp ml lp ll N [] M M′ [] [] m s e =
-    both-by n (packing mp ml lp ll N [] M []) (packing mp ml lp ll N [] M′ []) ended ended (choose-want _) (choose-want _) e (λ f. (refl, refl, refl, refl))
+    both-by n (packing mp ml lp ll N [] M []) (packing mp ml lp ll N [] M′ []) ended ended (choose-want _) (choose-want _) e
+    (λ f. (refl, refl, refl, refl))
 alike (suc n) mp ml lp ll N [] M M′ [] (t ∷ ts) m s e = absurd (omega (arith, s .count))
 alike (suc n) mp ml lp ll N [] M M′ (t ∷ ts) [] m s e = absurd (omega (arith, s .count))
 alike (suc n) mp ml lp ll N [] M M′ (t ∷ ts) (t′ ∷ ts′) m s e = alike-start n (alike n) mp ml lp ll N M M′ m t t′ ts ts′ s e

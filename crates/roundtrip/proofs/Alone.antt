@@ -19,7 +19,8 @@ use Rattle.rules.specs.Bits.{bytesOf}
 use Rattle.rules.specs.Code.{operationsBits}
 use Rattle.rules.specs.Fields.{fields, fieldsOf}
 use Rattle.rules.specs.Choice.{Packing}
-use Rattle.rules.specs.Pack.{Chosen, stopped, chosen, most, chosenFor, packOf, newNumbers, PackBuffers, PackResult, packDone, packRefused, packStored, packChosen, packLongEnough, packChecked, pack}
+use Rattle.rules.specs.Pack.{Chosen, stopped, chosen, most, chosenFor, packOf, newNumbers, PackBuffers, PackResult, packDone, packRefused}
+use Rattle.rules.specs.Pack.{packStored, packChosen, packLongEnough, packChecked, pack}
 use Rattle.rules.specs.Pack as P
 use Rattle.roundtrip.specs.Run.{runLoops, peakOf}
 use Rattle.roundtrip.specs.Claims.{SameInAllBuffers, SameAnswerInAllBuffers, StatedPeaksAreTrue}
@@ -29,10 +30,12 @@ use Rattle.roundtrip.proofs.Results.{PackedBy, packed-by}
 use Rattle.roundtrip.proofs.Forth.{found}
 use Rattle.roundtrip.proofs.Each.{front-bytes}
 
-front-numbers : (v : ℕ) (xs : List ℕ) (r : PackBuffers) (n : ℕ) (p : PackedBy most v xs r n) → take v (pack v xs r .buffers .numbering) ≡ newNumbers v (p .last .numbered)
+front-numbers : (v : ℕ) (xs : List ℕ) (r : PackBuffers) (n : ℕ) (p : PackedBy most v xs r n)
+    → take v (pack v xs r .buffers .numbering) ≡ newNumbers v (p .last .numbered)
 front-numbers v xs r n p =
     let ns = newNumbers v (p .last .numbered) in
-    ap (λ (x : PackResult). take v (x .buffers .numbering)) (p .result) ∙ take-at ns (drop (length ns) (r .numbering)) v (length-new v (p .last .numbered))
+    ap (λ (x : PackResult). take v (x .buffers .numbering)) (p .result)
+    ∙ take-at ns (drop (length ns) (r .numbering)) v (length-new v (p .last .numbered))
 
 pub same-in-all-buffers : SameInAllBuffers
 same-in-all-buffers v xs r r′ n n′ e e′ =
@@ -52,26 +55,36 @@ same-in-all-buffers v xs r r′ n n′ e e′ =
 abbrev answer : PackResult → Answer
 answer p = p .answer
 
-stored-answer : (v : ℕ) (ns bytes : List ℕ) (r r′ : PackBuffers) → length (r .pack) ≡ length (r′ .pack) → packStored v ns bytes r .answer ≡ packStored v ns bytes r′ .answer
-stored-answer v ns bytes r r′ e = by r (leb (length bytes) (length (r .pack))) ∙ (ap (λ (k : ℕ). elim (leb (length bytes) k) [ true ↦ packed (length bytes) | false ↦ refusal 11 ]) e ∙ sym (by r′ (leb (length bytes) (length (r′ .pack)))))
+stored-answer : (v : ℕ) (ns bytes : List ℕ) (r r′ : PackBuffers) → length (r .pack) ≡ length (r′ .pack)
+    → packStored v ns bytes r .answer ≡ packStored v ns bytes r′ .answer
+stored-answer v ns bytes r r′ e =
+    by r (leb (length bytes) (length (r .pack)))
+    ∙ (ap (λ (k : ℕ). elim (leb (length bytes) k) [ true ↦ packed (length bytes) | false ↦ refusal 11 ]) e
+    ∙ sym (by r′ (leb (length bytes) (length (r′ .pack)))))
   where
-    by : (q : PackBuffers) (t : Bool) → answer (elim t [ true ↦ packDone ns bytes q | false ↦ packRefused 11 v q ]) ≡ elim t [ true ↦ packed (length bytes) | false ↦ refusal 11 ]
+    by : (q : PackBuffers) (t : Bool)
+        → answer (elim t [ true ↦ packDone ns bytes q | false ↦ packRefused 11 v q ])
+        ≡ elim t [ true ↦ packed (length bytes) | false ↦ refusal 11 ]
     by q true = refl
     by q false = refl
 
-chosen-answer : (v : ℕ) (ts : List Triangle) (r r′ : PackBuffers) (c : Chosen) → length (r .pack) ≡ length (r′ .pack) → packChosen v ts r c .answer ≡ packChosen v ts r′ c .answer
+chosen-answer : (v : ℕ) (ts : List Triangle) (r r′ : PackBuffers) (c : Chosen) → length (r .pack) ≡ length (r′ .pack)
+    → packChosen v ts r c .answer ≡ packChosen v ts r′ c .answer
 unfolding packChosen
 chosen-answer v ts r r′ (stopped n) e = refl
 chosen-answer v ts r r′ (chosen os s) e = stored-answer v (newNumbers v (s .numbered)) (packOf v ts os s) r r′ e
 
-checked-answer : (v : ℕ) (ts : List Triangle) (r r′ : PackBuffers) (c : Checked) → packLongEnough v r ≡ packLongEnough v r′ → length (r .pack) ≡ length (r′ .pack)
+checked-answer : (v : ℕ) (ts : List Triangle) (r r′ : PackBuffers) (c : Checked) → packLongEnough v r ≡ packLongEnough v r′
+    → length (r .pack) ≡ length (r′ .pack)
     → packChecked most v ts r c .answer ≡ packChecked most v ts r′ c .answer
 unfolding packChecked
 checked-answer v ts r r′ (Refused n) k e = refl
 checked-answer v ts r r′ Accepted k e =
-    same (packLongEnough v r) ∙ ap (λ (w : Bool). answer (elim w [ true ↦ packChosen v ts r′ (chosenFor most ts) | false ↦ P.turnedDown 8 r′ ])) k
+    same (packLongEnough v r)
+    ∙ ap (λ (w : Bool). answer (elim w [ true ↦ packChosen v ts r′ (chosenFor most ts) | false ↦ P.turnedDown 8 r′ ])) k
   where
-    same : (t : Bool) → answer (elim t [ true ↦ packChosen v ts r (chosenFor most ts) | false ↦ P.turnedDown 8 r ]) ≡ answer (elim t [ true ↦ packChosen v ts r′ (chosenFor most ts) | false ↦ P.turnedDown 8 r′ ])
+    same : (t : Bool) → answer (elim t [ true ↦ packChosen v ts r (chosenFor most ts) | false ↦ P.turnedDown 8 r ])
+        ≡ answer (elim t [ true ↦ packChosen v ts r′ (chosenFor most ts) | false ↦ P.turnedDown 8 r′ ])
     same true = chosen-answer v ts r r′ (chosenFor most ts) e
     same false = refl
 
@@ -89,5 +102,6 @@ stated-peaks-are-true v xs r n e =
       bytesOf (operationsBits (p .operations)),
       ap fieldsOf (front-bytes v xs r n p)
           ∙ (found v xs (p .operations) (p .last) (p .accepted) (p .chose)
-          ∙ ap₂ (λ (x y : ℕ). fields (record { vertices = v; triangles = length ts; places = x; loops = y }) (bytesOf (operationsBits (p .operations)))) a b),
+          ∙ ap₂ (λ (x y : ℕ). fields (record { vertices = v; triangles = length ts; places = x; loops = y })
+          (bytesOf (operationsBits (p .operations)))) a b),
     )

@@ -22,32 +22,35 @@ use Rattle.rules.specs.Answer.{unpacked}
 use Rattle.rules.specs.Bits.{bitsOfBytes, bytesOf, allZero}
 use Rattle.rules.specs.Code.{operationBits, operationsBits}
 use Rattle.rules.specs.Fields.{packBytes}
-use Rattle.rules.specs.Pack.{Chosen, stopped, chosen, most, chosenFor, packOf, indexOf, newNumbers, PackBuffers, PackResult, packDone, packChosen, packLongEnough, pack}
+use Rattle.rules.specs.Pack.{Chosen, stopped, chosen, most, chosenFor, packOf, indexOf, newNumbers, PackBuffers, PackResult, packDone}
+use Rattle.rules.specs.Pack.{packChosen, packLongEnough, pack}
 use Rattle.rules.specs.Buffer.{Buffers}
 use Rattle.rules.specs.Unpack.{numbersOf, UnpackResult, unpack}
-use Rattle.fans.proofs.Accepted.{accepted-mesh}
-use Rattle.gap.specs.Works.{Reads, none-read, one-read}
-use Rattle.gap.proofs.Bools.{and-true}
-use Rattle.gap.proofs.Working.{works-stated}
-use Rattle.gap.proofs.Repacking.{Repacked}
-use Rattle.gap.proofs.RoundBack.{Done, packs-back, checks-back}
-use Rattle.gap.proofs.Running.{Held, held-of, no-loops}
-use Rattle.codes.specs.Shape.{Bits, Bytes}
-use Rattle.codes.specs.Header.{headerOf}
-use Rattle.codes.proofs.Lists.{below-rest}
-use Rattle.codes.proofs.Bytes.{fill, length-bits-of-bytes, bits-of-bytes-are, bytes-of-bits, bytes-filled}
-use Rattle.codes.proofs.Operations.{operation-read, operations-bits-are}
-use Rattle.codes.proofs.Fields.{pack-header, PackFound, pack-found}
+use Rattle.mesh_theory.proofs.Fans.Accepted.{accepted-mesh}
+use Rattle.choice_theory.specs.Works.{Reads, none-read, one-read}
+use Rattle.choice_theory.proofs.Runs.Working.{works-stated}
+use Rattle.choice_theory.proofs.Runs.Repacking.{Repacked}
+use Rattle.choice_theory.proofs.Runs.RoundBack.{Done, packs-back, checks-back}
+use Rattle.choice_theory.proofs.Runs.Running.{Held, held-of, no-loops}
+use Rattle.wire_theory.specs.Shape.{Bits, Bytes}
+use Rattle.wire_theory.specs.Header.{headerOf}
+use Rattle.wire_theory.proofs.Lists.{below-rest}
+use Rattle.wire_theory.proofs.Bytes.{fill, length-bits-of-bytes, bits-of-bytes-are, bytes-of-bits, bytes-filled}
+use Rattle.wire_theory.proofs.Operations.{operation-read, operations-bits-are}
+use Rattle.wire_theory.proofs.Fields.{pack-header, PackFound, pack-found}
 use Rattle.roundtrip.specs.Claims.{newNumber, PackOf, listIn, EveryAcceptedPackIsThePackOfItsList, NoTwoPacksOfOneList}
 use Rattle.roundtrip.proofs.Numbers.{getD-front, length-new, new-at, index-up}
 use Rattle.roundtrip.proofs.Results.{within-checked, stored-done, UnpackedBy, unpacked-by}
 use Rattle.roundtrip.proofs.Fitting.{accepted-count}
+use Rattle.counting.proofs.Bools.{and-true}
+use Rattle.mesh_theory.proofs.Chains.Prefix.{length-numbers}
 
 -- a machine that passes 15, 19 and 20 is done
 done-by : (m : Machine) → complete m ≡ true → asStated m ≡ true → oneFanEach (m .used) (m .triangles) ≡ true → Done m
 done-by m a b f =
     let h = and-true (eqb (length (m .triangles)) (m .stated .triangles)) (eqb (length (m .loops)) 0) a in
-    let k = and-true (eqb (m .used) (m .stated .vertices) && eqb (m .mostPlaces) (m .stated .places)) (eqb (m .mostLoops) (m .stated .loops)) b in
+    let k = and-true (eqb (m .used) (m .stated .vertices) && eqb (m .mostPlaces) (m .stated .places))
+    (eqb (m .mostLoops) (m .stated .loops)) b in
     let l = and-true (eqb (m .used) (m .stated .vertices)) (eqb (m .mostPlaces) (m .stated .places)) (k .0) in
     record {
       all-built = eqb-true _ _ (h .0);
@@ -74,13 +77,9 @@ all-zeros (x ∷ xs) h =
     let k = and-true (eqb x 0) (allZero xs) h in
     ap₂ (λ (y : ℕ) (ys : List ℕ). y ∷ ys) (eqb-true x 0 (k .0)) (all-zeros xs (k .1))
 
-length-numbers : (ts : List Triangle) → length (numbersOf ts) ≡ 3 * length ts
-unfolding numbersOf
-length-numbers [] = refl
-length-numbers (t ∷ ts) = omega (arith, length-append (numbersOf ts) (t .p ∷ (t .q ∷ (t .r ∷ []))), length-numbers ts)
-
 -- the bytes are those of the operations, filled with zero bits
-filled-bytes : (ops xs ys : List ℕ) → Bytes ops → Bits xs → bitsOfBytes ops ≡ xs ++ ys → length ys < 8 → allZero ys ≡ true → ops ≡ bytesOf xs
+filled-bytes : (ops xs ys : List ℕ) → Bytes ops → Bits xs → bitsOfBytes ops ≡ xs ++ ys → length ys < 8 → allZero ys ≡ true
+    → ops ≡ bytesOf xs
 filled-bytes ops xs ys h k e l z =
     let n : length ys ≡ fill (length xs) = omega (arith, ap length e, length-append xs ys, length-bits-of-bytes ops) in
     let f : ys ≡ replicate (fill (length xs)) 0 = all-zeros ys z ∙ ap (λ (i : ℕ). replicate i 0) n in
@@ -118,7 +117,8 @@ module _ (bytes : List ℕ) (r : Buffers) (m : Model) (u : UnpackedBy bytes r m)
   list-is =
       let l = numbersOf (end .triangles) in
       ap (λ (x : UnpackResult). take (3 * m .triangles) (x .buffers .triangles)) (u .result)
-      ∙ take-at l (drop (length l) (r .triangles)) (3 * m .triangles) (length-numbers (end .triangles) ∙ ap (λ (k : ℕ). 3 * k) triangles-are)
+      ∙ take-at l (drop (length l) (r .triangles)) (3 * m .triangles)
+      (length-numbers (end .triangles) ∙ ap (λ (k : ℕ). 3 * k) triangles-are)
 
   pub checks : check (m .vertices) (listIn m (unpack bytes r)) ≡ Accepted
   checks =
@@ -140,12 +140,20 @@ module _ (bytes : List ℕ) (hb : Bytes bytes) (r : Buffers) (m : Model) (u : Un
 
   ops-are : u .ops ≡ bytesOf (operationsBits (held bytes r m u .operations))
   ops-are =
-      let h : Bytes (headerOf (u .counts) (length (u .ops)) ++ u .ops) = subst (λ (bs : List ℕ). Bytes bs) (found .from ∙ pack-header (u .counts) (u .ops)) hb in
+      let h : Bytes (headerOf (u .counts) (length (u .ops)) ++ u .ops) =
+      subst (λ (bs : List ℕ). Bytes bs) (found .from ∙ pack-header (u .counts) (u .ops)) hb in
       let z = and-true (ltb (length (u .left)) 8) (allZero (u .left)) (u .rest) in
-      filled-bytes (u .ops) (operationsBits (held bytes r m u .operations)) (u .left) (below-rest 256 (headerOf (u .counts) (length (u .ops))) (u .ops) h) (operations-bits-are (held bytes r m u .operations))
+      filled-bytes (u .ops) (operationsBits (held bytes r m u .operations)) (u .left)
+      (below-rest 256 (headerOf (u .counts) (length (u .ops))) (u .ops) h) (operations-bits-are (held bytes r m u .operations))
       (reads-from (held bytes r m u .reads) (bits-of-bytes-are (u .ops))) (ltb-true (length (u .left)) 8 (z .0)) (z .1)
 
-  counts-are : record { vertices = m .vertices; triangles = length (trianglesOf (listIn m (unpack bytes r))); places = back bytes r m u .last .mostPlaces; loops = back bytes r m u .last .mostLoops } ≡ u .counts
+  counts-are : record {
+    vertices = m .vertices;
+    triangles = length (trianglesOf (listIn m (unpack bytes r)));
+    places =
+        back bytes r m u .last .mostPlaces;
+    loops = back bytes r m u .last .mostLoops;
+  } ≡ u .counts
   counts-are = λ i. record {
     vertices = ap (λ (k : Model). k .vertices) (u .model) i;
     triangles = (count-is bytes r m u ∙ ap (λ (k : Model). k .triangles) (u .model)) i;
@@ -154,18 +162,21 @@ module _ (bytes : List ℕ) (hb : Bytes bytes) (r : Buffers) (m : Model) (u : Un
   }
 
   -- its bytes
-  pub pack-is : packOf (m .vertices) (trianglesOf (listIn m (unpack bytes r))) (held bytes r m u .operations) (back bytes r m u .last) ≡ bytes
+  pub pack-is : packOf (m .vertices) (trianglesOf (listIn m (unpack bytes r))) (held bytes r m u .operations) (back bytes r m u .last)
+      ≡ bytes
   pack-is = ap₂ packBytes counts-are (sym ops-are) ∙ sym (found .from)
 
   module _ (r′ : PackBuffers) (enough : packLongEnough (m .vertices) r′ ≡ true) (long : length bytes ≤ length (r′ .pack)) where
-    packs : pack (m .vertices) (listIn m (unpack bytes r)) r′ ≡ packDone (newNumbers (m .vertices) (back bytes r m u .last .numbered)) bytes r′
+    packs : pack (m .vertices) (listIn m (unpack bytes r)) r′
+        ≡ packDone (newNumbers (m .vertices) (back bytes r m u .last .numbered)) bytes r′
     unfolding packChosen
     packs =
         let l = listIn m (unpack bytes r) in
         let bs = packOf (m .vertices) (trianglesOf l) (held bytes r m u .operations) (back bytes r m u .last) in
         within-checked most (m .vertices) l r′ (checks bytes r m u) enough
         ∙ (ap (packChosen (m .vertices) (trianglesOf l) r′) (chose bytes r m u)
-        ∙ (stored-done (m .vertices) (newNumbers (m .vertices) (back bytes r m u .last .numbered)) bs r′ (le-leb (length bs) (length (r′ .pack)) (omega (arith, ap length pack-is)))
+        ∙ (stored-done (m .vertices) (newNumbers (m .vertices) (back bytes r m u .last .numbered)) bs r′
+        (le-leb (length bs) (length (r′ .pack)) (omega (arith, ap length pack-is)))
         ∙ ap (λ (x : List ℕ). packDone (newNumbers (m .vertices) (back bytes r m u .last .numbered)) x r′) pack-is))
 
     numbers-same : (x : ℕ) → x < m .vertices → newNumber (pack (m .vertices) (listIn m (unpack bytes r)) r′) x ≡ x
@@ -217,6 +228,7 @@ pub no-two-packs-of-one-list : NoTwoPacksOfOneList
 no-two-packs-of-one-list bytes bytes′ hb hb′ r r′ m m′ e e′ l =
     let k = checks bytes r m (unpacked-by bytes r m e) in
     let k′ = checks bytes′ r′ m′ (unpacked-by bytes′ r′ m′ e′) in
-    let v = same-vertices (m .vertices) (m′ .vertices) (listIn m′ (unpack bytes′ r′)) (subst (λ (xs : List ℕ). check (m .vertices) xs ≡ Accepted) l k) k′ in
+    let v = same-vertices (m .vertices) (m′ .vertices) (listIn m′ (unpack bytes′ r′))
+    (subst (λ (xs : List ℕ). check (m .vertices) xs ≡ Accepted) l k) k′ in
     bytes-are bytes hb r m e
     ∙ (ap₂ (λ (k : ℕ) (xs : List ℕ). bytesFor k xs (chosenFor most (trianglesOf xs))) v l ∙ sym (bytes-are bytes′ hb′ r′ m′ e′))

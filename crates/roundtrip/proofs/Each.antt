@@ -16,18 +16,19 @@ use Rattle.rules.specs.Choice.{Packing, has}
 use Rattle.rules.specs.Pack.{most, nothingBuilt, packOf, indexOf, newNumbers, PackBuffers, PackResult, pack}
 use Rattle.rules.specs.Buffer.{Buffers}
 use Rattle.rules.specs.Unpack.{numbersOf, UnpackResult, unpackDone, unpack}
-use Rattle.fans.specs.Corner.{In, Once}
-use Rattle.gap.specs.Building.{onto}
-use Rattle.gap.proofs.Numbering.{Met}
-use Rattle.gap.proofs.Following.{run-length}
-use Rattle.gap.proofs.Runs.{Facts, facts}
-use Rattle.gap.proofs.Whole.{Complete, complete-all, complete-only}
-use Rattle.gap.proofs.Accepted.{Packable}
-use Rattle.gap.proofs.Renaming.{triangles, length-triangles}
-use Rattle.gap.proofs.RoundTrip.{numbered-all, numbers-tell}
-use Rattle.gap.proofs.RoundTrip as T
-use Rattle.gap.proofs.Rechecking.{length-numbers}
-use Rattle.gap.proofs.Repacking.{in-onto, run-onto, numbersIn, triangles-in, numbers-onto, built-order, works-facts, works-order}
+use Rattle.mesh_theory.specs.Fans.Corner.{In, Once}
+use Rattle.choice_theory.specs.Building.{onto}
+use Rattle.choice_theory.proofs.Places.Numbering.{Met}
+use Rattle.choice_theory.proofs.Runs.Following.{run-length}
+use Rattle.choice_theory.proofs.Runs.Machine.{Facts, facts}
+use Rattle.choice_theory.proofs.Runs.Whole.{Complete, complete-all, complete-only}
+use Rattle.choice_theory.proofs.Runs.Accepted.{Packable}
+use Rattle.choice_theory.proofs.Places.Renaming.{triangles, length-triangles}
+use Rattle.choice_theory.proofs.Runs.RoundTrip.{numbered-all, numbers-tell}
+use Rattle.choice_theory.proofs.Runs.RoundTrip as T
+use Rattle.choice_theory.proofs.Runs.Rechecking.{length-numbers}
+use Rattle.choice_theory.proofs.Runs.Repacking.{in-onto, run-onto, numbersIn, triangles-in, numbers-onto, built-order, works-facts}
+use Rattle.choice_theory.proofs.Runs.Repacking.{works-order}
 use Rattle.roundtrip.specs.Run.{enough, buildOrder}
 use Rattle.roundtrip.specs.Claims.{renumbered, Rearranged, OneToOne, newNumber, LongEnoughFor, EachOnce, EachTriangleOnce}
 use Rattle.roundtrip.proofs.Numbers.{getD-front, length-new, new-at, index-below, has-at, index-at}
@@ -143,10 +144,12 @@ module _ (v : ℕ) (xs : List ℕ) (r : PackBuffers) (n : ℕ) (p : PackedBy mos
 
   module _ (r′ : Buffers) (enough : LongEnoughFor (length (trianglesOf xs)) r′) where
     done : unpack (take n (pack v xs r .buffers .pack)) r′
-        ≡ unpackDone (T.statedBy v (trianglesOf xs) (p .last)) (totals (reached v xs (p .operations) (p .last) (p .accepted) (p .chose) .end))
+        ≡ unpackDone (T.statedBy v (trianglesOf xs) (p .last))
+        (totals (reached v xs (p .operations) (p .last) (p .accepted) (p .chose) .end))
         (reached v xs (p .operations) (p .last) (p .accepted) (p .chose) .end .triangles) r′
     done =
-        ap (λ (bs : List ℕ). unpack bs r′) (front-bytes v xs r n p) ∙ unpacks-done v xs os s (p .accepted) (p .chose) r′ (enough .0) (enough .1)
+        ap (λ (bs : List ℕ). unpack bs r′) (front-bytes v xs r n p)
+        ∙ unpacks-done v xs os s (p .accepted) (p .chose) r′ (enough .0) (enough .1)
 
     list-is : take (3 * length (trianglesOf xs)) (unpack (take n (pack v xs r .buffers .pack)) r′ .buffers .triangles)
         ≡ numbersOf (reached v xs (p .operations) (p .last) (p .accepted) (p .chose) .end .triangles)
@@ -163,7 +166,8 @@ module _ (v : ℕ) (xs : List ℕ) (r : PackBuffers) (n : ℕ) (p : PackedBy mos
       accepted = ap (λ (u : UnpackResult). u .answer) done;
       numbering = one-to-one;
       rearranged = rearranged;
-      unpacked = ap trianglesOf (list-is ∙ numbers-written) ∙ (triangles-in named ∙ (named-is ∙ ap (renumbered (newNumber (pack v xs r))) order-is));
+      unpacked = ap trianglesOf (list-is ∙ numbers-written)
+          ∙ (triangles-in named ∙ (named-is ∙ ap (renumbered (newNumber (pack v xs r))) order-is));
       once =
           let w = reached v xs os s (p .accepted) (p .chose) in
           subst Once (sym (ap trianglesOf list-is ∙ works-order (T.statedBy v ts s) os (w .end) (w .works) (w .no-loop)))

@@ -12,7 +12,8 @@ use Rattle.rules.specs.declared.Triangle.{Triangle}
 use Rattle.rules.specs.declared.Operation.{Operation}
 use Rattle.rules.specs.declared.Operation.the-variants.{New, Forward, Backward, Border, Split, Close, Union, Start}
 use Rattle.rules.specs.declared.Checked.the-variants.{Accepted}
-use Rattle.rules.specs.Limits.{maxNumbers, minVertices, maxVertices, maxTriangles, minPlaces, maxPlaces, maxLoops, between, vertexRange, inRange}
+use Rattle.rules.specs.Limits.{maxNumbers, minVertices, maxVertices, maxTriangles, minPlaces, maxPlaces, maxLoops, between, vertexRange}
+use Rattle.rules.specs.Limits.{inRange}
 use Rattle.rules.specs.Triangle.{trianglesOf}
 use Rattle.rules.specs.Check.{check}
 use Rattle.rules.specs.Ring.{Node, Ring, isOpen, reached, places}
@@ -20,33 +21,33 @@ use Rattle.rules.specs.Code.{operationBits, operationsBits, readOperation}
 use Rattle.rules.specs.Bits.{bytesOf}
 use Rattle.rules.specs.Choice.{Packing}
 use Rattle.rules.specs.Pack.{chosen, most, nothingBuilt, chosenFor}
-use Rattle.shown.specs.Shown.{shownAll, Live}
-use Rattle.shown.proofs.Shown.{reached-cut, all-shown-append, all-shown-length, live-split, waiting-shown}
-use Rattle.gap.specs.Surgery.{Surgery, on-new, on-forward, on-backward, on-close, on-split, on-union}
-use Rattle.gap.specs.Tally.{allOpenEdges}
-use Rattle.gap.specs.Works.{Reads, none-read, one-read}
-use Rattle.gap.proofs.Bools.{and-true}
-use Rattle.gap.proofs.Falling.{build-opens, border-opens}
-use Rattle.gap.proofs.Runs.{Run, r-done, r-start, r-build, r-border}
-use Rattle.gap.proofs.Tracking.{shownPlaces, shownLoops, Within, peak-within}
-use Rattle.gap.proofs.Whole.{Complete}
-use Rattle.gap.proofs.RoundTrip.{statedBy}
-use Rattle.fans.proofs.Checks.{check-accepted}
-use Rattle.fans.proofs.Counting.{and-both}
-use Rattle.codes.specs.Shape.{Fits, AllFit}
-use Rattle.codes.specs.Header.{CountsFit}
-use Rattle.codes.specs.Whole.{widthOf}
-use Rattle.codes.proofs.Bytes.{length-bytes}
-use Rattle.codes.proofs.Operations.{length-operation, width-least, width-most, read-operation}
+use Rattle.book.specs.Shown.{shownAll, Live}
+use Rattle.book.proofs.Shown.{reached-cut, all-shown-append, all-shown-length, live-split, waiting-shown}
+use Rattle.choice_theory.specs.Surgery.{Surgery, on-new, on-forward, on-backward, on-close, on-split, on-union}
+use Rattle.choice_theory.specs.Tally.{allOpenEdges}
+use Rattle.choice_theory.specs.Works.{Reads, none-read, one-read}
+use Rattle.choice_theory.proofs.Steps.Falling.{build-opens, border-opens}
+use Rattle.choice_theory.proofs.Runs.Machine.{Run, r-done, r-start, r-build, r-border}
+use Rattle.choice_theory.proofs.Runs.Tracking.{shownPlaces, shownLoops, Within, peak-within}
+use Rattle.choice_theory.proofs.Runs.Whole.{Complete}
+use Rattle.choice_theory.proofs.Runs.RoundTrip.{statedBy}
+use Rattle.mesh_theory.proofs.Fans.Checks.{check-accepted}
+use Rattle.wire_theory.specs.Shape.{Fits, AllFit}
+use Rattle.wire_theory.specs.Header.{CountsFit}
+use Rattle.wire_theory.specs.Whole.{widthOf}
+use Rattle.wire_theory.proofs.Bytes.{length-bytes}
+use Rattle.wire_theory.proofs.Operations.{length-operation, width-least, width-most, read-operation}
 use Rattle.roundtrip.proofs.Limits.{chosen-same, peaks-kept}
+use Rattle.counting.proofs.Bools.{and-both, and-true}
 
-places-append : (us vs : List Ring) → places (us ++ vs) ≡ places us + places vs
+pub places-append : (us vs : List Ring) → places (us ++ vs) ≡ places us + places vs
 unfolding places
 places-append [] vs = omega arith
 places-append (u ∷ us) vs = omega (arith, places-append us vs)
 
 -- an index of the table fits its width
-surgery-fits : (e f : Node) (ps : List Node) (ws ls : List Ring) (c : ℕ) (o : Operation) → Live ws → Surgery e f ps ws ls c o → shownPlaces ((e ∷ (f ∷ ps)) ∷ ws) ≤ maxPlaces
+surgery-fits : (e f : Node) (ps : List Node) (ws ls : List Ring) (c : ℕ) (o : Operation) → Live ws → Surgery e f ps ws ls c o
+    → shownPlaces ((e ∷ (f ∷ ps)) ∷ ws) ≤ maxPlaces
     → shownLoops ((e ∷ (f ∷ ps)) ∷ ws) ≤ maxLoops → Fits o
 unfolding places
 surgery-fits e f ps ws ls c New g (on-new q) p l = tt
@@ -55,13 +56,22 @@ surgery-fits e f ps ws ls c Backward g (on-backward b bs a sh k op m) p l = tt
 surgery-fits e f ps ws ls c Close g (on-close a sh k op op′ m) p l = tt
 surgery-fits e f ps ws ls c (Split i) g (on-split us a vs sh n lu lv k m) p l =
     let z : length (reached (f ∷ ps) false) ≡ length (reached (f ∷ us) false) + suc (length (reached vs (not (isOpen a)))) =
-    ap (λ (r : List Node). length (reached (f ∷ r) false)) sh ∙ (ap length (reached-cut (f ∷ us) a vs (n .1)) ∙ length-append (reached (f ∷ us) false) (a ∷ reached vs (not (isOpen a)))) in
+    ap (λ (r : List Node). length (reached (f ∷ r) false)) sh
+    ∙ (ap length (reached-cut (f ∷ us) a vs (n .1)) ∙ length-append (reached (f ∷ us) false) (a ∷ reached vs (not (isOpen a)))) in
     omega (arith, z, n .0)
 surgery-fits e f ps ws ls c (Union w j) g (on-union before us a vs behind sh n i k m) p l =
     let live = live-split before ((us ++ (a ∷ vs)) ∷ behind) (subst Live sh g) .1 in
     let all : shownAll ws ≡ shownAll before ++ ((reached us false ++ (a ∷ reached vs (not (isOpen a)))) ∷ shownAll behind) =
-    ap shownAll sh ∙ (all-shown-append before ((us ++ (a ∷ vs)) ∷ behind) ∙ ap (λ (r : List Node). shownAll before ++ (r ∷ shownAll behind)) (waiting-shown us a vs behind live (i .1))) in (
-      omega (arith, ap length all, length-append (shownAll before) ((reached us false ++ (a ∷ reached vs (not (isOpen a)))) ∷ shownAll behind), all-shown-length before, n),
+    ap shownAll sh ∙ (all-shown-append before ((us ++ (a ∷ vs)) ∷ behind)
+    ∙ ap (λ (r : List Node). shownAll before ++ (r ∷ shownAll behind)) (waiting-shown us a vs behind live (i .1))) in (
+      omega (
+        arith,
+        ap length all,
+        length-append (shownAll before)
+            ((reached us false ++ (a ∷ reached vs (not (isOpen a)))) ∷ shownAll behind),
+        all-shown-length before,
+        n,
+      ),
       omega (
         arith,
         ap places all,
@@ -71,7 +81,8 @@ surgery-fits e f ps ws ls c (Union w j) g (on-union before us a vs behind sh n i
       ),
     )
 
-run-fits : {M B : List Triangle} {rims ls : List Ring} {os : List Operation} {R : List Triangle} (run : Run M B rims ls os R) → shownPlaces ls ≤ maxPlaces
+run-fits : {M B : List Triangle} {rims ls : List Ring} {os : List Operation} {R : List Triangle} (run : Run M B rims ls os R)
+    → shownPlaces ls ≤ maxPlaces
     → shownLoops ls ≤ maxLoops → Within shownPlaces maxPlaces run → Within shownLoops maxLoops run → AllFit os
 run-fits r-done p l u w = tt
 run-fits (r-start np nq nr d run) p l u w = (tt, run-fits run (u .0) (w .0) (u .1) (w .1))
@@ -101,7 +112,8 @@ run-bits (r-border {ws = ws} {e = e} {f = f} {ps = ps} {os = os} v run) =
     omega (arith, run-bits run, border-opens e f ps ws v, length-more Border os)
 
 -- the first operation of a run that builds something is a start
-run-first : {M : List Triangle} {rims : List Ring} {os : List Operation} {R : List Triangle} (run : Run M [] rims [] os R) → 1 ≤ length R → (k l : ℕ)
+run-first : {M : List Triangle} {rims : List Ring} {os : List Operation} {R : List Triangle} (run : Run M [] rims [] os R) → 1 ≤ length R
+    → (k l : ℕ)
     → Within shownPlaces k run → Within shownLoops l run → (minPlaces ≤ k) × (1 ≤ l)
 unfolding places reached
 run-first r-done h k l p w = absurd (omega arith)
@@ -112,7 +124,8 @@ pub reads-of : (os : List Operation) (zs : List ℕ) → AllFit os → Reads (op
 unfolding operationsBits
 reads-of [] zs h = none-read
 reads-of (o ∷ os) zs h =
-    one-read (ap readOperation (append-assoc (operationBits o) (operationsBits os) zs) ∙ read-operation o (operationsBits os ++ zs) (h .0)) (reads-of os zs (h .1))
+    one-read (ap readOperation (append-assoc (operationBits o) (operationsBits os) zs) ∙ read-operation o (operationsBits os ++ zs) (h .0))
+    (reads-of os zs (h .1))
 
 pub triangles-thirds : (xs : List ℕ) → length xs % 3 ≡ 0 → 3 * length (trianglesOf xs) ≡ length xs
 unfolding trianglesOf
@@ -128,7 +141,8 @@ pub of-between : (a n b : ℕ) → between a n b ≡ true → (a ≤ n) × (n �
 of-between a n b h = let r = and-true (leb a n) (leb n b) h in (leb-true a n (r .0), leb-true n b (r .1))
 
 -- how many triangles an accepted list has
-pub accepted-count : (v : ℕ) (xs : List ℕ) → check v xs ≡ Accepted → (3 * length (trianglesOf xs) ≡ length xs) × (1 ≤ length (trianglesOf xs)) × (length (trianglesOf xs) ≤ maxTriangles)
+pub accepted-count : (v : ℕ) (xs : List ℕ) → check v xs ≡ Accepted
+    → (3 * length (trianglesOf xs) ≡ length xs) × (1 ≤ length (trianglesOf xs)) × (length (trianglesOf xs) ≤ maxTriangles)
 accepted-count v xs a =
     let p = check-accepted v xs .0 a in
     let s = and-true (between 1 (length xs) maxNumbers) (eqb (length xs % 3) 0) (p .size) in
@@ -137,7 +151,8 @@ accepted-count v xs a =
     (t, omega (arith, b .0), omega (arith, b .1))
 
 -- a complete packing of an accepted list
-module _ (v : ℕ) (xs : List ℕ) (os : List Operation) (s : Packing) (a : check v xs ≡ Accepted) (e : chosenFor most (trianglesOf xs) ≡ chosen os s)
+module _ (v : ℕ) (xs : List ℕ) (os : List Operation) (s : Packing) (a : check v xs ≡ Accepted)
+    (e : chosenFor most (trianglesOf xs) ≡ chosen os s)
     (c : Complete (nothingBuilt most (trianglesOf xs)) [] [] [] os s) where
   kept : (s .mostPlaces ≤ maxPlaces) × (s .mostLoops ≤ maxLoops)
   kept =
@@ -178,7 +193,8 @@ module _ (v : ℕ) (xs : List ℕ) (os : List Operation) (s : Packing) (a : chec
   pub in-range : inRange (statedBy v (trianglesOf xs) s) ≡ true
   in-range =
       let t = length (trianglesOf xs) in
-      and-both (vertexRange v && between 1 t maxTriangles && between minPlaces (s .mostPlaces) maxPlaces) (between 1 (s .mostLoops) maxLoops)
+      and-both (vertexRange v && between 1 t maxTriangles && between minPlaces (s .mostPlaces) maxPlaces)
+      (between 1 (s .mostLoops) maxLoops)
       (and-both (vertexRange v && between 1 t maxTriangles) (between minPlaces (s .mostPlaces) maxPlaces)
       (and-both (vertexRange v) (between 1 t maxTriangles) (check-accepted v xs .0 a .range)
       (between-of 1 t maxTriangles (accepted-count v xs a .1) (accepted-count v xs a .2)))

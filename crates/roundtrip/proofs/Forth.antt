@@ -24,31 +24,34 @@ use Rattle.rules.specs.Choice.{Packing}
 use Rattle.rules.specs.Pack.{chosen, most, nothingBuilt, chosenFor, packOf}
 use Rattle.rules.specs.Buffer.{Buffers}
 use Rattle.rules.specs.Unpack.{completed, runAll, runOf, restFits, unpackDone, unpackRun, unpack}
-use Rattle.fans.proofs.Counting.{and-both}
-use Rattle.gap.proofs.Whole.{Complete}
-use Rattle.gap.proofs.Unpacking.{Reached}
-use Rattle.gap.proofs.Accepted.{Packable, accepted-packable}
-use Rattle.gap.proofs.RoundTrip.{statedBy, newNumber, numbers-tell, unpacks, unpack-finishes, accepted-complete}
-use Rattle.gap.proofs.RoundBack.{Done, done-of}
-use Rattle.gap.proofs.Running.{run-of}
-use Rattle.codes.proofs.Bytes.{fill, bits-of-bytes}
-use Rattle.codes.proofs.Operations.{operations-bits-are}
-use Rattle.codes.proofs.Fields.{fields-of-pack}
-use Rattle.codes.proofs.Rest.{fill-fits}
+use Rattle.choice_theory.proofs.Runs.Whole.{Complete}
+use Rattle.choice_theory.proofs.Runs.Unpacking.{Reached}
+use Rattle.choice_theory.proofs.Runs.Accepted.{Packable, accepted-packable}
+use Rattle.choice_theory.proofs.Runs.RoundTrip.{statedBy, newNumber, numbers-tell, unpacks, unpack-finishes, accepted-complete}
+use Rattle.choice_theory.proofs.Runs.RoundBack.{Done, done-of}
+use Rattle.choice_theory.proofs.Runs.Running.{run-of}
+use Rattle.wire_theory.proofs.Bytes.{fill, bits-of-bytes}
+use Rattle.wire_theory.proofs.Operations.{operations-bits-are}
+use Rattle.wire_theory.proofs.Fields.{fields-of-pack}
+use Rattle.wire_theory.proofs.Rest.{fill-fits}
 use Rattle.roundtrip.proofs.Fitting.{all-fit, short-enough, counts-fit, in-range, reads-of, few-operations}
 use Rattle.roundtrip.proofs.Results.{fields-run, ended-done}
+use Rattle.counting.proofs.Bools.{and-both}
 
 -- a machine that is done passes 15, 19 and 20
 done-complete : (m : Machine) → Done m → complete m ≡ true
 done-complete m d =
-    and-both (eqb (length (m .triangles)) (m .stated .triangles)) (eqb (length (m .loops)) 0) (eq-eqb _ _ (d .all-built)) (eq-eqb (length (m .loops)) 0 (ap length (d .no-loop)))
+    and-both (eqb (length (m .triangles)) (m .stated .triangles)) (eqb (length (m .loops)) 0) (eq-eqb _ _ (d .all-built))
+    (eq-eqb (length (m .loops)) 0 (ap length (d .no-loop)))
 
 done-stated : (m : Machine) → Done m → asStated m ≡ true
 done-stated m d =
     and-both (eqb (m .used) (m .stated .vertices) && eqb (m .mostPlaces) (m .stated .places)) (eqb (m .mostLoops) (m .stated .loops))
-    (and-both (eqb (m .used) (m .stated .vertices)) (eqb (m .mostPlaces) (m .stated .places)) (eq-eqb _ _ (d .vertices)) (eq-eqb _ _ (d .places))) (eq-eqb _ _ (d .loops))
+    (and-both (eqb (m .used) (m .stated .vertices)) (eqb (m .mostPlaces) (m .stated .places)) (eq-eqb _ _ (d .vertices))
+    (eq-eqb _ _ (d .places))) (eq-eqb _ _ (d .loops))
 
-module _ (v : ℕ) (xs : List ℕ) (os : List Operation) (s : Packing) (a : check v xs ≡ Accepted) (e : chosenFor most (trianglesOf xs) ≡ chosen os s) where
+module _ (v : ℕ) (xs : List ℕ) (os : List Operation) (s : Packing) (a : check v xs ≡ Accepted)
+    (e : chosenFor most (trianglesOf xs) ≡ chosen os s) where
   abbrev ts : List Triangle
   ts = trianglesOf xs
 
@@ -61,7 +64,8 @@ module _ (v : ℕ) (xs : List ℕ) (os : List Operation) (s : Packing) (a : chec
   pub ok : Packable v (trianglesOf xs)
   ok = accepted-packable v xs a
 
-  pub reached : Reached (newNumber s) (whole .built) (numbers-tell most v (trianglesOf xs) ok os s whole) (empty (statedBy v (trianglesOf xs) s)) os v (s .mostPlaces) (s .mostLoops)
+  pub reached : Reached (newNumber s) (whole .built) (numbers-tell most v (trianglesOf xs) ok os s whole)
+      (empty (statedBy v (trianglesOf xs) s)) os v (s .mostPlaces) (s .mostLoops)
   reached = unpacks most v ts ok os s whole
 
   done : Done (reached .end)
@@ -78,15 +82,20 @@ module _ (v : ℕ) (xs : List ℕ) (os : List Operation) (s : Packing) (a : chec
   ran =
       let b = bits-of-bytes (operationsBits os) (operations-bits-are os) in
       ap (λ (bs : List ℕ). runAll (suc (length bs)) (empty st) bs) b
-      ∙ run-of (suc (length (operationsBits os ++ zeros))) (reached .works) (reads-of os zeros (all-fit v xs os s a e whole)) (done-complete (reached .end) done)
+      ∙ run-of (suc (length (operationsBits os ++ zeros))) (reached .works) (reads-of os zeros (all-fit v xs os s a e whole))
+      (done-complete (reached .end) done)
       (omega (arith, length-append (operationsBits os) zeros, few-operations os))
 
-  module _ (r : Buffers) (long : 3 * length (trianglesOf xs) ≤ length (r .triangles)) (many : maxPlaces ≤ length {A = Place} (r .places)) where
-    pub unpacks-done : unpack (packOf v (trianglesOf xs) os s) r ≡ unpackDone (statedBy v (trianglesOf xs) s) (totals (reached .end)) (reached .end .triangles) r
+  module _ (r : Buffers) (long : 3 * length (trianglesOf xs) ≤ length (r .triangles))
+      (many : maxPlaces ≤ length {A = Place} (r .places)) where
+    pub unpacks-done : unpack (packOf v (trianglesOf xs) os s) r
+        ≡ unpackDone (statedBy v (trianglesOf xs) s) (totals (reached .end)) (reached .end .triangles) r
     unfolding unpackRun
     unpacks-done =
         fields-run (packOf v ts os s) r st (bytesOf (operationsBits os)) found (in-range v xs os s a e whole)
-        (and-both (leb (3 * length ts) (length (r .triangles))) (leb maxPlaces (length {A = Place} (r .places))) (le-leb _ _ long) (le-leb _ _ many))
+        (and-both (leb (3 * length ts) (length (r .triangles))) (leb maxPlaces (length {A = Place} (r .places))) (le-leb _ _ long)
+        (le-leb _ _ many))
         ∙ (ap (unpackRun st r) ran
         ∙ ended-done st r (reached .end) (restFits zeros)
-        (and-both (restFits zeros) (asStated (reached .end)) (fill-fits (length (operationsBits os))) (done-stated (reached .end) done)) (done .fans))
+        (and-both (restFits zeros) (asStated (reached .end)) (fill-fits (length (operationsBits os))) (done-stated (reached .end) done))
+        (done .fans))

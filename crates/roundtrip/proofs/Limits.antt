@@ -14,9 +14,10 @@ use Rattle.rules.specs.declared.Operation.{Operation}
 use Rattle.rules.specs.Ring.{Ring, places}
 use Rattle.rules.specs.Choice.{Packing, Next, ended, refuses, takes, packingAfter, limited, choose}
 use Rattle.rules.specs.Pack.{Chosen, stopped, chosen, cons, chooseAll, Most, nothingBuilt, chosenFor}
-use Rattle.gap.proofs.Whole.{all-ended, all-taken}
-use Rattle.gap.proofs.Following.{limited-takes}
-use Rattle.roundtrip.specs.Run.{enough, unlimited, loopsAfter, runLoops, NoFault, FirstFault, places-exceeded, loops-exceeded, later, peakOf}
+use Rattle.choice_theory.proofs.Runs.Whole.{all-ended, all-taken}
+use Rattle.choice_theory.proofs.Runs.Following.{limited-takes}
+use Rattle.roundtrip.specs.Run.{enough, unlimited, loopsAfter, runLoops, NoFault, FirstFault, places-exceeded, loops-exceeded, later}
+use Rattle.roundtrip.specs.Run.{peakOf}
 use Rattle.roundtrip.proofs.Wanting.{Want, idle, wants, want, doing, choose-want, Grown, want-grown}
 
 -- the packing with other limits
@@ -61,7 +62,8 @@ cons-limited h o (ls ∷ lss) c = go (leb (places ls) (h .places)) (leb (length 
     go false v e = refl
 
 -- one operation of the packer
-all-next : (n : ℕ) (s : Packing) → chooseAll (suc n) s ≡ elim (choose s) [ ended ↦ chosen [] s | refuses k ↦ stopped k | takes o s′ ↦ cons o (chooseAll n s′) ]
+all-next : (n : ℕ) (s : Packing)
+    → chooseAll (suc n) s ≡ elim (choose s) [ ended ↦ chosen [] s | refuses k ↦ stopped k | takes o s′ ↦ cons o (chooseAll n s′) ]
 unfolding chooseAll
 all-next n s = refl
 
@@ -82,13 +84,15 @@ module _ (h b : Most) where
   abbrev taken : ℕ → Operation → Packing → Next → Chosen
   taken n o s x = elim x [ ended ↦ chosen [] s | refuses k ↦ stopped k | takes o′ s′ ↦ cons o′ (chooseAll n s′) ]
 
-  next-limited : (n : ℕ) (o : Operation) (s s′ : Packing) (lss : List (List Ring)) (c : Chosen) → chooseAll n (relimit h s′) ≡ limitedTo h lss c
+  next-limited : (n : ℕ) (o : Operation) (s s′ : Packing) (lss : List (List Ring)) (c : Chosen)
+      → chooseAll n (relimit h s′) ≡ limitedTo h lss c
       → _≡_ {A = Chosen} (taken n o s (limited o (relimit h s′))) (limitedTo h (s′ .loops ∷ lss) (cons o c))
   unfolding limited
   next-limited n o s s′ lss c e = go (leb (places (s′ .loops)) (h .places)) (leb (length (s′ .loops)) (h .loops))
     where
       go : (u v : Bool)
-          → _≡_ {A = Chosen} (taken n o s (elim u [ true ↦ elim v [ true ↦ takes o (relimit h s′) | false ↦ refuses 10 ] | false ↦ refuses 9 ]))
+          → _≡_ {A = Chosen} (taken n o s
+          (elim u [ true ↦ elim v [ true ↦ takes o (relimit h s′) | false ↦ refuses 10 ] | false ↦ refuses 9 ]))
           (elim u [ true ↦ elim v [ true ↦ limitedTo h lss (cons o c) | false ↦ stopped 10 ] | false ↦ stopped 9 ])
       go true true = ap (cons o) e ∙ cons-limited h o lss c
       go true false = refl
@@ -102,7 +106,8 @@ module _ (h b : Most) where
   same-choices (suc n) s k = go (want s) refl (want-grown s) (λ s′. same-choices n s′)
     where
       go : (w : Want) → want s ≡ w → Grown (places (s .loops)) (length (s .loops)) w
-          → ((s′ : Packing) → Ample b n s′ → chooseAll n (relimit h s′) ≡ limitedTo h (loopsAfter n (relimit b s′)) (chooseAll n (relimit b s′)))
+          → ((s′ : Packing) → Ample b n s′
+          → chooseAll n (relimit h s′) ≡ limitedTo h (loopsAfter n (relimit b s′)) (chooseAll n (relimit b s′)))
           → chooseAll (suc n) (relimit h s) ≡ limitedTo h (loopsAfter (suc n) (relimit b s)) (chooseAll (suc n) (relimit b s))
       go idle e g again =
           let f : choose (relimit h s) ≡ ended = choose-want (relimit h s) ∙ ap (doing (relimit h s)) e in
@@ -117,7 +122,9 @@ module _ (h b : Most) where
           choose-want (relimit b s) ∙ (ap (doing (relimit b s)) e ∙ limited-takes o (relimit b s′) p l) in
           let i = again s′ (omega (arith, g .0, k .0), omega (arith, g .1, k .1)) in
           rw (loops-next n (relimit b s) (relimit b s′) o f′, all-taken n (relimit b s) (relimit b s′) o f′)
-          (all-next n (relimit h s) ∙ (ap (taken n o (relimit h s)) f ∙ next-limited n o (relimit h s) s′ (loopsAfter n (relimit b s′)) (chooseAll n (relimit b s′)) i))
+          (all-next n (relimit h s)
+          ∙ (ap (taken n o (relimit h s)) f
+          ∙ next-limited n o (relimit h s) s′ (loopsAfter n (relimit b s′)) (chooseAll n (relimit b s′)) i))
 
 -- a run without limits is not stopped; its peaks are those of the loops after each operation
 pub record Unstopped (n : ℕ) (s : Packing) : Type 0 where
@@ -132,7 +139,8 @@ unfolding chooseAll loopsAfter
 unstopped b zero s k = record { operations = []; last = relimit b s; does = refl; places = refl; loops = refl }
 unstopped b (suc n) s k = go (want s) refl (want-grown s) (λ s′. unstopped b n s′)
   where
-    go : (w : Want) → want s ≡ w → Grown (places (s .loops)) (length (s .loops)) w → ((s′ : Packing) → Ample b n s′ → Unstopped n (relimit b s′))
+    go : (w : Want) → want s ≡ w → Grown (places (s .loops)) (length (s .loops)) w
+        → ((s′ : Packing) → Ample b n s′ → Unstopped n (relimit b s′))
         → Unstopped (suc n) (relimit b s)
     go idle e g again =
         let f : choose (relimit b s) ≡ ended = choose-want (relimit b s) ∙ ap (doing (relimit b s)) e in
@@ -185,17 +193,21 @@ judged h (ls ∷ lss) c = go (leb (places ls) (h .places)) refl (leb (length ls)
     at : (u v : Bool) → leb (places ls) (h .places) ≡ u → leb (length ls) (h .loops) ≡ v
         → limitedTo h (ls ∷ lss) c ≡ elim u [ true ↦ elim v [ true ↦ limitedTo h lss c | false ↦ stopped 10 ] | false ↦ stopped 9 ]
     at u v e f =
-        ap (λ (a : Bool). elim a [ true ↦ elim (leb (length ls) (h .loops)) [ true ↦ limitedTo h lss c | false ↦ stopped 10 ] | false ↦ stopped 9 ]) e
+        ap (λ (a : Bool). elim a
+        [ true ↦ elim (leb (length ls) (h .loops)) [ true ↦ limitedTo h lss c | false ↦ stopped 10 ] | false ↦ stopped 9 ]) e
         ∙ ap (λ (a : Bool). elim u [ true ↦ elim a [ true ↦ limitedTo h lss c | false ↦ stopped 10 ] | false ↦ stopped 9 ]) f
 
     go : (u : Bool) → leb (places ls) (h .places) ≡ u → (v : Bool) → leb (length ls) (h .loops) ≡ v → Judged h lss c → Judged h (ls ∷ lss) c
     go true e true f (at-fault n k x q) =
         at-fault n k (later (leb-true (places ls) (h .places) e) (leb-true (length ls) (h .loops) f) x) (at true true e f ∙ q)
-    go true e true f (no-fault x q) = no-fault ((leb-true (places ls) (h .places) e, leb-true (length ls) (h .loops) f), x) (at true true e f ∙ q)
+    go true e true f (no-fault x q) =
+        no-fault ((leb-true (places ls) (h .places) e, leb-true (length ls) (h .loops) f), x) (at true true e f ∙ q)
     go true e false f j =
         at-fault 10 (inr refl)
-        (loops-exceeded {ls = ls} (let k = leb-true (places ls) (h .places) e in omega arith) (let k = leb-false (length ls) (h .loops) f in omega arith)) (at true false e f)
-    go false e v f j = at-fault 9 (inl refl) (places-exceeded {ls = ls} (let k = leb-false (places ls) (h .places) e in omega arith)) (at false v e f)
+        (loops-exceeded {ls = ls} (let k = leb-true (places ls) (h .places) e in omega arith)
+        (let k = leb-false (length ls) (h .loops) f in omega arith)) (at true false e f)
+    go false e v f j = at-fault 9 (inl refl) (places-exceeded {ls = ls} (let k = leb-false (places ls) (h .places) e in omega arith))
+        (at false v e f)
 
 -- what is chosen with the limits h is what is chosen without
 pub chosen-same : (h : Most) (ts : List Triangle) (os : List Operation) (s : Packing) → chosenFor h ts ≡ chosen os s
@@ -211,7 +223,8 @@ chosen-same h ts os s e = go (judged h (runLoops ts) (chosen (run-ends ts .opera
     go (no-fault x q) = let g = f ∙ q in (x, cc, cc)
 
 -- peaks keep to the limits where each operation does
-peak-kept : (w : List Ring → ℕ) (k a : ℕ) (h : Most) (lss : List (List Ring)) → a ≤ k → ((ls : List Ring) → (places ls ≤ h .places) × (length ls ≤ h .loops) → w ls ≤ k)
+peak-kept : (w : List Ring → ℕ) (k a : ℕ) (h : Most) (lss : List (List Ring)) → a ≤ k
+    → ((ls : List Ring) → (places ls ≤ h .places) × (length ls ≤ h .loops) → w ls ≤ k)
     → NoFault h lss → peakOf w a lss ≤ k
 peak-kept w k a h [] l f n = l
 peak-kept w k a h (ls ∷ lss) l f n = peak-kept w k (max a (w ls)) h lss (omega (arith, f ls (n .0))) f (n .1)

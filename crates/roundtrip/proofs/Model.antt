@@ -12,10 +12,11 @@ use Rattle.rules.specs.declared.Triangle.{Triangle}
 use Rattle.rules.specs.Triangle.{trianglesOf}
 use Rattle.rules.specs.Pack.{most, PackResult}
 use Rattle.rules.specs.Unpack.{UnpackResult}
-use Rattle.fans.specs.Corner.{In}
-use Rattle.gap.proofs.Accepted.{accepted-packable}
+use Rattle.mesh_theory.specs.Fans.Corner.{In}
+use Rattle.choice_theory.proofs.Runs.Accepted.{accepted-packable}
 use Rattle.roundtrip.specs.Run.{buildOrder}
-use Rattle.roundtrip.specs.Claims.{renumbered, Rearranged, OneToOne, written, newNumber, EachOnce, SameTriangles, SameTrianglesSameModel}
+use Rattle.roundtrip.specs.Claims.{renumbered, Rearranged, OneToOne, written, newNumber, EachOnce, SameTriangles}
+use Rattle.roundtrip.specs.Claims.{SameTrianglesSameModel}
 use Rattle.roundtrip.proofs.Renumber.{renumbered-agree, renumbered-twice, length-renumbered, renumbered-in, Had, in-renumbered}
 use Rattle.roundtrip.proofs.Results.{packed-by}
 use Rattle.roundtrip.proofs.Starts.{no-more}
@@ -30,7 +31,8 @@ inverse-at : (v : ℕ) (g : ℕ → ℕ) → OneToOne v g → (n x : ℕ) → n 
 inverse-at v g o zero x h l = absurd (omega arith)
 inverse-at v g o (suc n) x h l = go (eqb (g n) (g x)) refl (inverse-at v g o n x (omega arith))
   where
-    go : (t : Bool) → eqb (g n) (g x) ≡ t → (x < n → inverse g n (g x) ≡ x) → _≡_ {A = ℕ} (elim t [ true ↦ n | false ↦ inverse g n (g x) ]) x
+    go : (t : Bool) → eqb (g n) (g x) ≡ t → (x < n → inverse g n (g x) ≡ x)
+        → _≡_ {A = ℕ} (elim t [ true ↦ n | false ↦ inverse g n (g x) ]) x
     go true e ih = o .tells n x (omega arith) (omega arith) (eqb-true (g n) (g x) e)
     go false e ih = ih (let k = apart in omega arith)
       where
@@ -49,7 +51,8 @@ module _ (v : ℕ) (g h : ℕ → ℕ) (one : OneToOne v g) (two : OneToOne v h)
   between-one = record { below = low; tells = tell; onto = at }
     where
       low : (n : ℕ) → n < v → between n < v
-      low n l = let o = one .onto n l in subst (λ (k : ℕ). between k < v) (o .2) (subst (λ (k : ℕ). k < v) (sym (between-at (o .0) (o .1))) (two .below (o .0) (o .1)))
+      low n l = let o = one .onto n l in
+          subst (λ (k : ℕ). between k < v) (o .2) (subst (λ (k : ℕ). k < v) (sym (between-at (o .0) (o .1))) (two .below (o .0) (o .1)))
 
       tell : (m n : ℕ) → m < v → n < v → between m ≡ between n → m ≡ n
       tell m n k l e =
@@ -63,13 +66,15 @@ module _ (v : ℕ) (g h : ℕ → ℕ) (one : OneToOne v g) (two : OneToOne v h)
       at n l = let o = two .onto n l in (g (o .0), one .below (o .0) (o .1), between-at (o .0) (o .1) ∙ o .2)
 
 -- the same triangles under one numbering
-renumbered-same : (f : ℕ → ℕ) (ts us : List Triangle) → ((x y z : ℕ) → In x y z ts → In x y z us) → (x y z : ℕ) → In x y z (renumbered f ts) → In x y z (renumbered f us)
+renumbered-same : (f : ℕ → ℕ) (ts us : List Triangle) → ((x y z : ℕ) → In x y z ts → In x y z us) → (x y z : ℕ) → In x y z (renumbered f ts)
+    → In x y z (renumbered f us)
 renumbered-same f ts us h x y z i = go (in-renumbered f ts x y z i)
   where
     go : Had f ts x y z → In x y z (renumbered f us)
     go r = rw (← r .x-is, ← r .y-is, ← r .z-is) (renumbered-in f us (r .u) (r .v) (r .w) (h (r .u) (r .v) (r .w) (r .had)))
 
-module _ (v : ℕ) (xs ys : List ℕ) (p q : PackResult) (a b : UnpackResult) (one : EachOnce v (trianglesOf xs) p a) (two : EachOnce v (trianglesOf ys) q b)
+module _ (v : ℕ) (xs ys : List ℕ) (p q : PackResult) (a b : UnpackResult) (one : EachOnce v (trianglesOf xs) p a)
+    (two : EachOnce v (trianglesOf ys) q b)
     (same : SameTriangles xs ys) (count : length (trianglesOf xs) ≡ length (trianglesOf ys))
     (below : (x y z : ℕ) → In x y z (trianglesOf xs) → x < v) where
   abbrev change : ℕ → ℕ
@@ -80,7 +85,8 @@ module _ (v : ℕ) (xs ys : List ℕ) (p q : PackResult) (a b : UnpackResult) (o
       ap (renumbered change) (one .unpacked)
       ∙ (renumbered-twice change (newNumber p) (buildOrder (trianglesOf xs))
       ∙ renumbered-agree (λ x. change (newNumber p x)) (newNumber q) (buildOrder (trianglesOf xs))
-      (λ x y z i. between-at v (newNumber p) (newNumber q) (one .numbering) (two .numbering) x (below x y z (one .rearranged .all x y z .1 i))))
+      (λ x y z i. between-at v (newNumber p) (newNumber q) (one .numbering) (two .numbering) x
+      (below x y z (one .rearranged .all x y z .1 i))))
 
   there : (x y z : ℕ) → In x y z (buildOrder (trianglesOf xs)) → In x y z (buildOrder (trianglesOf ys))
   there x y z i = two .rearranged .all x y z .0 (same x y z .0 (one .rearranged .all x y z .1 i))
@@ -103,8 +109,10 @@ module _ (v : ℕ) (xs ys : List ℕ) (p q : PackResult) (a b : UnpackResult) (o
               count,
             );
         all = λ x y z. (
-          λ i. subst (In x y z) (sym (two .unpacked)) (renumbered-same (newNumber q) (buildOrder (trianglesOf xs)) (buildOrder (trianglesOf ys)) there x y z i),
-          λ i. renumbered-same (newNumber q) (buildOrder (trianglesOf ys)) (buildOrder (trianglesOf xs)) back x y z (subst (In x y z) (two .unpacked) i),
+          λ i. subst (In x y z) (sym (two .unpacked))
+              (renumbered-same (newNumber q) (buildOrder (trianglesOf xs)) (buildOrder (trianglesOf ys)) there x y z i),
+          λ i. renumbered-same (newNumber q) (buildOrder (trianglesOf ys)) (buildOrder (trianglesOf xs)) back x y z
+              (subst (In x y z) (two .unpacked) i),
         );
         once = two .once;
       })
@@ -118,7 +126,12 @@ same-triangles-same-model v xs ys r q n m e f same r′ q′ a b =
     let ok = accepted-packable v xs (p .accepted) in
     let ok′ = accepted-packable v ys (p′ .accepted) in
     let k : length (trianglesOf xs) ≡ length (trianglesOf ys) =
-    omega (arith, no-more (trianglesOf xs) (trianglesOf ys) (ok .once) (ok′ .once) (λ x y z. same x y z .0), no-more (trianglesOf ys) (trianglesOf xs) (ok′ .once) (ok .once) (λ x y z. same x y z .1)) in (
+    omega (
+      arith,
+      no-more (trianglesOf xs) (trianglesOf ys) (ok .once) (ok′ .once) (λ x y z. same x y z .0),
+      no-more (trianglesOf ys)
+          (trianglesOf xs) (ok′ .once) (ok .once) (λ x y z. same x y z .1),
+    ) in (
       change v xs ys _ _ _ _ one two same k (ok .below),
       between-one v _ _ (one .numbering) (two .numbering),
       same-model v xs ys _ _ _ _ one two same k (ok .below),

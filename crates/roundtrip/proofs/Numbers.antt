@@ -13,7 +13,7 @@ use borrow.Author.Tests.{eq-eqb, ne-eqb}
 use Rattle.rules.specs.Count.{num, same, occurs}
 use Rattle.rules.specs.Choice.{has}
 use Rattle.rules.specs.Pack.{indexOf, newNumbers}
-use Rattle.gap.proofs.Tracking.{upTo}
+use Rattle.choice_theory.proofs.Runs.Tracking.{upTo}
 
 pub getD-front : (xs ys : List ℕ) (i : ℕ) → i < length xs → getD (xs ++ ys) i 0 ≡ getD xs i 0
 getD-front [] ys i h = absurd (omega arith)
@@ -31,7 +31,8 @@ unfolding newNumbers
 new-at zero x vs h = absurd (omega arith)
 new-at (suc n) x vs h = go (decLe (suc x) n) (new-at n x vs)
   where
-    go : Dec (suc x ≤ n) → (x < n → getD (newNumbers n vs) x 0 ≡ indexOf x vs) → getD (newNumbers n vs ++ (indexOf n vs ∷ [])) x 0 ≡ indexOf x vs
+    go : Dec (suc x ≤ n) → (x < n → getD (newNumbers n vs) x 0 ≡ indexOf x vs)
+        → getD (newNumbers n vs ++ (indexOf n vs ∷ [])) x 0 ≡ indexOf x vs
     go (yes l) ih = getD-front (newNumbers n vs) (indexOf n vs ∷ []) x (omega (arith, length-new n vs)) ∙ ih l
     go (no l) ih =
         let e : n ≡ x = omega arith in
@@ -88,7 +89,8 @@ unfolding indexOf
 index-front x [] ws h = absurd (omega arith)
 index-front x (v ∷ vs) ws h = go (eqb x v) (index-front x vs ws) h
   where
-    go : (t : Bool) → (indexOf x vs < length vs → indexOf x (vs ++ ws) ≡ indexOf x vs) → elim t [ true ↦ 0 | false ↦ suc (indexOf x vs) ] < suc (length vs)
+    go : (t : Bool) → (indexOf x vs < length vs → indexOf x (vs ++ ws) ≡ indexOf x vs)
+        → elim t [ true ↦ 0 | false ↦ suc (indexOf x vs) ] < suc (length vs)
         → _≡_ {A = ℕ} (elim t [ true ↦ 0 | false ↦ suc (indexOf x (vs ++ ws)) ]) (elim t [ true ↦ 0 | false ↦ suc (indexOf x vs) ])
     go true ih g = refl
     go false ih g = ap suc (ih (omega arith))
@@ -117,4 +119,5 @@ index-up (suc n) x h = go (decLe (suc x) n) (index-up n x)
     go (no l) ih =
         let e : n ≡ x = omega arith in
         ap (λ (k : ℕ). indexOf x (upTo n ++ (k ∷ []))) e
-        ∙ (index-after x (upTo n) [] (λ k g q. (let z = up-at n k (omega (arith, length-up n)) in omega (arith, length-up n))) ∙ (length-up n ∙ e))
+        ∙ (index-after x (upTo n) [] (λ k g q. (let z = up-at n k (omega (arith, length-up n)) in omega (arith, length-up n)))
+        ∙ (length-up n ∙ e))

@@ -8,23 +8,23 @@ use lib.ListN.{length}
 use Rattle.rules.specs.declared.Triangle.{Triangle}
 use Rattle.rules.specs.Ring.{Node, Ring, vertex}
 use Rattle.rules.specs.Choice.{turnIn, turnOut, sizeOf, following}
-use Rattle.fans.specs.Corner.{Rot, at-p, In, here, there}
-use Rattle.fans.specs.Neighbours.{Neighbours}
-use Rattle.shown.specs.Shown.{shownAll, Live}
-use Rattle.gap.specs.Turn.{Unused, Links, stop, link}
-use Rattle.gap.specs.Spots.{OpenAt, Unique, Site, seat}
-use Rattle.gap.specs.Trace.{triangleAt}
-use Rattle.fans.proofs.Corners.{rot-next}
-use Rattle.gap.proofs.Links.{free-rot, turn-cases, Jumped}
-use Rattle.gap.proofs.Core.{Blocked, one-way}
-use Rattle.gap.proofs.Cuts.{links-behind, links-front}
-use Rattle.gap.proofs.Turning.{turn-in, turn-out}
-use Rattle.gap.proofs.Places.{spotted-holds, spotted-seen, place-leaving}
-use Rattle.gap.proofs.Exists.{Used, PlaceOf}
-use Rattle.gap.proofs.Choice.{open-enter, open-leave}
-use Rattle.gap.proofs.Showing.{open-full, unique-shown}
-use Rattle.gap.proofs.Canonical.{State, shown-used}
-use Rattle.gap.proofs.Packing.{Packs}
+use Rattle.mesh_theory.specs.Fans.Corner.{Rot, at-p, In, here, there}
+use Rattle.mesh_theory.specs.Fans.Neighbours.{Neighbours}
+use Rattle.book.specs.Shown.{shownAll, Live}
+use Rattle.choice_theory.specs.Turn.{Unused, Links, stop, link}
+use Rattle.choice_theory.specs.Spots.{OpenAt, Unique, Site, seat}
+use Rattle.choice_theory.specs.Trace.{triangleAt}
+use Rattle.mesh_theory.proofs.Fans.Corners.{rot-next}
+use Rattle.choice_theory.proofs.Turning.Links.{free-rot, turn-cases, Jumped}
+use Rattle.choice_theory.proofs.Turning.Core.{Blocked, one-way}
+use Rattle.choice_theory.proofs.Turning.Cuts.{links-behind, links-front}
+use Rattle.choice_theory.proofs.Turning.Ways.{turn-in, turn-out}
+use Rattle.choice_theory.proofs.Places.Ends.{spotted-holds, spotted-seen, place-leaving}
+use Rattle.choice_theory.proofs.Places.Exists.{Used, PlaceOf}
+use Rattle.choice_theory.proofs.Turning.Choice.{open-enter, open-leave}
+use Rattle.choice_theory.proofs.Places.Showing.{open-full, unique-shown}
+use Rattle.choice_theory.proofs.Runs.Canonical.{State, shown-used}
+use Rattle.choice_theory.proofs.Steps.Choice.{Packs}
 use Rattle.rules.specs.Right.{RightPlace, by-entering, by-leaving}
 
 pub links-map : {c x y : ℕ} {ts us : List Triangle} → ((v w : ℕ) → In c v w ts → In c v w us) → Links c ts x y → Links c us x y
@@ -103,7 +103,8 @@ module _ (M R B : List Triangle) (e f : Node) (ps : List Node) (ws : List Ring) 
       go (inl w) = by-entering (n .x) (seen .from) (entering-open w) (seen .next) w
       go (inr w) = by-leaving (n .y) (leaving-open (w .1)) (w .1)
 
-  only-entering : (l j x : ℕ) → OpenAt (shownAll ((e ∷ (f ∷ ps)) ∷ ws)) l j x c → Links c R x (vertex f) → (l ≡ n .ring) × (following (sizeOf (shownAll ((e ∷ (f ∷ ps)) ∷ ws)) l) j ≡ seat (n .spot))
+  only-entering : (l j x : ℕ) → OpenAt (shownAll ((e ∷ (f ∷ ps)) ∷ ws)) l j x c → Links c R x (vertex f)
+      → (l ≡ n .ring) × (following (sizeOf (shownAll ((e ∷ (f ∷ ps)) ∷ ws)) l) j ≡ seat (n .spot))
   only-entering l j x o w = go (turn-cases (n .back))
     where
       u : (z : ℕ) × In x c z B
@@ -112,7 +113,8 @@ module _ (M R B : List Triangle) (e f : Node) (ps : List Node) (ws : List Ring) 
       end : turnIn (length R) c (vertex f) R ≡ x
       end = turn-in R (st .once .2) (free x c (u .0) (u .1)) w
 
-      go : Links c R (n .x) (vertex f) ⊎ Jumped M c R (n .x) (vertex f) → (l ≡ n .ring) × (following (sizeOf (shownAll ((e ∷ (f ∷ ps)) ∷ ws)) l) j ≡ seat (n .spot))
+      go : Links c R (n .x) (vertex f) ⊎ Jumped M c R (n .x) (vertex f)
+          → (l ≡ n .ring) × (following (sizeOf (shownAll ((e ∷ (f ∷ ps)) ∷ ws)) l) j ≡ seat (n .spot))
       go (inl k) =
           let q : n .x ≡ x = sym (turn-in R (st .once .2) (free (n .x) c (used .0 .0) (used .0 .1)) k) ∙ end in
           let s = unique x c l j (n .ring) (seen .from) o (subst (λ (v : ℕ). OpenAt ls (n .ring) (seen .from) v c) q (entering-open k)) in
@@ -121,7 +123,8 @@ module _ (M R B : List Triangle) (e f : Node) (ps : List Node) (ws : List Ring) 
           let q : k .to ≡ x = sym (turn-in R (st .once .2) (λ v i. k .back v (sub _ _ _ i)) (k .after)) ∙ end in
           absurd (k .back (u .0) (subst (λ (v : ℕ). In v c (u .0) M) (sym q) (st .subB _ _ _ (u .1))))
 
-  only-leaving : (l i y : ℕ) → OpenAt (shownAll ((e ∷ (f ∷ ps)) ∷ ws)) l i c y → Links c R (vertex e) y → (l ≡ n .ring) × (i ≡ seat (n .spot))
+  only-leaving : (l i y : ℕ) → OpenAt (shownAll ((e ∷ (f ∷ ps)) ∷ ws)) l i c y → Links c R (vertex e) y
+      → (l ≡ n .ring) × (i ≡ seat (n .spot))
   only-leaving l i y o w = go (turn-cases (n .on))
     where
       u : (z : ℕ) × In c y z B
@@ -155,6 +158,7 @@ module _ (M R B : List Triangle) (e f : Node) (ps : List Node) (ws : List Ring) 
       go (inl k) = k
       go (inr k) = k
 
-  pub only-right : (l i : ℕ) → RightPlace (triangleAt e f c ∷ R) (shownAll ((e ∷ (f ∷ ps)) ∷ ws)) (vertex e) (vertex f) c l i → (l ≡ n .ring) × (i ≡ seat (n .spot))
+  pub only-right : (l i : ℕ) → RightPlace (triangleAt e f c ∷ R) (shownAll ((e ∷ (f ∷ ps)) ∷ ws)) (vertex e) (vertex f) c l i
+      → (l ≡ n .ring) × (i ≡ seat (n .spot))
   only-right l i (by-entering x j o q w) = let k = only-entering l j x o (front w) in (k .0, sym q ∙ k .1)
   only-right l i (by-leaving y o w) = only-leaving l i y o (behind w)

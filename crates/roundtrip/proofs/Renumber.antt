@@ -6,8 +6,8 @@ use mathlib.Core.Path.{_≡_, refl, ap, ap₂}
 use lib.ListN.{length}
 use Rattle.rules.specs.declared.Triangle.{Triangle}
 use Rattle.rules.specs.Triangle.{tri}
-use Rattle.fans.specs.Corner.{at-p, at-q, at-r, In, here, there}
-use Rattle.gap.proofs.Renaming.{triangles}
+use Rattle.mesh_theory.specs.Fans.Corner.{at-p, at-q, at-r, In, here, there}
+use Rattle.choice_theory.proofs.Places.Renaming.{triangles}
 use Rattle.roundtrip.specs.Claims.{renumbered}
 
 pub named-is-renumbered : (f : ℕ → ℕ) (ts : List Triangle) → triangles f ts ≡ renumbered f ts
@@ -21,7 +21,8 @@ renumbered-agree f g (t ∷ ts) h =
     let p = h (t .p) (t .q) (t .r) (here (at-p refl refl refl)) in
     let q = h (t .q) (t .r) (t .p) (here (at-q refl refl refl)) in
     let r = h (t .r) (t .p) (t .q) (here (at-r refl refl refl)) in
-    ap₂ (λ (x : Triangle) (xs : List Triangle). x ∷ xs) (λ i. tri (p i) (q i) (r i)) (renumbered-agree f g ts (λ x y z j. h x y z (there j)))
+    ap₂ (λ (x : Triangle) (xs : List Triangle). x ∷ xs) (λ i. tri (p i) (q i) (r i))
+    (renumbered-agree f g ts (λ x y z j. h x y z (there j)))
 
 pub renumbered-twice : (f g : ℕ → ℕ) (ts : List Triangle) → renumbered f (renumbered g ts) ≡ renumbered (λ x. f (g x)) ts
 renumbered-twice f g [] = refl
@@ -48,9 +49,12 @@ pub record Had (f : ℕ → ℕ) (ts : List Triangle) (x y z : ℕ) : Type 0 whe
   pub z-is : f w ≡ z
 
 pub in-renumbered : (f : ℕ → ℕ) (ts : List Triangle) (x y z : ℕ) → In x y z (renumbered f ts) → Had f ts x y z
-in-renumbered f (t ∷ ts) x y z (here (at-p a b c)) = record { u = t .p; v = t .q; w = t .r; had = here (at-p refl refl refl); x-is = a; y-is = b; z-is = c }
-in-renumbered f (t ∷ ts) x y z (here (at-q a b c)) = record { u = t .q; v = t .r; w = t .p; had = here (at-q refl refl refl); x-is = a; y-is = b; z-is = c }
-in-renumbered f (t ∷ ts) x y z (here (at-r a b c)) = record { u = t .r; v = t .p; w = t .q; had = here (at-r refl refl refl); x-is = a; y-is = b; z-is = c }
+in-renumbered f (t ∷ ts) x y z (here (at-p a b c)) =
+    record { u = t .p; v = t .q; w = t .r; had = here (at-p refl refl refl); x-is = a; y-is = b; z-is = c }
+in-renumbered f (t ∷ ts) x y z (here (at-q a b c)) =
+    record { u = t .q; v = t .r; w = t .p; had = here (at-q refl refl refl); x-is = a; y-is = b; z-is = c }
+in-renumbered f (t ∷ ts) x y z (here (at-r a b c)) =
+    record { u = t .r; v = t .p; w = t .q; had = here (at-r refl refl refl); x-is = a; y-is = b; z-is = c }
 in-renumbered f (t ∷ ts) x y z (there i) =
     let r = in-renumbered f ts x y z i in
     record { u = r .u; v = r .v; w = r .w; had = there (r .had); x-is = r .x-is; y-is = r .y-is; z-is = r .z-is }

@@ -21,12 +21,14 @@ use Rattle.rules.specs.Machine.{Machine, asStated, longEnough, totals}
 use Rattle.rules.specs.Answer.{Answer, refusal, accepted, triangle, no-triangle, numbers, packed, unpacked}
 use Rattle.rules.specs.Fields.{Fields, no-pack, fields, fieldsOf}
 use Rattle.rules.specs.Choice.{Packing}
-use Rattle.rules.specs.Pack.{Chosen, stopped, chosen, Most, chosenFor, packOf, newNumbers, PackBuffers, PackResult, packRefused, packDone, packStored, packChosen, packLongEnough, packChecked, packWithin}
+use Rattle.rules.specs.Pack.{Chosen, stopped, chosen, Most, chosenFor, packOf, newNumbers, PackBuffers, PackResult, packRefused, packDone}
+use Rattle.rules.specs.Pack.{packStored, packChosen, packLongEnough, packChecked, packWithin}
 use Rattle.rules.specs.Pack as P
 use Rattle.rules.specs.Buffer.{Buffers, lengths}
 use Rattle.rules.specs.Unpack as U
-use Rattle.rules.specs.Unpack.{Ran, completed, runOf, restFits, UnpackResult, unpackRefused, unpackDone, unpackEnded, unpackRun, unpackFields, unpack}
-use Rattle.gap.proofs.Bools.{and-true}
+use Rattle.rules.specs.Unpack.{Ran, completed, runOf, restFits, UnpackResult, unpackRefused, unpackDone, unpackEnded, unpackRun}
+use Rattle.rules.specs.Unpack.{unpackFields, unpack}
+use Rattle.counting.proofs.Bools.{and-true}
 
 -- a packing that was not refused
 pub record PackedBy (h : Most) (v : ℕ) (xs : List ℕ) (r : PackBuffers) (n : ℕ) : Type 0 where
@@ -78,7 +80,8 @@ not-packed n k e = let z : _≡_ {A = ℕ} 0 5 = ap kind e in omega arith
 not-unpacked : (m : Model) (k : ℕ) → refusal k ≡ unpacked m → ⊥
 not-unpacked m k e = let z : _≡_ {A = ℕ} 0 6 = ap kind e in omega arith
 
-pub stored-done : (v : ℕ) (ns bytes : List ℕ) (r : PackBuffers) → leb (length bytes) (length (r .pack)) ≡ true → packStored v ns bytes r ≡ packDone ns bytes r
+pub stored-done : (v : ℕ) (ns bytes : List ℕ) (r : PackBuffers) → leb (length bytes) (length (r .pack)) ≡ true
+    → packStored v ns bytes r ≡ packDone ns bytes r
 stored-done v ns bytes r h = ap (λ (t : Bool). elim t [ true ↦ packDone ns bytes r | false ↦ packRefused 11 v r ]) h
 
 pub stored-refused : (v : ℕ) (ns bytes : List ℕ) (r : PackBuffers) → leb (length bytes) (length (r .pack)) ≡ false
@@ -97,9 +100,12 @@ pub packed-by : (h : Most) (v : ℕ) (xs : List ℕ) (r : PackBuffers) (n : ℕ)
 unfolding packChecked packChosen
 packed-by h v xs r n e = at-check (check v xs) refl e
   where
-    at-store : (os : List Operation) (s : Packing) (t : Bool) → check v xs ≡ Accepted → packLongEnough v r ≡ true → chosenFor h (trianglesOf xs) ≡ chosen os s
+    at-store : (os : List Operation) (s : Packing) (t : Bool) → check v xs ≡ Accepted → packLongEnough v r ≡ true
+        → chosenFor h (trianglesOf xs) ≡ chosen os s
         → leb (length (packOf v (trianglesOf xs) os s)) (length (r .pack)) ≡ t
-        → _≡_ {A = Answer} (packAnswer (elim t [ true ↦ packDone (newNumbers v (s .numbered)) (packOf v (trianglesOf xs) os s) r | false ↦ packRefused 11 v r ])) (packed n)
+        → _≡_ {A = Answer} (packAnswer
+        (elim t [ true ↦ packDone (newNumbers v (s .numbered)) (packOf v (trianglesOf xs) os s) r | false ↦ packRefused 11 v r ]))
+        (packed n)
         → PackedBy h v xs r n
     at-store os s true a k c l q = record {
       accepted = a;
@@ -121,7 +127,8 @@ packed-by h v xs r n e = at-check (check v xs) refl e
     at-chosen (chosen os s) a b c q = at-store os s (leb (length (packOf v (trianglesOf xs) os s)) (length (r .pack))) a b c refl q
 
     at-enough : (t : Bool) → check v xs ≡ Accepted → packLongEnough v r ≡ t
-        → _≡_ {A = Answer} (packAnswer (elim t [ true ↦ packChosen v (trianglesOf xs) r (chosenFor h (trianglesOf xs)) | false ↦ P.turnedDown 8 r ])) (packed n)
+        → _≡_ {A = Answer} (packAnswer
+        (elim t [ true ↦ packChosen v (trianglesOf xs) r (chosenFor h (trianglesOf xs)) | false ↦ P.turnedDown 8 r ])) (packed n)
         → PackedBy h v xs r n
     at-enough true a k q = at-chosen (chosenFor h (trianglesOf xs)) a k refl q
     at-enough false a k q = absurd (not-packed n 8 q)
@@ -156,7 +163,8 @@ ended-done s r e b h k =
     ∙ ap (λ (t : Bool). elim t [ true ↦ unpackDone s (totals e) (e .triangles) r | false ↦ unpackRefused 20 s r ]) k
 
 -- bytes that pass 12 to 14
-pub fields-run : (bytes : List ℕ) (r : Buffers) (s : Counts) (ops : List ℕ) → fieldsOf bytes ≡ fields s ops → inRange s ≡ true → longEnough (lengths r) s ≡ true
+pub fields-run : (bytes : List ℕ) (r : Buffers) (s : Counts) (ops : List ℕ) → fieldsOf bytes ≡ fields s ops → inRange s ≡ true
+    → longEnough (lengths r) s ≡ true
     → unpack bytes r ≡ unpackRun s r (runOf s ops)
 unfolding unpackFields
 fields-run bytes r s ops f i k =
@@ -171,7 +179,8 @@ pub unpacked-by : (bytes : List ℕ) (r : Buffers) (m : Model) → unpack bytes 
 unfolding unpackFields unpackRun
 unpacked-by bytes r m e = at-fields (fieldsOf bytes) refl e
   where
-    at-end : (s : Counts) (ops : List ℕ) (k : Machine) (ys : List ℕ) (t u : Bool) → fieldsOf bytes ≡ fields s ops → inRange s ≡ true → longEnough (lengths r) s ≡ true
+    at-end : (s : Counts) (ops : List ℕ) (k : Machine) (ys : List ℕ) (t u : Bool) → fieldsOf bytes ≡ fields s ops → inRange s ≡ true
+        → longEnough (lengths r) s ≡ true
         → runOf s ops ≡ completed k ys → restFits ys && asStated k ≡ t → oneFanEach (k .used) (k .triangles) ≡ u
         → _≡_ {A = Answer}
         (unpackAnswer (elim t [
@@ -200,14 +209,20 @@ unpacked-by bytes r m e = at-fields (fieldsOf bytes) refl e
     at-end s ops k ys true false f i w d a b q = absurd (not-unpacked m 20 q)
     at-end s ops k ys false u f i w d a b q = absurd (not-unpacked m 19 q)
 
-    at-run : (s : Counts) (ops : List ℕ) (x : Ran) → fieldsOf bytes ≡ fields s ops → inRange s ≡ true → longEnough (lengths r) s ≡ true → runOf s ops ≡ x
+    at-run : (s : Counts) (ops : List ℕ) (x : Ran) → fieldsOf bytes ≡ fields s ops → inRange s ≡ true → longEnough (lengths r) s ≡ true
+        → runOf s ops ≡ x
         → unpackRun s r x .answer ≡ unpacked m → UnpackedBy bytes r m
     at-run s ops (U.stopped n) f i w d q = absurd (not-unpacked m n q)
-    at-run s ops (completed k ys) f i w d q = at-end s ops k ys (restFits ys && asStated k) (oneFanEach (k .used) (k .triangles)) f i w d refl refl q
+    at-run s ops (completed k ys) f i w d q =
+        at-end s ops k ys (restFits ys && asStated k) (oneFanEach (k .used) (k .triangles)) f i w d refl refl q
 
     at-counts : (s : Counts) (ops : List ℕ) (t u : Bool) → fieldsOf bytes ≡ fields s ops → inRange s ≡ t → longEnough (lengths r) s ≡ u
         → _≡_ {A = Answer}
-        (unpackAnswer (elim t [ true ↦ elim u [ true ↦ unpackRun s r (runOf s ops) | false ↦ U.turnedDown 14 r ] | false ↦ U.turnedDown 13 r ])) (unpacked m)
+        (unpackAnswer (elim t [
+          | true ↦ elim u [ true ↦ unpackRun s r (runOf s ops) | false ↦ U.turnedDown 14 r ]
+          | false ↦
+              U.turnedDown 13 r
+        ])) (unpacked m)
         → UnpackedBy bytes r m
     at-counts s ops true true f i w q = at-run s ops (runOf s ops) f i w refl q
     at-counts s ops true false f i w q = absurd (not-unpacked m 14 q)

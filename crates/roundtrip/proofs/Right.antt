@@ -18,30 +18,30 @@ use Rattle.rules.specs.Ring.{Node, Ring, vertex, isOpen, startOr, reached, plac
 use Rattle.rules.specs.Table.{glued, builds, atEdge, effect, edgeRule}
 use Rattle.rules.specs.Choice.{Packing, Next, refuses, takes, has, operationFor, choosePlace, packingAfter, limited, choose, afterCurrent}
 use Rattle.rules.specs.Pack.{Most}
-use Rattle.fans.specs.Corner.{In, Once}
-use Rattle.fans.specs.Neighbours.{Neighbours}
-use Rattle.shown.specs.Shown.{shownAll, Live}
-use Rattle.shown.proofs.Shown.{reached-first}
-use Rattle.shown.specs.Effects.{buildingOf}
-use Rattle.gap.specs.Turn.{Unused}
-use Rattle.gap.specs.Spots.{seat}
-use Rattle.gap.specs.Trace.{triangleAt}
-use Rattle.gap.specs.Tally.{gluesA, gluesB, sideOf, newNumbers, unionsOf}
-use Rattle.gap.proofs.Links.{once-func}
-use Rattle.gap.proofs.Turning.{others, others-sub, across-some, across-none, look}
-use Rattle.gap.proofs.Dropping.{drop-others}
-use Rattle.gap.proofs.Exists.{PlaceOf}
-use Rattle.gap.proofs.Allowing.{Allowed}
-use Rattle.gap.proofs.Packing.{Packs, choice-place, place, place-allowed}
-use Rattle.gap.proofs.Rules.{rule-of}
-use Rattle.gap.proofs.Steps.{Keeps, packs, Packed, pack-old}
-use Rattle.gap.proofs.Bordering.{border-free}
-use Rattle.gap.proofs.Taking.{out, keeps-take}
-use Rattle.gap.proofs.Progress.{AllGood, good-live}
-use Rattle.gap.proofs.Effects.{allows, allows-any}
-use Rattle.gap.proofs.Choosing.{Fits, GoesOn, choose-old, no-new, choose-step}
-use Rattle.gap.proofs.Whole.{choose-ended, fits-begin}
-use Rattle.gap.proofs.Accepted.{Packable, accepted-packable}
+use Rattle.mesh_theory.specs.Fans.Corner.{In, Once}
+use Rattle.mesh_theory.specs.Fans.Neighbours.{Neighbours}
+use Rattle.book.specs.Shown.{shownAll, Live}
+use Rattle.book.proofs.Shown.{reached-first}
+use Rattle.book.specs.Parts.{buildingOf}
+use Rattle.choice_theory.specs.Turn.{Unused}
+use Rattle.choice_theory.specs.Spots.{seat}
+use Rattle.choice_theory.specs.Trace.{triangleAt}
+use Rattle.choice_theory.specs.Tally.{gluesA, gluesB, sideOf, newNumbers, unionsOf}
+use Rattle.choice_theory.proofs.Turning.Links.{once-func}
+use Rattle.choice_theory.proofs.Turning.Ways.{others, others-sub, across-some, across-none, look}
+use Rattle.choice_theory.proofs.Turning.Dropping.{drop-others}
+use Rattle.choice_theory.proofs.Places.Exists.{PlaceOf}
+use Rattle.choice_theory.proofs.Steps.Allowing.{Allowed}
+use Rattle.choice_theory.proofs.Steps.Choice.{Packs, choice-place, place, place-allowed}
+use Rattle.choice_theory.proofs.Steps.Rules.{rule-of}
+use Rattle.choice_theory.proofs.Steps.Triangle.{Keeps, packs, Packed, pack-old}
+use Rattle.choice_theory.proofs.Steps.Bordering.{border-free}
+use Rattle.choice_theory.proofs.Turning.Taking.{out, keeps-take}
+use Rattle.choice_theory.proofs.Steps.Progress.{AllGood, good-live}
+use Rattle.choice_theory.proofs.Steps.Effects.{allows, allows-any}
+use Rattle.choice_theory.proofs.Steps.Choosing.{Fits, GoesOn, choose-old, no-new, choose-step}
+use Rattle.choice_theory.proofs.Runs.Whole.{choose-ended, fits-begin}
+use Rattle.choice_theory.proofs.Runs.Accepted.{Packable, accepted-packable}
 use Rattle.roundtrip.specs.Run.{Reached, begins, goes-on}
 use Rattle.rules.specs.Right.{RightPlace, by-entering, by-leaving}
 use Rattle.roundtrip.specs.Claims.{Built, RightChoice, OnePlaceIsRight}
@@ -52,7 +52,8 @@ taken-is : (o o′ : Operation) (s s′ : Packing) → limited o s ≡ takes o�
 unfolding limited
 taken-is o o′ s s′ = go (leb (places (s .loops)) (s .limitPlaces)) (leb (length (s .loops)) (s .limitLoops))
   where
-    go : (u v : Bool) → _≡_ {A = Next} (elim u [ true ↦ elim v [ true ↦ takes o s | false ↦ refuses 10 ] | false ↦ refuses 9 ]) (takes o′ s′) → s′ ≡ s
+    go : (u v : Bool) → _≡_ {A = Next} (elim u [ true ↦ elim v [ true ↦ takes o s | false ↦ refuses 10 ] | false ↦ refuses 9 ])
+        (takes o′ s′) → s′ ≡ s
     go true true e = cc
     go true false e = let z : _≡_ {A = ℕ} 0 1 = cc in absurd (omega arith)
     go false v e = let z : _≡_ {A = ℕ} 0 1 = cc in absurd (omega arith)
@@ -64,7 +65,8 @@ pub record Holds (ts : List Triangle) (s : Packing) : Type 0 where
   pub fits : Fits s built rims
   pub mesh : s .mesh ≡ ts
 
-holds-next : (ts : List Triangle) (s s′ : Packing) (o : Operation) → ((c : ℕ) → Neighbours ts c) → Holds ts s → choose s ≡ takes o s′ → Holds ts s′
+holds-next : (ts : List Triangle) (s s′ : Packing) (o : Operation) → ((c : ℕ) → Neighbours ts c) → Holds ts s → choose s ≡ takes o s′
+    → Holds ts s′
 holds-next ts s s′ o fan k e =
     go (choose-step s (k .built) (k .rims) (k .fits) (subst (λ (M : List Triangle). (c : ℕ) → Neighbours M c) (sym (k .mesh)) fan))
   where
@@ -78,13 +80,16 @@ pub holds : (h : Most) (ts : List Triangle) (s : Packing) → Once ts → ((c : 
 holds h ts s o fan begins = record { built = []; rims = []; fits = fits-begin h ts o; mesh = refl }
 holds h ts s o fan (goes-on {s = s₀} {o = op} r e) = holds-next ts s₀ s op fan (holds h ts s₀ o fan r) e
 
-right-map : {a b c l i : ℕ} {ls : List Ring} {ts us : List Triangle} → ((v w : ℕ) → In c v w ts → In c v w us) → RightPlace ts ls a b c l i → RightPlace us ls a b c l i
+right-map : {a b c l i : ℕ} {ls : List Ring} {ts us : List Triangle} → ((v w : ℕ) → In c v w ts → In c v w us) → RightPlace ts ls a b c l i
+    → RightPlace us ls a b c l i
 right-map g (by-entering x j o q w) = by-entering x j o q (links-map g w)
 right-map g (by-leaving y o w) = by-leaving y o (links-map g w)
 
 -- the operation for a place never gives a number
-module _ (s : Packing) (B : List Triangle) (rims : List Ring) (fit : Fits s B rims) (fan : (c : ℕ) → Neighbours (s .mesh) c) (e f : Node) (ps : List Node) (ws : List Ring)
-    (at : fit .full ≡ (e ∷ (f ∷ ps)) ∷ ws) (c m k : ℕ) (found : across (vertex f) (vertex e) (s .mesh) ≡ Found m k c) (old : has c (s .numbered) ≡ true) where
+module _ (s : Packing) (B : List Triangle) (rims : List Ring) (fit : Fits s B rims) (fan : (c : ℕ) → Neighbours (s .mesh) c) (e f : Node)
+    (ps : List Node) (ws : List Ring)
+    (at : fit .full ≡ (e ∷ (f ∷ ps)) ∷ ws) (c m k : ℕ) (found : across (vertex f) (vertex e) (s .mesh) ≡ Found m k c)
+    (old : has c (s .numbered) ≡ true) where
   abbrev a : ℕ
   a = vertex e
 
@@ -129,7 +134,8 @@ module _ (s : Packing) (B : List Triangle) (rims : List Ring) (fit : Fits s B ri
     where
       go : ((z : ℕ) × In (vertex f) (vertex e) z (s .left)) ⊎ Unused (vertex f) (vertex e) (s .left) → In (vertex f) (vertex e) c (s .left)
       go (inl j) =
-          subst (λ (v : ℕ). In (vertex f) (vertex e) v (s .left)) (once-func (s .mesh) (fit .keeps .onceM) (fit .keeps .subR _ _ _ (j .1)) in-mesh) (j .1)
+          subst (λ (v : ℕ). In (vertex f) (vertex e) v (s .left))
+          (once-func (s .mesh) (fit .keeps .onceM) (fit .keeps .subR _ _ _ (j .1)) in-mesh) (j .1)
       go (inr u) = absurd (border-free (s .mesh) (s .left) B e f ps ws rims keeps u c in-mesh)
 
   abbrev R : List Triangle
@@ -171,10 +177,12 @@ module _ (s : Packing) (B : List Triangle) (rims : List Ring) (fit : Fits s B ri
 
   same-o : packed .o ≡ al .o
   unfolding packed
-  same-o = sym (pack-old (s .mesh) R B e f ps ws rims c kept (fan c) live (let h = good .0 .1 in omega arith) (met .0) (met .1) (met .2) .1) ∙ chosen
+  same-o = sym (pack-old (s .mesh) R B e f ps ws rims c kept (fan c) live (let h = good .0 .1 in omega arith) (met .0) (met .1) (met .2) .1)
+      ∙ chosen
 
   -- the edge rule, of any list of what is built
-  rules : (C : List Triangle) → Built s C → edgeRule (tri (vertex f) (vertex e) c) glued (sideOf (gluesA (al .o))) (sideOf (gluesB (al .o))) C ≡ true
+  rules : (C : List Triangle) → Built s C
+      → edgeRule (tri (vertex f) (vertex e) c) glued (sideOf (gluesA (al .o))) (sideOf (gluesB (al .o))) C ≡ true
   rules C h =
       rule-of (tri b a c) (gluesA (al .o)) (gluesB (al .o)) C
       (record {
@@ -195,19 +203,23 @@ module _ (s : Packing) (B : List Triangle) (rims : List Ring) (fit : Fits s B ri
 
   chooses : choose s ≡ limited (operationFor (afterCurrent (s .loops)) (pl .ring) (seat (pl .spot))) after
   chooses =
-      choose-old s e f (reached ps (not (isOpen f))) (shownAll ws) (shownAll (al .ls)) R (al .o) c m k (looks ∙ first) found (drop-others b a c (s .left) i (fit .keeps .once)) old
+      choose-old s e f (reached ps (not (isOpen f))) (shownAll ws) (shownAll (al .ls)) R (al .o) c m k (looks ∙ first) found
+      (drop-others b a c (s .left) i (fit .keeps .once)) old
       (ap (choosePlace a b c R) (sym first) ∙ chosen)
-      (ap (λ (r : List Node). atEdge (al .o) c a r (shownAll ws)) (sym (reached-first f ps)) ∙ allows (al .o) e f ps ws (al .ls) c (live .1) (al .does))
+      (ap (λ (r : List Node). atEdge (al .o) c a r (shownAll ws)) (sym (reached-first f ps))
+      ∙ allows (al .o) e f ps ws (al .ls) c (live .1) (al .does))
       ∙ ap (λ (o : Operation). limited o after) (sym named)
 
   allowed : (u : ℕ) → effect (operationFor (afterCurrent (s .loops)) (pl .ring) (seat (pl .spot))) u (s .loops)
-      ≡ builds (buildingOf (shownAll (al .ls)) (tri (vertex f) (vertex e) c) glued (sideOf (gluesA (al .o))) (sideOf (gluesB (al .o))) 0 0 (unionsOf (al .o)))
+      ≡ builds (buildingOf (shownAll (al .ls)) (tri (vertex f) (vertex e) c) glued (sideOf (gluesA (al .o))) (sideOf (gluesB (al .o))) 0 0
+      (unionsOf (al .o)))
   unfolding effect
   allowed u =
       ap (λ (o : Operation). effect o u (s .loops)) named
       ∙ (ap (effect (al .o) u) looks
       ∙ (allows-any (al .o) u e f ps ws (al .ls) c (live .1) (al .does) (λ q. absurd (never-new q))
-      ∙ ap (λ (j : ℕ). builds (buildingOf (shownAll (al .ls)) (tri b a c) glued (sideOf (gluesA (al .o))) (sideOf (gluesB (al .o))) j 0 (unionsOf (al .o)))) no-numbers))
+      ∙ ap (λ (j : ℕ). builds (buildingOf (shownAll (al .ls)) (tri b a c) glued (sideOf (gluesA (al .o))) (sideOf (gluesB (al .o))) j 0
+      (unionsOf (al .o)))) no-numbers))
 
   pub right-choice : RightChoice s (vertex e) (vertex f) c
   right-choice = record {
@@ -248,5 +260,7 @@ one-place-is-right h v xs acc s r e ps ws l n k c found old = go (w .fits .full)
         ap (λ (k : List Ring). startOr (vertex e) (drop 1 (getD k 0 []))) same ∙ ap (startOr (vertex e)) (reached-first f qs) in
         subst (λ (b : ℕ). RightChoice s (vertex e) b c) (sym y)
         (subst (λ (a : ℕ). RightChoice s a (vertex f) c) (sym x)
-        (right-choice s (w .built) (w .rims) (w .fits) (subst (λ (M : List Triangle). (x : ℕ) → Neighbours M x) (sym (w .mesh)) (ok .fans)) e′ f qs vs q c n k
-        (subst (λ (b : ℕ). across b (vertex e′) (s .mesh) ≡ Found n k c) y (subst (λ (a : ℕ). across (startOr (vertex e) ps) a (s .mesh) ≡ Found n k c) x found)) old))
+        (right-choice s (w .built) (w .rims) (w .fits) (subst (λ (M : List Triangle). (x : ℕ) → Neighbours M x) (sym (w .mesh)) (ok .fans))
+        e′ f qs vs q c n k
+        (subst (λ (b : ℕ). across b (vertex e′) (s .mesh) ≡ Found n k c) y
+        (subst (λ (a : ℕ). across (startOr (vertex e) ps) a (s .mesh) ≡ Found n k c) x found)) old))

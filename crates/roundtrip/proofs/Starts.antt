@@ -15,13 +15,14 @@ use Rattle.rules.specs.Code.{operationsBits}
 use Rattle.rules.specs.Fields.{packBytes}
 use Rattle.rules.specs.Choice.{Packing}
 use Rattle.rules.specs.Pack as P
-use Rattle.rules.specs.Pack.{Chosen, stopped, chosen, chooseAll, most, nothingBuilt, chosenFor, newNumbers, PackBuffers, PackResult, packStored, packChosen, packRefused, packLongEnough, packChecked}
-use Rattle.fans.specs.Corner.{at-p, In, here, there, Once}
-use Rattle.gap.proofs.Links.{free-rot}
-use Rattle.gap.proofs.Turning.{others, others-length, others-once}
-use Rattle.gap.proofs.Taking.{out}
-use Rattle.gap.proofs.Accepted.{accepted-packable}
-use Rattle.gap.proofs.RoundTrip.{statedBy}
+use Rattle.rules.specs.Pack.{Chosen, stopped, chosen, chooseAll, most, nothingBuilt, chosenFor, newNumbers, PackBuffers, PackResult}
+use Rattle.rules.specs.Pack.{packStored, packChosen, packRefused, packLongEnough, packChecked}
+use Rattle.mesh_theory.specs.Fans.Corner.{at-p, In, here, there, Once}
+use Rattle.choice_theory.proofs.Turning.Links.{free-rot}
+use Rattle.choice_theory.proofs.Turning.Ways.{others, others-length, others-once}
+use Rattle.choice_theory.proofs.Turning.Taking.{out}
+use Rattle.choice_theory.proofs.Runs.Accepted.{accepted-packable}
+use Rattle.choice_theory.proofs.Runs.RoundTrip.{statedBy}
 use Rattle.roundtrip.specs.Run.{enough, startsBy, startsOf}
 use Rattle.roundtrip.specs.Claims.{SameStartsSamePacking}
 use Rattle.roundtrip.proofs.Alike.{Same, SameChosen, alike}
@@ -31,9 +32,15 @@ pub no-more : (ts us : List Triangle) → Once ts → Once us → ((x y z : ℕ)
 no-more [] us o o′ to = omega arith
 no-more (t ∷ ts) us o o′ to =
     let i = to (t .p) (t .q) (t .r) (here (at-p refl refl refl)) in
-    omega (arith, others-length i, no-more ts (others i) (o .2) (others-once us i o′) (λ x y z j. go x y z j i (out i (to x y z (there j)))))
+    omega (
+      arith,
+      others-length i,
+      no-more ts (others i) (o .2) (others-once us i o′)
+          (λ x y z j. go x y z j i (out i (to x y z (there j)))),
+    )
   where
-    go : (x y z : ℕ) → In x y z ts → (i : In (t .p) (t .q) (t .r) us) → In x y z (record { p = t .p; q = t .q; r = t .r } ∷ others i) → In x y z (others i)
+    go : (x y z : ℕ) → In x y z ts → (i : In (t .p) (t .q) (t .r) us) → In x y z (record { p = t .p; q = t .q; r = t .r } ∷ others i)
+        → In x y z (others i)
     go x y z j i (here r) = absurd (free-rot ts (o .0) r z j)
     go x y z j i (there k) = k
 
@@ -70,7 +77,12 @@ same-starts-same-packing v xs ys r a b h e =
     record {
       once = ok .once;
       once′ = ok′ .once;
-      count = omega (arith, no-more ts us (ok .once) (ok′ .once) (λ x y z. h x y z .0), no-more us ts (ok′ .once) (ok .once) (λ x y z. h x y z .1));
+      count = omega (
+        arith,
+        no-more ts us (ok .once) (ok′ .once) (λ x y z. h x y z .0),
+        no-more us ts (ok′ .once) (ok .once)
+            (λ x y z. h x y z .1),
+      );
       to = λ x y z. h x y z .0;
       from = λ x y z. h x y z .1;
     } in

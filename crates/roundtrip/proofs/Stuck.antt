@@ -14,12 +14,14 @@ use Rattle.rules.specs.declared.Checked.the-variants.{Accepted}
 use Rattle.rules.specs.Triangle.{trianglesOf}
 use Rattle.rules.specs.Check.{check}
 use Rattle.rules.specs.Answer.{Answer, refusal, accepted, triangle, no-triangle, numbers, packed, unpacked}
-use Rattle.rules.specs.Pack.{Chosen, stopped, chosen, Most, nothingBuilt, packOf, newNumbers, PackBuffers, PackResult, packDone, packChosen, packLongEnough, packWithin}
-use Rattle.gap.proofs.Whole.{Complete}
-use Rattle.gap.proofs.RoundTrip.{accepted-complete}
+use Rattle.rules.specs.Pack.{Chosen, stopped, chosen, Most, nothingBuilt, packOf, newNumbers, PackBuffers, PackResult, packDone, packChosen}
+use Rattle.rules.specs.Pack.{packLongEnough, packWithin}
+use Rattle.choice_theory.proofs.Runs.Whole.{Complete}
+use Rattle.choice_theory.proofs.Runs.RoundTrip.{accepted-complete}
 use Rattle.roundtrip.specs.Run.{unlimited, runLoops, NoFault, FirstFault}
 use Rattle.roundtrip.specs.Claims.{NeverStuck, PackingIsNeverStuck}
-use Rattle.roundtrip.proofs.Limits.{relimit, limitedTo, run-ends, chosen-with, Judged, at-fault, no-fault, judged, one-fault, fault-or-none}
+use Rattle.roundtrip.proofs.Limits.{relimit, limitedTo, run-ends, chosen-with, Judged, at-fault, no-fault, judged, one-fault}
+use Rattle.roundtrip.proofs.Limits.{fault-or-none}
 use Rattle.roundtrip.proofs.Results.{within-checked, stored-done, stored-refused}
 
 -- the answer by a number: 0 for a pack of l bytes, else the refusal
@@ -51,7 +53,8 @@ module _ (h : Most) (v : ℕ) (xs : List ℕ) (r : PackBuffers) (a : check v xs 
   abbrev Due : ℕ → Type 0
   Due k =
       (((k ≡ 9) ⊎ (k ≡ 10)) × FirstFault h k (runLoops ts))
-      ⊎ (((k ≡ 11) × NoFault h (runLoops ts) × (length (r .pack) < length bytes)) ⊎ ((k ≡ 0) × NoFault h (runLoops ts) × (length bytes ≤ length (r .pack))))
+      ⊎ (((k ≡ 11) × NoFault h (runLoops ts) × (length (r .pack) < length bytes))
+      ⊎ ((k ≡ 0) × NoFault h (runLoops ts) × (length bytes ≤ length (r .pack))))
 
   due-one : (k m : ℕ) → Due k → Due m → k ≡ m
   due-one k m (inl x) (inl y) = one-fault h k m (runLoops ts) (x .1) (y .1)
@@ -64,7 +67,8 @@ module _ (h : Most) (v : ℕ) (xs : List ℕ) (r : PackBuffers) (a : check v xs 
   due-one k m (inr (inr x)) (inr (inl y)) = absurd (omega (arith, x .2, y .2))
   due-one k m (inr (inr x)) (inr (inr y)) = x .0 ∙ sym (y .0)
 
-  chose : (c : Chosen) → limitedTo h (runLoops ts) (chosen (run-ends ts .operations) (run-ends ts .last)) ≡ c → packWithin h v xs r .answer ≡ packChosen v (trianglesOf xs) r c .answer
+  chose : (c : Chosen) → limitedTo h (runLoops ts) (chosen (run-ends ts .operations) (run-ends ts .last)) ≡ c
+      → packWithin h v xs r .answer ≡ packChosen v (trianglesOf xs) r c .answer
   chose c e =
       ap (λ (p : PackResult). p .answer) (within-checked h v xs r a enough)
       ∙ ap (λ (x : Chosen). packChosen v (trianglesOf xs) r x .answer) (chosen-with ts h ∙ e)
@@ -78,7 +82,8 @@ module _ (h : Most) (v : ℕ) (xs : List ℕ) (r : PackBuffers) (a : check v xs 
       fault n (inr e) = ap refusal e ∙ sym (ap (answerFor (length bytes)) e)
 
       stored : (t : Bool) → leb (length bytes) (length (r .pack)) ≡ t → NoFault h (runLoops ts)
-          → packWithin h v xs r .answer ≡ packChosen v (trianglesOf xs) r (chosen (run-ends ts .operations) (relimit h (run-ends ts .last))) .answer
+          → packWithin h v xs r .answer
+          ≡ packChosen v (trianglesOf xs) r (chosen (run-ends ts .operations) (relimit h (run-ends ts .last))) .answer
           → (k : ℕ) × Due k × (packWithin h v xs r .answer ≡ answerFor (length bytes) k)
       stored true e x q = (
         0,
@@ -91,9 +96,11 @@ module _ (h : Most) (v : ℕ) (xs : List ℕ) (r : PackBuffers) (a : check v xs 
         q ∙ ap (λ (p : PackResult). p .answer) (stored-refused v (newNumbers v (run-ends ts .last .numbered)) bytes r e),
       )
 
-      go : Judged h (runLoops ts) (chosen (run-ends ts .operations) (run-ends ts .last)) → (k : ℕ) × Due k × (packWithin h v xs r .answer ≡ answerFor (length bytes) k)
+      go : Judged h (runLoops ts) (chosen (run-ends ts .operations) (run-ends ts .last))
+          → (k : ℕ) × Due k × (packWithin h v xs r .answer ≡ answerFor (length bytes) k)
       go (at-fault n w x e) = (n, inl (w, x), chose (stopped n) e ∙ fault n w)
-      go (no-fault x e) = stored (leb (length bytes) (length (r .pack))) refl x (chose (chosen (run-ends ts .operations) (relimit h (run-ends ts .last))) e)
+      go (no-fault x e) = stored (leb (length bytes) (length (r .pack))) refl x
+          (chose (chosen (run-ends ts .operations) (relimit h (run-ends ts .last))) e)
 
   -- with no operation at fault and a buffer that is long enough
   done : NoFault h (runLoops ts) → length bytes ≤ length (r .pack)
@@ -138,7 +145,9 @@ module _ (h : Most) (v : ℕ) (xs : List ℕ) (r : PackBuffers) (a : check v xs 
   long (inr (inr x)) = (x .1, x .2)
 
   by-number : (k : ℕ) → Due k → packWithin h v xs r .answer ≡ answerFor (length bytes) k
-      → (packWithin h v xs r .answer ≡ packed (length bytes)) ⊎ ((packWithin h v xs r .answer ≡ refusal 9) ⊎ ((packWithin h v xs r .answer ≡ refusal 10) ⊎ (packWithin h v xs r .answer ≡ refusal 11)))
+      → (packWithin h v xs r .answer ≡ packed (length bytes))
+      ⊎ ((packWithin h v xs r .answer ≡ refusal 9)
+      ⊎ ((packWithin h v xs r .answer ≡ refusal 10) ⊎ (packWithin h v xs r .answer ≡ refusal 11)))
   by-number k (inl (inl e, x)) q = inr (inl (q ∙ ap (answerFor (length bytes)) e))
   by-number k (inl (inr e, x)) q = inr (inr (inl (q ∙ ap (answerFor (length bytes)) e)))
   by-number k (inr (inl x)) q = inr (inr (inr (q ∙ ap (answerFor (length bytes)) (x .0))))
@@ -161,4 +170,5 @@ module _ (h : Most) (v : ℕ) (xs : List ℕ) (r : PackBuffers) (a : check v xs 
   }
 
 pub packing-is-never-stuck : PackingIsNeverStuck
-packing-is-never-stuck h v xs r a enough = (run-ends (trianglesOf xs) .operations, run-ends (trianglesOf xs) .last, stuck-never h v xs r a enough)
+packing-is-never-stuck h v xs r a enough =
+    (run-ends (trianglesOf xs) .operations, run-ends (trianglesOf xs) .last, stuck-never h v xs r a enough)

@@ -12,13 +12,14 @@ use Rattle.rules.specs.Buffer.{Buffers}
 use Rattle.book.specs.Consistent.{Consistent}
 use Rattle.book.proofs.Kept.{kept, empty-consistent}
 use Rattle.book.proofs.Calls.{recounted-same}
-use Rattle.gap.specs.Works.{Works, w-none, w-built, w-declared}
+use Rattle.choice_theory.specs.Works.{Works, w-none, w-built, w-declared}
 use Rattle.roundtrip.specs.Claims.{AcceptedRun, AcceptedUnpackingIsARun}
 use Rattle.roundtrip.proofs.Results.{UnpackedBy, unpacked-by}
 use Rattle.roundtrip.proofs.Back.{held, used-is, triangles-are, list-is, checks}
 
 -- operations that the machine accepts keep the book consistent
-works-consistent : {m n : Machine} {os : List Operation} → Works m os n → (ds : List Edge) → Consistent (record { machine = m; borders = ds })
+works-consistent : {m n : Machine} {os : List Operation} → Works m os n → (ds : List Edge)
+    → Consistent (record { machine = m; borders = ds })
     → (es : List Edge) × Consistent (record { machine = n; borders = es })
 works-consistent w-none ds c = (ds, c)
 works-consistent {m} (w-built {o = o} e w) ds c =

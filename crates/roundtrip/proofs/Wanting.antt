@@ -15,9 +15,10 @@ use Rattle.rules.specs.declared.Operation.the-variants.{New, Forward, Backward,
 use Rattle.rules.specs.Triangle.{Edge}
 use Rattle.rules.specs.Across.{across}
 use Rattle.rules.specs.Ring.{Node, opened, marked, Ring, vertex, startOr, front, onward, shown, places, loopAt, without}
-use Rattle.shown.proofs.Shown.{fewer-shown}
+use Rattle.book.proofs.Shown.{fewer-shown}
 use Rattle.rules.specs.Table.{Effect, not-allowed, builds, marks, allowed, inOrder, marking, atEdge}
-use Rattle.rules.specs.Choice.{Packing, has, dropTriangle, choosePlace, Next, ended, packingAfter, limited, taking, chooseAt, chooseIn, choose}
+use Rattle.rules.specs.Choice.{Packing, has, dropTriangle, choosePlace, Next, ended, packingAfter, limited, taking, chooseAt, chooseIn}
+use Rattle.rules.specs.Choice.{choose}
 
 pub data Want : Type 0 where
   idle : Want
@@ -58,7 +59,8 @@ abbrev pub doing : Packing → Want → Next
 doing s idle = ended
 doing s (wants o ts vs ls) = limited o (packingAfter s ts vs ls)
 
-taking-want : (o : Operation) (s : Packing) (ts : List Triangle) (vs : List ℕ) (ef : Effect) → taking o s ts vs ef ≡ doing s (wanting o ts vs ef)
+taking-want : (o : Operation) (s : Packing) (ts : List Triangle) (vs : List ℕ) (ef : Effect)
+    → taking o s ts vs ef ≡ doing s (wanting o ts vs ef)
 unfolding taking
 taking-want o s ts vs not-allowed = refl
 taking-want o s ts vs (builds x) = refl
@@ -73,7 +75,8 @@ at-want s a b ps ws = go (across b a (s .mesh))
         → _≡_ {A = Next}
         (elim t [
           | false ↦ taking New s (dropTriangle b a (s .left)) (s .numbered ++ (c ∷ [])) (atEdge New c a ps ws)
-          | true ↦ taking (choosePlace a b c (dropTriangle b a (s .left)) (s .loops)) s (dropTriangle b a (s .left)) (s .numbered) (atEdge (choosePlace a b c (dropTriangle b a (s .left)) (s .loops)) c a ps ws)
+          | true ↦ taking (choosePlace a b c (dropTriangle b a (s .left)) (s .loops)) s (dropTriangle b a (s .left)) (s .numbered)
+              (atEdge (choosePlace a b c (dropTriangle b a (s .left)) (s .loops)) c a ps ws)
         ])
         (doing s (wantTriangle (s .left) (s .numbered) (s .loops) a b c ps ws t))
     found c true = taking-want _ s _ _ _
@@ -85,14 +88,16 @@ at-want s a b ps ws = go (across b a (s .mesh))
           | Nothing ↦ taking Border s (s .left) (s .numbered) (atEdge Border 0 a ps ws)
           | Found n k c ↦ elim (has c (s .numbered)) [
             | false ↦ taking New s (dropTriangle b a (s .left)) (s .numbered ++ (c ∷ [])) (atEdge New c a ps ws)
-            | true ↦ taking (choosePlace a b c (dropTriangle b a (s .left)) (s .loops)) s (dropTriangle b a (s .left)) (s .numbered) (atEdge (choosePlace a b c (dropTriangle b a (s .left)) (s .loops)) c a ps ws)
+            | true ↦ taking (choosePlace a b c (dropTriangle b a (s .left)) (s .loops)) s (dropTriangle b a (s .left)) (s .numbered)
+                (atEdge (choosePlace a b c (dropTriangle b a (s .left)) (s .loops)) c a ps ws)
           ]
         ])
         (doing s (wantAt (s .left) (s .numbered) (s .loops) a b ps ws m))
     go Nothing = taking-want Border s (s .left) (s .numbered) (atEdge Border 0 a ps ws)
     go (Found n k c) = found c (has c (s .numbered))
 
-in-want : (s : Packing) (ls : List Ring) (ts : List Triangle) → chooseIn s ls ts ≡ doing s (wantIn (s .mesh) (s .left) (s .numbered) (s .loops) ls ts)
+in-want : (s : Packing) (ls : List Ring) (ts : List Triangle)
+    → chooseIn s ls ts ≡ doing s (wantIn (s .mesh) (s .left) (s .numbered) (s .loops) ls ts)
 unfolding chooseIn
 in-want s [] [] = refl
 in-want s [] (t ∷ ts) = refl
@@ -125,7 +130,8 @@ length-onward back [] = omega arith
 length-onward back (opened v ∷ ps) = omega (arith, length-append ps back)
 length-onward back (marked v ∷ ps) = omega (arith, length-onward (back ++ (marked v ∷ [])) ps, length-append back (marked v ∷ []))
 
-grows-marking : (p l : ℕ) (r : Ring) (ws : List Ring) (d : Edge) → length r + places ws ≤ p + 1 → length ws + 1 ≤ l + 1 → Grows p l (marking r ws d)
+grows-marking : (p l : ℕ) (r : Ring) (ws : List Ring) (d : Edge) → length r + places ws ≤ p + 1 → length ws + 1 ≤ l + 1
+    → Grows p l (marking r ws d)
 unfolding places
 grows-marking p l [] ws d h k = (omega arith, omega arith)
 grows-marking p l (q ∷ r) ws d h k = (h, omega arith)
@@ -145,16 +151,26 @@ without-length [] n = omega arith
 without-length (w ∷ ws) zero = omega arith
 without-length (w ∷ ws) (suc n) = omega (arith, without-length ws n)
 
-edge-grows : (o : Operation) (u a : ℕ) (ps : List Node) (ws : List Ring) → Grows (suc (length ps) + places ws) (suc (length ws)) (atEdge o u a ps ws)
+edge-grows : (o : Operation) (u a : ℕ) (ps : List Node) (ws : List Ring)
+    → Grows (suc (length ps) + places ws) (suc (length ws)) (atEdge o u a ps ws)
 unfolding atEdge places inOrder
 edge-grows New u a ps ws = (omega (arith, length-append ps (opened a ∷ [])), omega arith)
 edge-grows Forward u a ps ws = grows-allowed _ _ _ _ (omega (arith, length-drop 1 ps), omega arith)
 edge-grows Backward u a ps ws = grows-allowed _ _ _ _ (omega (arith, length-front ps), omega arith)
 edge-grows Border u a ps ws =
-    grows-marking _ _ (shown (onward [] (ps ++ (marked a ∷ [])))) ws _ (omega (arith, fewer-shown (onward [] (ps ++ (marked a ∷ []))), length-onward [] (ps ++ (marked a ∷ [])), length-append ps (marked a ∷ []))) (omega arith)
+    grows-marking _ _ (shown (onward [] (ps ++ (marked a ∷ [])))) ws _
+    (omega (
+      arith,
+      fewer-shown (onward [] (ps ++ (marked a ∷ []))),
+      length-onward [] (ps ++ (marked a ∷ [])),
+      length-append ps
+          (marked a ∷ []),
+    )) (omega arith)
 edge-grows (Split i) u a ps ws = grows-allowed _ _ _ _ (go _ _ (leb (suc (length (take i ps))) (suc (length (drop i ps)))))
   where
-    go : (x y : Node) (t : Bool) → (places (inOrder t (x ∷ take i ps) (y ∷ drop i ps) ws) ≤ suc (length ps) + places ws + 1) × (length (inOrder t (x ∷ take i ps) (y ∷ drop i ps) ws) ≤ suc (length ws) + 1)
+    go : (x y : Node) (t : Bool)
+        → (places (inOrder t (x ∷ take i ps) (y ∷ drop i ps) ws) ≤ suc (length ps) + places ws + 1)
+        × (length (inOrder t (x ∷ take i ps) (y ∷ drop i ps) ws) ≤ suc (length ws) + 1)
     go x y true = (omega (arith, take-drop i ps), omega arith)
     go x y false = (omega (arith, take-drop i ps), omega arith)
 edge-grows Close u a ps ws = grows-allowed _ _ _ _ (omega arith, omega arith)
@@ -188,10 +204,12 @@ at-grown L N all a b ps ws (Found n k c) = go (has c N)
   where
     go : (t : Bool) → Grown (suc (length ps) + places ws) (suc (length ws)) (wantTriangle L N all a b c ps ws t)
     go true =
-        let o = choosePlace a b c (dropTriangle b a L) all in wanting-grown _ _ o (dropTriangle b a L) N (atEdge o c a ps ws) (edge-grows o c a ps ws)
+        let o = choosePlace a b c (dropTriangle b a L) all in
+        wanting-grown _ _ o (dropTriangle b a L) N (atEdge o c a ps ws) (edge-grows o c a ps ws)
     go false = wanting-grown _ _ New (dropTriangle b a L) (N ++ (c ∷ [])) (atEdge New c a ps ws) (edge-grows New c a ps ws)
 
-in-grown : (M L : List Triangle) (N : List ℕ) (all ls : List Ring) (ts : List Triangle) → Grown (places ls) (length ls) (wantIn M L N all ls ts)
+in-grown : (M L : List Triangle) (N : List ℕ) (all ls : List Ring) (ts : List Triangle)
+    → Grown (places ls) (length ls) (wantIn M L N all ls ts)
 unfolding places
 in-grown M L N all [] [] = tt
 in-grown M L N all [] (t ∷ ts) = (omega arith, omega arith)

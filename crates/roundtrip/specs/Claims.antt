@@ -24,22 +24,24 @@ use Rattle.rules.specs.Table.{Side, glued, builds, effect, edgeRule}
 use Rattle.rules.specs.Answer.{refusal, packed, unpacked}
 use Rattle.rules.specs.Fields.{fields, fieldsOf}
 use Rattle.rules.specs.Choice.{Packing, has, operationFor, limited, choose, afterCurrent}
-use Rattle.rules.specs.Pack.{chosen, Most, chosenFor, packOf, newNumbers, PackBuffers, PackResult, packDone, packLongEnough, packWithin, pack}
+use Rattle.rules.specs.Pack.{chosen, Most, chosenFor, packOf, newNumbers, PackBuffers, PackResult, packDone, packLongEnough, packWithin}
+use Rattle.rules.specs.Pack.{pack}
 use Rattle.rules.specs.Buffer.{Buffers}
 use Rattle.rules.specs.Machine.{Machine, empty, totals}
 use Rattle.rules.specs.Book.{recounted}
 use Rattle.rules.specs.Bits.{bitsOfBytes}
 use Rattle.rules.specs.Unpack.{numbersOf, UnpackResult, unpack}
 use Rattle.book.specs.Consistent.{Consistent}
-use Rattle.gap.specs.Works.{Works, Reads}
-use Rattle.fans.specs.Corner.{In, Once}
-use Rattle.codes.specs.Shape.{Bytes}
+use Rattle.choice_theory.specs.Works.{Works, Reads}
+use Rattle.mesh_theory.specs.Fans.Corner.{In, Once}
+use Rattle.wire_theory.specs.Shape.{Bytes}
 use Rattle.roundtrip.specs.Run.{unlimited, runLoops, buildOrder, startsOf, NoFault, FirstFault, peakOf, Reached}
 use Rattle.rules.specs.Right.{RightPlace}
 
 -- 1. Never stuck. Without limits the packer comes to the end of an accepted list; what limits change is told by 9 and 10, and
 -- by nothing else but 11.
-pub record NeverStuck (h : Most) (v : ℕ) (ts : List Triangle) (r : PackBuffers) (p : PackResult) (operations : List Operation) (last : Packing) : Type 0 where
+pub record NeverStuck (h : Most) (v : ℕ) (ts : List Triangle) (r : PackBuffers) (p : PackResult) (operations : List Operation)
+    (last : Packing) : Type 0 where
   pub run : chosenFor (unlimited ts) ts ≡ chosen operations last
   pub none-left : last .left ≡ []
   pub no-loop : last .loops ≡ []
@@ -145,7 +147,8 @@ pub record Gives (bytes : List ℕ) (v : ℕ) (p : PackResult) : Type 0 where
 pub record PackOf (bytes : List ℕ) (m : Model) (xs : List ℕ) : Type 0 where
   pub accepted : check (m .vertices) xs ≡ Accepted
   pub count : length (trianglesOf xs) ≡ m .triangles
-  pub packs : (r : PackBuffers) → packLongEnough (m .vertices) r ≡ true → length bytes ≤ length (r .pack) → Gives bytes (m .vertices) (pack (m .vertices) xs r)
+  pub packs : (r : PackBuffers) → packLongEnough (m .vertices) r ≡ true → length bytes ≤ length (r .pack)
+      → Gives bytes (m .vertices) (pack (m .vertices) xs r)
 
 abbrev pub listIn : Model → UnpackResult → List ℕ
 listIn m u = take (3 * m .triangles) (u .buffers .triangles)
@@ -184,7 +187,8 @@ SameStartsSamePacking = (v : ℕ) (xs ys : List ℕ) (r : PackBuffers) → check
 
 -- and lists with the same triangles, whatever their starts, unpack to the same model: up to the numbers of its vertices
 abbrev pub SameTrianglesSameModel : Type 0
-SameTrianglesSameModel = (v : ℕ) (xs ys : List ℕ) (r q : PackBuffers) (n m : ℕ) → pack v xs r .answer ≡ packed n → pack v ys q .answer ≡ packed m
+SameTrianglesSameModel =
+    (v : ℕ) (xs ys : List ℕ) (r q : PackBuffers) (n m : ℕ) → pack v xs r .answer ≡ packed n → pack v ys q .answer ≡ packed m
     → SameTriangles xs ys → (r′ q′ : Buffers) → LongEnoughFor (length (trianglesOf xs)) r′ → LongEnoughFor (length (trianglesOf ys)) q′
     → (f : ℕ → ℕ) × OneToOne v f
     × Rearranged (renumbered f (written (length (trianglesOf xs)) (unpack (take n (pack v xs r .buffers .pack)) r′)))

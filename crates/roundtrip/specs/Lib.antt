@@ -1,3 +1,3 @@
-pub mod Run
 pub mod Claims
 pub mod Enough
+pub mod Run

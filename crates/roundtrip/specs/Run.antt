@@ -9,7 +9,7 @@ use Rattle.rules.specs.declared.Operation.{Operation}
 use Rattle.rules.specs.Ring.{Ring, places}
 use Rattle.rules.specs.Choice.{Packing, ended, refuses, takes, choose}
 use Rattle.rules.specs.Pack.{Most, most, nothingBuilt}
-use Rattle.gap.specs.Building.{builtBy}
+use Rattle.choice_theory.specs.Building.{builtBy}
 
 -- by so many operations a list of triangles is packed
 abbrev pub enough : List Triangle → ℕ

@@ -1,1 +1,1 @@
-// Demand 2: packing and unpacking together. specs/ has the claims, proofs/ the theorems. It has no function.
+// Demand 2: theorems about packing and unpacking. Definitions in specs/, proofs in proofs/; no code.

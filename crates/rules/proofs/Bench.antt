@@ -103,5 +103,9 @@ abbrev pub Limits : Type 0
 Limits = most ≡ record { places = 1024; loops = 100 }
 
 pub bench : M1 × M2 × M3 × M4 × M5 × M6 × M7 × M8 × M9 × M10 × Limits
-unfolding trianglesOf corners edgesOf same hit occurs count about leaving entering turnOn turnBack oneRun oneFanEach inTriangle across allBelow allDistinct noneTwice allUsed passes checkTriangles check allOpen vertexAt lastOpen lastVertex front onward reached places loopAt without allowed inOrder atEdge atRest effect test done beginning answers bits valueOf bytesWithin operationBits operationsBits packBytes has dropTriangle turnIn turnOut edgeIn spotOf choosePlace limited taking chooseAt chooseIn cleared chooseAll indexOf newNumbers packChosen packChecked
+unfolding trianglesOf corners edgesOf same hit occurs count about leaving entering turnOn turnBack oneRun oneFanEach inTriangle across
+    allBelow allDistinct noneTwice allUsed passes checkTriangles check allOpen vertexAt lastOpen lastVertex front onward reached
+    places loopAt without allowed inOrder atEdge atRest effect test done beginning answers bits valueOf bytesWithin operationBits
+    operationsBits packBytes has dropTriangle turnIn turnOut edgeIn spotOf choosePlace limited taking chooseAt chooseIn cleared
+    chooseAll indexOf newNumbers packChosen packChecked
 bench = (refl, refl, refl, refl, refl, refl, refl, refl, (λ v. refl), refl, refl)

@@ -1,7 +1,7 @@
-pub mod Rows
 pub mod Bench
-pub mod Models
-pub mod States
 pub mod Examples
 pub mod Log
+pub mod Models
 pub mod Places
+pub mod Rows
+pub mod States

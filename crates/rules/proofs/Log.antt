@@ -47,5 +47,7 @@ logsRight =
     && sameLog (second ++ first) (operate Border ∷ operate New ∷ operate Start ∷ begin (counts 9 9 9 9) ∷ [])
 
 pub logs : T logsRight
-unfolding corners edgesOf same hit occurs count different pairs about leaving entering turnOn turnBack oneRun oneFanEach allOpen vertexAt lastOpen lastVertex front onward reached places loopAt without allowed inOrder atEdge atRest effect test done beginning finishing bits operationBits logAll equal writtenCalls logsRight
+unfolding corners edgesOf same hit occurs count different pairs about leaving entering turnOn turnBack oneRun oneFanEach allOpen vertexAt
+    lastOpen lastVertex front onward reached places loopAt without allowed inOrder atEdge atRest effect test done beginning finishing
+    bits operationBits logAll equal writtenCalls logsRight
 logs = tt

@@ -32,7 +32,7 @@ use Rattle.rules.specs.Choice.{has, dropTriangle, turnIn, turnOut, edgeI
 use Rattle.rules.specs.Pack.{chooseAll, indexOf, newNumbers, packChosen, packChecked}
 use Rattle.rules.specs.Unpack.{runAll, numbersOf, unpackRun, unpackFields}
 use Rattle.rules.specs.View.{follow, followed, nodes, placesOf, openAmong, loopsOf, placeNodes, placeRings, trianglesBuilt, view}
-use Rattle.rules.specs.Test21.{sizesOf, apart, placesFit, loopsFit, linksFit, soundElse, sound}
+use Rattle.rules.specs.Sound.{sizesOf, apart, placesFit, loopsFit, linksFit, soundElse, sound}
 
 unfoldable pub packRows : List PackRow
 packRows =

@@ -11,14 +11,15 @@ use Rattle.rules.specs.Triangle.{corners, edgesOf}
 use Rattle.rules.specs.Count.{num, same, hit, occurs, count, different, pairs}
 use Rattle.rules.specs.Fan.{about, leaving, entering, turnOn, turnBack, oneRun, oneFanEach}
 use Rattle.rules.specs.Check.{allBelow}
-use Rattle.rules.specs.Ring.{Ring, opened, marked, vertex, isOpen, allOpen, vertexAt, lastOpen, lastVertex, front, onward, reached, places, loopAt, without}
+use Rattle.rules.specs.Ring.{Ring, opened, marked, vertex, isOpen, allOpen, vertexAt, lastOpen, lastVertex, front, onward, reached}
+use Rattle.rules.specs.Ring.{places, loopAt, without}
 use Rattle.rules.specs.Table.{allowed, inOrder, atEdge, atRest, effect}
 use Rattle.rules.specs.Machine.{test, done, beginning, finishing}
 use Rattle.rules.specs.Buffer.{Lengths}
 use Rattle.rules.specs.Book.{Call, begin, operate, finish, Book, call, after, isAccepted}
 use Rattle.rules.specs.Places.{placesAt, ringsAfter}
 use Rattle.rules.specs.View.{follow, followed, placesOf, placeNodes, placeRings}
-use Rattle.rules.specs.Test21.{sizesOf, sumsFit, apart, placesFit, loopsFit, linksFit, soundElse}
+use Rattle.rules.specs.Sound.{sizesOf, sumsFit, apart, placesFit, loopsFit, linksFit, soundElse}
 use Rattle.rules.proofs.Rows.{CallRow, equal, allRight, noBook, writtenRing, writtenRings}
 use Rattle.rules.proofs.Models.{callRows}
 use Rattle.rules.proofs.States.{StateRow, good, memory, stateRows, lentTo}
@@ -92,5 +93,9 @@ elseRight x =
     elim (x .passes || not (sumsFit (x .state))) [ true ↦ t | false ↦ not t ]
 
 pub rings : T (allRight besideRight callRows && readRight && takenRight && allRight elseRight stateRows)
-unfolding keepsVertex ringBeside ringsBeside seatsOf allSeats besideAll besideRight readRight takenRight stateRows callRows corners edgesOf same hit occurs count different pairs about leaving entering turnOn turnBack oneRun oneFanEach allBelow allOpen vertexAt lastOpen lastVertex front onward reached places loopAt without allowed inOrder atEdge atRest effect placesAt ringsAfter test done beginning finishing follow followed placesOf placeNodes placeRings sizesOf apart placesFit loopsFit linksFit soundElse equal allRight writtenRing writtenRings
+unfolding keepsVertex ringBeside ringsBeside seatsOf allSeats besideAll besideRight readRight takenRight stateRows callRows corners edgesOf
+    same hit occurs count different pairs about leaving entering turnOn turnBack oneRun oneFanEach allBelow allOpen vertexAt lastOpen
+    lastVertex front onward reached places loopAt without allowed inOrder atEdge atRest effect placesAt ringsAfter test done beginning
+    finishing follow followed placesOf placeNodes placeRings sizesOf apart placesFit loopsFit linksFit soundElse equal allRight
+    writtenRing writtenRings
 rings = tt

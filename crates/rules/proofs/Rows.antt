@@ -117,7 +117,8 @@ writtenEdges (d ∷ ds) = d .from ∷ (d .to ∷ writtenEdges ds)
 
 abbrev pub writtenMachine : Machine → List ℕ
 writtenMachine m =
-    m .used ∷ m .edges ∷ m .mostPlaces ∷ m .mostLoops ∷ m .starts ∷ m .unions ∷ m .rims ∷ numbersOf (m .triangles) ++ writtenRings (m .loops)
+    m .used ∷ m .edges ∷ m .mostPlaces ∷ m .mostLoops ∷ m .starts ∷ m .unions ∷ m .rims ∷ numbersOf (m .triangles)
+    ++ writtenRings (m .loops)
 
 -- a list of calls; the first of them begins; what they answer, and what the book then holds
 pub record CallRow : Type 0 where

@@ -24,7 +24,7 @@ use Rattle.rules.specs.Buffer.{freePlace, cleared, Buffers}
 use Rattle.rules.specs.Fields.{countsOf}
 use Rattle.rules.specs.Build.{begins, operates, finishes, begunBuffers, withTriangle}
 use Rattle.rules.specs.View.{follow, followed, placesOf, nodes, loopsOf, trianglesBuilt, view, openAmong, openAt}
-use Rattle.rules.specs.Test21.{sizesOf, apart, placesFit, loopsFit, linksFit, sound}
+use Rattle.rules.specs.Sound.{sizesOf, apart, placesFit, loopsFit, linksFit, sound}
 use Rattle.rules.proofs.Rows.{equal, equalPlaces, place, counts, lengths, allRight, writtenRing, writtenRings, writtenMachine}
 
 -- a state and its buffers, and whether 21 lets it pass
@@ -167,7 +167,8 @@ stateRows =
     ∷
     -- a link that disagrees; a link out of the first 1,024 records
     withPlaces false
-    (place 0 2 5 true ∷ place 1 3 4 true ∷ place 2 4 0 true ∷ place 3 4 1 false ∷ place 4 1 3 true ∷ place 3 0 2 true ∷ replicate 1018 freePlace)
+    (place 0 2 5 true ∷ place 1 3 4 true ∷ place 2 4 0 true ∷ place 3 4 1 false ∷ place 4 1 3 true ∷ place 3 0 2 true
+    ∷ replicate 1018 freePlace)
     ∷ withPlaces false
     (place 0 2 1024 true ∷ place 1 3 4 true ∷ place 2 1024 0 true ∷ place 3 4 1 false ∷ place 4 1 3 true ∷ replicate 1019 freePlace
     ++ (place 3 0 2 true ∷ []))
@@ -181,17 +182,22 @@ stateRows =
     ∷
     -- a place with both edges marked, in the waiting loop and in the current one; a marked edge in each loop
     withPlaces false
-    (place 0 2 5 true ∷ place 1 3 4 false ∷ place 2 5 0 true ∷ place 3 4 1 false ∷ place 4 1 3 true ∷ place 3 0 2 true ∷ replicate 1018 freePlace)
+    (place 0 2 5 true ∷ place 1 3 4 false ∷ place 2 5 0 true ∷ place 3 4 1 false ∷ place 4 1 3 true ∷ place 3 0 2 true
+    ∷ replicate 1018 freePlace)
     ∷ withPlaces false
-    (place 0 2 5 false ∷ place 1 3 4 true ∷ place 2 5 0 false ∷ place 3 4 1 false ∷ place 4 1 3 true ∷ place 3 0 2 true ∷ replicate 1018 freePlace)
+    (place 0 2 5 false ∷ place 1 3 4 true ∷ place 2 5 0 false ∷ place 3 4 1 false ∷ place 4 1 3 true ∷ place 3 0 2 true
+    ∷ replicate 1018 freePlace)
     ∷ withPlaces true
-    (place 0 2 5 false ∷ place 1 3 4 true ∷ place 2 5 0 true ∷ place 3 4 1 false ∷ place 4 1 3 true ∷ place 3 0 2 true ∷ replicate 1018 freePlace)
+    (place 0 2 5 false ∷ place 1 3 4 true ∷ place 2 5 0 true ∷ place 3 4 1 false ∷ place 4 1 3 true ∷ place 3 0 2 true
+    ∷ replicate 1018 freePlace)
     ∷ withPlaces true
-    (place 0 2 5 true ∷ place 1 3 4 true ∷ place 2 5 0 false ∷ place 3 4 1 false ∷ place 4 1 3 true ∷ place 3 0 2 true ∷ replicate 1018 freePlace)
+    (place 0 2 5 true ∷ place 1 3 4 true ∷ place 2 5 0 false ∷ place 3 4 1 false ∷ place 4 1 3 true ∷ place 3 0 2 true
+    ∷ replicate 1018 freePlace)
     ∷
     -- a vertex number that is not below the count so far, at a place and in a triangle
     withPlaces false
-    (place 0 2 5 true ∷ place 5 3 4 true ∷ place 2 5 0 true ∷ place 3 4 1 false ∷ place 4 1 3 true ∷ place 3 0 2 true ∷ replicate 1018 freePlace)
+    (place 0 2 5 true ∷ place 5 3 4 true ∷ place 2 5 0 true ∷ place 3 4 1 false ∷ place 4 1 3 true ∷ place 3 0 2 true
+    ∷ replicate 1018 freePlace)
     ∷ row false good (0 ∷ 1 ∷ 2 ∷ 1 ∷ 0 ∷ 3 ∷ 2 ∷ 1 ∷ 4 ∷ 2 ∷ 4 ∷ 5 ∷ []) memory
     ∷ []
 
@@ -244,7 +250,10 @@ openRight =
     && usesIs 0 1 2 && usesIs 1 0 1 && usesIs 2 1 0
 
 pub states : T (allRight stateRight stateRows && viewRight && openRight)
-unfolding openAmong openRight same hit corners edgesOf numbersOf occurs count allBelow allOpen vertexAt lastOpen lastVertex front onward reached places loopAt without allowed inOrder atEdge atRest effect test done beginning afterAll follow followed nodes loopsOf trianglesBuilt view placesOf sizesOf apart placesFit loopsFit linksFit sound equal allRight stateRows writtenRing writtenRings viewRight
+unfolding openAmong openRight same hit corners edgesOf numbersOf occurs count allBelow allOpen vertexAt lastOpen lastVertex front onward
+    reached places loopAt without allowed inOrder atEdge atRest effect test done beginning afterAll follow followed nodes loopsOf
+    trianglesBuilt view placesOf sizesOf apart placesFit loopsFit linksFit sound equal allRight stateRows writtenRing writtenRings
+    viewRight
 states = tt
 
 -- The building calls: 21 before 16 and before 15, on a state that does not pass; 16 and 15 on one that does.
@@ -332,5 +341,8 @@ callsRight =
     && equal (begunBuffers whole .triangles) numbers && equalPlaces (begunBuffers whole .places) (replicate 1024 freePlace)
 
 pub calls : T (callsRight && differRight && loneRight && fansRight)
-unfolding differRight loneRight fansRight about leaving entering turnOn turnBack oneRun oneFanEach same hit corners edgesOf numbersOf occurs count allBelow allOpen vertexAt lastOpen lastVertex front onward reached places loopAt without allowed inOrder atEdge atRest effect test done beginning finishing follow followed placesOf nodes loopsOf trianglesBuilt view sizesOf apart placesFit loopsFit linksFit sound equal equalPlaces cleared callsRight
+unfolding differRight loneRight fansRight about leaving entering turnOn turnBack oneRun oneFanEach same hit corners edgesOf numbersOf occurs
+    count allBelow allOpen vertexAt lastOpen lastVertex front onward reached places loopAt without allowed inOrder atEdge atRest
+    effect test done beginning finishing follow followed placesOf nodes loopsOf trianglesBuilt view sizesOf apart placesFit loopsFit
+    linksFit sound equal equalPlaces cleared callsRight
 calls = tt

@@ -19,7 +19,7 @@ use Rattle.rules.specs.Buffer.{freePlace, cleared, Buffers, lengths}
 use Rattle.rules.specs.Count.{occurs}
 use Rattle.rules.specs.Places.{ringsAfter}
 use Rattle.rules.specs.View.{placeAt, placeRings, placesOf, view}
-use Rattle.rules.specs.Test21.{sound, soundElse}
+use Rattle.rules.specs.Sound.{sound, soundElse}
 
 -- the machine that a state and its buffers are read as
 abbrev pub viewed : Builder → Buffers → Machine

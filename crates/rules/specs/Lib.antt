@@ -96,7 +96,7 @@
 --   19, "differ from those stated, a whole byte .., a fill bit" | Machine: asStated; Unpack: restFits | "19: V 4, places 4, loops 2, .."
 --   20, "A vertex has more than one fan" | Fan: oneFanEach; Unpack: unpackEnded | "20: the shortest"
 --   12 to 20 | Unpack: unpack, unpackFields, unpackRun | "12 before 13" to "19 before 20: a vertex too many"
---   21, "lent rooms shorter than 14 asks, or a state whose .." | Test21: sound, countsFit, sumsFit, linksFit, trianglesFit | states
+--   21, "lent rooms shorter than 14 asks, or a state whose .." | Sound: sound, countsFit, sumsFit, linksFit, trianglesFit | states
 --   "The first operation at fault decides between 9 and 10" | Pack: chooseAll | "10 at an operation before that of 9"
 --   ".. and among 15 to 18; .. the lower number" | Unpack: runAll; Machine: done | "16 before 17: forward in a loop of three"
 --   "A building call tests 21, then 16 to 18" | Build: operates; Machine: operation | calls
@@ -110,7 +110,7 @@
 --   "A refused building call changes nothing" | Build: BegunBy, OperatedBy | (the contracts of crates/service)
 --   "An accepted beginning leaves .." | Build: begunBuffers, begunBuilder | calls
 --   "Acceptance writes the results and nothing beyond them" | Buffer: over; Pack: packDone; Unpack: unpackDone | "buffers just long enough"
---   .. of a building operation | Build: Leaves; Test21: soundElse | rings, (the contract of service::operation)
+--   .. of a building operation | Build: Leaves; Sound: soundElse | rings, (the contract of service::operation)
 --   "For each old vertex .. the new number" | Pack: newNumbers, indexOf | "M5"
 --   "packing answers the pack's length, unpacking V, T .." | Answer: packedAnswer, unpackedAnswer | "M1" to "M5"
 --   "a building operation the triangle .. also written .." | Build: withTriangle, Leaves | calls
@@ -161,5 +161,5 @@ pub mod Right
 pub mod Pack
 pub mod Unpack
 pub mod View
-pub mod Test21
+pub mod Sound
 pub mod Build

@@ -10,7 +10,8 @@ use Rattle.rules.specs.declared.Operation.{Operation}
 use Rattle.rules.specs.declared.Operation.the-variants.{New, Forward, Backward, Border, Split, Close, Union, Start}
 use Rattle.rules.specs.Triangle.{tri, distinct, Edge, edge, edgesOf}
 use Rattle.rules.specs.Count.{unjoined}
-use Rattle.rules.specs.Ring.{Node, opened, marked, Ring, vertex, firstOpen, allOpen, startOr, vertexAt, lastOpen, lastVertex, front, onward, shown, loopAt, without}
+use Rattle.rules.specs.Ring.{Node, opened, marked, Ring, vertex, firstOpen, allOpen, startOr, vertexAt, lastOpen, lastVertex, front}
+use Rattle.rules.specs.Ring.{onward, shown, loopAt, without}
 
 -- an edge of a new triangle glues an open edge, or it is a new open edge
 pub data Side : Type 0 where

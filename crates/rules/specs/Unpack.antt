@@ -10,7 +10,8 @@ use Rattle.rules.specs.declared.Counts.{Counts}
 use Rattle.rules.specs.declared.Totals.{Totals}
 use Rattle.rules.specs.Limits.{inRange}
 use Rattle.rules.specs.Fan.{oneFanEach}
-use Rattle.rules.specs.Machine.{Machine, empty, refused, begun, built, declared, finished, operation, complete, longEnough, asStated, totals}
+use Rattle.rules.specs.Machine.{Machine, empty, refused, begun, built, declared, finished, operation, complete, longEnough, asStated}
+use Rattle.rules.specs.Machine.{totals}
 use Rattle.rules.specs.Answer.{Answer, refusal, unpacked}
 use Rattle.rules.specs.Bits.{bitsOfBytes, allZero}
 use Rattle.rules.specs.Code.{breaks-off, read, readOperation}

@@ -3,6 +3,13 @@
 ghost use mathlib.Core.Path.{_≡_};
 ghost use Rattle.rules.specs.Build.{emptyBuilder};
 
+// The most vertices of a model, the most triangles, and the most numbers of its list.
+pub const VERTICES: usize = 4096;
+
+pub const TRIANGLES: usize = 8192;
+
+pub const CORNERS: usize = 3 * TRIANGLES;
+
 // A triangle p q r has the directed edges p→q, q→r and r→p.
 pub struct Triangle {
     pub p: u16,

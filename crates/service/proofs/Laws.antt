@@ -22,22 +22,22 @@ use Rattle.rules.specs.Buffer.{cleared}
 use Rattle.rules.specs.Unpack.{unpack}
 use Rattle.rules.specs.Fields.{Fields, no-pack, fields, fieldsOf}
 use Rattle.rules.specs.Book.{answerOf}
-use Rattle.memory.specs.Layout.{openOf}
-use Rattle.places.specs.Memory.{countOf, counted, memoryOf}
-use Rattle.places.specs.Touched.{linkedAll, freedAll}
-use Rattle.places.specs.Records.{clearedTo}
-use Rattle.places.proofs.Counting.{count-within}
-use Rattle.places.proofs.Clearing.{cleared-to}
-use Rattle.reading.proofs.Flags.{loaded-open}
-use Rattle.unpacking.specs.Lent.{unpackOn, isPast, clearedBy, UnpackedOn}
-use Rattle.unpacking.proofs.Lending.{Alike, clearedIf, lend-places, lend-unpack}
-use Rattle.unpacking.proofs.Cleared.{unpacked-clears}
-use Rattle.building.specs.Promised.{lentTo, Beginning, Operating, Finishing}
-use Rattle.finishing.specs.Promises.{BeginsOn, FinishesOn, clearedBy as clearedBegun}
-use Rattle.finishing.proofs.Lifting.{begins-lifted}
-use Rattle.performing.specs.Performing.{OperatesOn}
-use Rattle.performing.proofs.Lifting.{operates-lent, finishes-same}
-use Rattle.service.specs.Calls.{Unpacks}
+use Rattle.border_theory.specs.Memory.Layout.{openOf}
+use Rattle.border_theory.specs.Records.Plain.{countOf, counted, memoryOf}
+use Rattle.border_theory.specs.Records.Notes.{linkedAll, freedAll}
+use Rattle.border_theory.specs.Records.Changes.{clearedTo}
+use Rattle.border_theory.proofs.Records.Counting.{count-within}
+use Rattle.border_theory.proofs.Records.Clearing.{cleared-to}
+use Rattle.state_theory.proofs.Reading.Flags.{loaded-open}
+use Rattle.unpack_theory.specs.Lent.{unpackOn, isPast, clearedBy, UnpackedOn}
+use Rattle.unpack_theory.proofs.Lending.{Alike, clearedIf, lend-places, lend-unpack}
+use Rattle.unpack_theory.proofs.Cleared.{unpacked-clears}
+use Rattle.promises.specs.Promises.{lentTo, Beginning, Operating, Finishing}
+use Rattle.state_theory.specs.Finishing.Core.{BeginsOn, FinishesOn, clearedBy as clearedBegun}
+use Rattle.state_theory.proofs.Finishing.Lifting.{begins-lifted}
+use Rattle.state_theory.specs.Performing.Core.{OperatesOn}
+use Rattle.state_theory.proofs.Performing.Lifting.{operates-lent, finishes-same}
+use Rattle.promises.specs.Promises.{Unpacks}
 
 -- of a list's length only whether it is 1,024 counts
 pub counted-long : (k : ℕ) → leb maxPlaces k ≡ leb maxPlaces (countOf k)
@@ -58,7 +58,7 @@ past-long (fields s ops) n k e = leb-true maxPlaces n (last (inRange s) (leb (3 
     last true false c h = absurd (false≢true h)
     last false b c h = absurd (false≢true h)
 
-places-after : (t : Bool) (n : ℕ) (ps : List Place) → (t ≡ true → maxPlaces ≤ length ps) → n ≡ elim t [ true ↦ maxPlaces | false ↦ 0 ]
+pub places-after : (t : Bool) (n : ℕ) (ps : List Place) → (t ≡ true → maxPlaces ≤ length ps) → n ≡ elim t [ true ↦ maxPlaces | false ↦ 0 ]
     → clearedTo n ps ≡ clearedIf t ps
 unfolding cleared clearedTo
 places-after true n ps h e = ap (λ (k : ℕ). clearedTo k ps) e ∙ cleared-to maxPlaces ps (h refl)
@@ -82,7 +82,8 @@ module _ (bytes ts : List ℕ) (ps : List Place) (r : Unpacked) (ts′ : List �
   pub unpacks-fit : clearedBy r ≤ length ps
   unfolding past
   unpacks-fit =
-      fits-after past (clearedBy r) (length ps) (past-long (fieldsOf bytes) (length ps) (length ts)) (unpacked-clears bytes (lentTo ts ps) r answers)
+      fits-after past (clearedBy r) (length ps) (past-long (fieldsOf bytes) (length ps) (length ts))
+      (unpacked-clears bytes (lentTo ts ps) r answers)
 
   pub unpacks : (ps′ : List Place) → ps′ ≡ clearedTo (clearedBy r) ps → Unpacks bytes ts ps r ts′ ps′
   unfolding past
@@ -90,7 +91,8 @@ module _ (bytes ts : List ℕ) (ps : List Place) (r : Unpacked) (ts′ : List �
     answer = answers;
     triangles = p .triangles ∙ sym (same .triangles);
     places =
-        e ∙ places-after past (clearedBy r) ps (past-long (fieldsOf bytes) (length ps) (length ts)) (unpacked-clears bytes (lentTo ts ps) r answers)
+        e ∙ places-after past (clearedBy r) ps (past-long (fieldsOf bytes) (length ps) (length ts))
+        (unpacked-clears bytes (lentTo ts ps) r answers)
         ∙ sym (lend-places (fieldsOf bytes) (lentTo ts ps));
   }
 
@@ -99,7 +101,8 @@ pub loaded-fits : (ps : List Place) → (counted ps ≤ 1024) × ((p : ℕ) → 
 loaded-fits ps = (count-within (length ps) .1, loaded-open ps)
 
 -- the building calls
-pub begins-as : (s : Counts) (ts : List ℕ) (ps : List Place) (r : Begun) (ts′ : List ℕ) → BeginsOn s ts (counted ps) r ts′ → (ps′ : List Place)
+pub begins-as : (s : Counts) (ts : List ℕ) (ps : List Place) (r : Begun) (ts′ : List ℕ) → BeginsOn s ts (counted ps) r ts′
+    → (ps′ : List Place)
     → ps′ ≡ clearedTo (clearedBegun r) ps → Beginning s ts ps r ts′ ps′
 begins-as s ts ps r ts′ p ps′ e =
     let l = begins-lifted s ts ps r ts′ ps′ p e in

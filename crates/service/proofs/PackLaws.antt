@@ -12,22 +12,17 @@ use Rattle.rules.specs.Check.{check}
 use Rattle.rules.specs.Answer.{packedAnswer}
 use Rattle.rules.specs.Buffer.{cleared}
 use Rattle.rules.specs.Pack.{pack}
-use Rattle.places.specs.Memory.{counted}
-use Rattle.places.specs.Records.{clearedTo}
-use Rattle.places.proofs.Clearing.{cleared-to}
-use Rattle.packing.specs.Lent.{packOn, isPast, clearedBy, PackedOn}
-use Rattle.packing.proofs.Lending.{Alike, clearedIf, lentTo, lend-pack, lend-places, past-long}
-use Rattle.packing.proofs.Clearing.{packed-clears}
-use Rattle.service.specs.Packing.{Packs}
-use Rattle.service.proofs.Laws.{counted-long, fits-after}
+use Rattle.border_theory.specs.Records.Plain.{counted}
+use Rattle.border_theory.specs.Records.Changes.{clearedTo}
+use Rattle.border_theory.proofs.Records.Clearing.{cleared-to}
+use Rattle.pack_theory.specs.Packing.Lent.{packOn, isPast, clearedBy, PackedOn}
+use Rattle.pack_theory.proofs.Packing.Lending.{Alike, clearedIf, lentTo, lend-pack, lend-places, past-long}
+use Rattle.pack_theory.proofs.Packing.Clearing.{packed-clears}
+use Rattle.promises.specs.Promises.{Packs}
+use Rattle.service.proofs.Laws.{counted-long, fits-after, places-after}
 
-places-packed : (t : Bool) (n : ℕ) (ps : List Place) → (t ≡ true → maxPlaces ≤ length ps) → n ≡ elim t [ true ↦ maxPlaces | false ↦ 0 ]
-    → clearedTo n ps ≡ clearedIf t ps
-unfolding cleared clearedTo
-places-packed true n ps h e = ap (λ (k : ℕ). clearedTo k ps) e ∙ cleared-to maxPlaces ps (h refl)
-places-packed false n ps h e = ap (λ (k : ℕ). clearedTo k ps) e
-
-module _ (v : ℕ) (xs ns bs : List ℕ) (ps : List Place) (r : Packed) (ns′ bs′ : List ℕ) (p : PackedOn v xs ns bs (counted ps) r ns′ bs′) where
+module _ (v : ℕ) (xs ns bs : List ℕ) (ps : List Place) (r : Packed) (ns′ bs′ : List ℕ)
+    (p : PackedOn v xs ns bs (counted ps) r ns′ bs′) where
   same : Alike (pack v xs (lentTo ns ps bs)) (packOn v xs (counted ps) ns bs)
   same = lend-pack v xs ns bs ps (counted ps) (counted-long (length ps))
 
@@ -49,6 +44,6 @@ module _ (v : ℕ) (xs ns bs : List ℕ) (ps : List Place) (r : Packed) (ns′ b
     numbering = p .numbering ∙ sym (same .numbering);
     bytes = p .bytes ∙ sym (same .bytes);
     places =
-        e ∙ places-packed past (clearedBy r) ps (past-long (check v xs) v (length ps) (length ns)) (packed-clears v xs ns bs ps r answers)
+        e ∙ places-after past (clearedBy r) ps (past-long (check v xs) v (length ps) (length ns)) (packed-clears v xs ns bs ps r answers)
         ∙ sym (lend-places v xs ns bs ps);
   }

@@ -18,9 +18,9 @@ use rules::Packed;
 use rules::Performed;
 use rules::Place;
 use rules::Unpacked;
-ghost use Rattle.building.specs.Promised.{Beginning, Operating, Finishing};
-ghost use Rattle.service.specs.Calls.{Checking, Unpacks};
-ghost use Rattle.service.specs.Packing.{Packs};
+ghost use Rattle.promises.specs.Promises.{Beginning, Operating, Finishing};
+ghost use Rattle.promises.specs.Promises.{Checking, Unpacks};
+ghost use Rattle.promises.specs.Promises.{Packs};
 
 // Checks any list of a model of v vertices: refusals 1 to 7, or its acceptance. It needs no place records.
 pub fn check(v: usize, list: &[u16]) -> Checked
@@ -32,7 +32,8 @@ pub fn check(v: usize, list: &[u16]) -> Checked
 // Unpacks any bytes: refusals 12 to 20, or the model, whose triangles then stand in the first entries as built. After 15 to 20 the
 // first 3T triangle entries are zero. Past 14 the first 1,024 place records are left zero; after 12 to 14 nothing has changed.
 pub fn unpack(pack: &[u8], triangles: &mut [u16], places: &mut [Place]) -> Unpacked
-    ensures { λ r. ⌜ Unpacks (now (pack .entry)) (now (triangles .entry)) (now (places .entry)) r (now (triangles .exit)) (now (places .exit)) ⌝ }
+    ensures { λ r. ⌜ Unpacks (now (pack .entry)) (now (triangles .entry)) (now (places .entry)) r (now (triangles .exit))
+        (now (places .exit)) ⌝ }
 {
     let n = count(places.len());
     let r = unpacker::unpack_on(pack, triangles, n);
@@ -50,7 +51,8 @@ pub fn pack(
     buffer: &mut [u8],
     places: &mut [Place],
 ) -> Packed
-    ensures { λ r. ⌜ Packs v (now (list .entry)) (now (numbering .entry)) (now (buffer .entry)) (now (places .entry)) r (now (numbering .exit)) (now (buffer .exit)) (now (places .exit)) ⌝ }
+    ensures { λ r. ⌜ Packs v (now (list .entry)) (now (numbering .entry)) (now (buffer .entry)) (now (places .entry)) r
+        (now (numbering .exit)) (now (buffer .exit)) (now (places .exit)) ⌝ }
 {
     let n = count(places.len());
     let r = packer::pack_on(v, list, numbering, buffer, n);
@@ -64,8 +66,8 @@ pub fn begin(stated: Counts, triangles: &mut [u16], places: &mut [Place]) -> Beg
     ensures { λ r. ⌜ Beginning stated (now (triangles .entry)) (now (places .entry)) r (now (triangles .exit)) (now (places .exit)) ⌝ }
 {
     let n = count(places.len());
-    let r = calls::begin::begin_on(stated, triangles, n);
-    clear(places, calls::begin::cleared(r));
+    let r = builder::begin::begin_on(stated, triangles, n);
+    clear(places, builder::begin::cleared(r));
     r
 }
 
@@ -82,7 +84,7 @@ pub fn operation(
     let n = count(places.len());
     let mut m = empty();
     load(places, &mut m, n);
-    let r = calls::operation::operation_on(state, op, triangles, &mut m, n);
+    let r = builder::operation::operation_on(state, op, triangles, &mut m, n);
     link_all(&m, places);
     free_all(&m, places);
     r
@@ -95,5 +97,5 @@ pub fn finish(state: Builder, triangles: &[u16], places: &[Place]) -> Finished
     let n = count(places.len());
     let mut m = empty();
     load(places, &mut m, n);
-    calls::finish::finish_on(state, triangles, &mut m, n)
+    builder::finish::finish_on(state, triangles, &mut m, n)
 }

@@ -4,12 +4,13 @@
 // after a write that fails there is such a line too, and the program ends.
 use libc::STDIN_FILENO;
 use rules::Builder;
-use show::print_refusal;
-use show::print_unpacked;
-use streams::Output;
-use streams::Read;
-use streams::read_full;
-use streams::say_failed;
+use rules::CORNERS;
+use text::show::print_refusal;
+use text::show::print_unpacked;
+use text::streams::Output;
+use text::streams::Read;
+use text::streams::read_full;
+use text::streams::say_failed;
 
 // The longest input that is unpacked, and one byte more to tell a longer one.
 const MOST_BYTES: usize = 65536;
@@ -73,7 +74,7 @@ fn unpack_named(out: Output, i: usize, pack: &mut [u8], triangles: &mut [u16]) -
 fn unpack_each(
     count: usize,
     pack: &mut [u8; MOST_BYTES + 1],
-    triangles: &mut [u16; 24576],
+    triangles: &mut [u16; CORNERS],
 ) -> Output {
     let mut out = Output::fresh();
     let mut i = 1;
@@ -89,7 +90,7 @@ fn unpack_each(
 
 fn main() {
     let mut pack = [0u8; MOST_BYTES + 1];
-    let mut triangles = [0u16; 24576];
+    let mut triangles = [0u16; CORNERS];
     let count = os::arg_count();
     if count < 2 {
         unpack_standard(Output::fresh(), &mut pack, &mut triangles).end(b"unpack");

@@ -15,9 +15,9 @@ use Rattle.rules.specs.Unpack.{turnedDown, unpackFields}
 use Rattle.wire.specs.declared.fields.PackFields.{PackFields}
 use Rattle.wire.specs.declared.fields.PackFields.the-variants.{Found, Refused}
 use Rattle.wire.specs.Fields.{ranged, tested, packFields, PartFound, Parted}
-use Rattle.unpacking.specs.Lent.{lent, UnpackedOn}
-use Rattle.unpacking.proofs.Unpacking.{turned-on}
-use Rattle.unpacking.proofs.Lending.{fields-13}
+use Rattle.unpack_theory.specs.Lent.{lent, UnpackedOn}
+use Rattle.unpack_theory.proofs.Unpacking.{turned-on}
+use Rattle.unpack_theory.proofs.Lending.{fields-13}
 
 out : (k : ℕ) (s : Counts) (a b : ℕ) → Found s a b ≡ Refused k → ⊥
 out k s a b e = let z : _≡_ {A = ℕ} 0 1 = cc in omega arith
@@ -39,7 +39,8 @@ pub refused-on : (bytes : List ℕ) (n : ℕ) (ts : List ℕ) (f : PackFields) (
     → ((j : ℕ) → f ≡ Refused j → r ≡ U.Refused j) → UnpackedOn bytes ts n r ts
 unfolding packFields
 refused-on bytes n ts f k i e r h =
-    subst (λ (x : Unpacked). UnpackedOn bytes ts n x ts) (sym (h k e)) (turned-on bytes n ts k (by-fields n k ts (fieldsOf bytes) (sym i ∙ e)))
+    subst (λ (x : Unpacked). UnpackedOn bytes ts n x ts) (sym (h k e))
+    (turned-on bytes n ts k (by-fields n k ts (fieldsOf bytes) (sym i ∙ e)))
 
 -- the part of the pack that holds the operations
 pub part-found : (bytes : List ℕ) (f : PackFields) (s : Counts) (a b : ℕ) → Parted bytes f → f ≡ Found s a b → PartFound bytes s a b

@@ -1,3 +1,3 @@
-pub mod Reading
 pub mod Again
 pub mod Fielding
+pub mod Reading

@@ -11,14 +11,14 @@ use borrow.Author.Tests.{le-leb}
 use Rattle.rules.specs.declared.Operation.{Operation}
 use Rattle.rules.specs.Bits.{bitsOfBytes}
 use Rattle.rules.specs.Code.{Read, breaks-off, read, readOperation}
-use Rattle.memory.specs.declared.Front.{Front}
-use Rattle.unpacking.specs.declared.Stepped.{Stepped}
-use Rattle.unpacking.specs.declared.Stepped.the-variants.{Going, Refused}
-use Rattle.unpacking.specs.declared.Progress.{Progress}
-use Rattle.unpacking.specs.Runs.{isComplete, Beyond, OperateOf}
-use Rattle.unpacking.specs.Progressing.{over, progressOf, HeldBy}
-use Rattle.unpacking.proofs.Operating.{step-broken, step-read}
-use Rattle.unpacking.proofs.Leading.{going-held, turn-over, turn-complete, turn-step, progress-less}
+use Rattle.cutborder.specs.declared.Front.{Front}
+use Rattle.cutborder.specs.declared.Stepped.{Stepped}
+use Rattle.cutborder.specs.declared.Stepped.the-variants.{Going, Refused}
+use Rattle.cutborder.specs.declared.Progress.{Progress}
+use Rattle.unpack_theory.specs.Runs.{isComplete, Beyond, OperateOf}
+use Rattle.unpack_theory.specs.Progressing.{over, progressOf, HeldBy}
+use Rattle.unpack_theory.proofs.Operating.{step-broken, step-read}
+use Rattle.unpack_theory.proofs.Leading.{going-held, turn-over, turn-complete, turn-step, progress-less}
 use Rattle.unpacker.specs.Turns.{StepRead, TurnOf}
 use Rattle.wire.specs.declared.reader.OperationRead.{OperationRead}
 use Rattle.wire.specs.declared.reader.OperationRead.the-variants.{Found, BreaksOff}

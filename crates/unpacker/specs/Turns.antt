@@ -3,13 +3,13 @@
 use Prim.Native.Nat.{ℕ, _<_}
 use mathlib.Core.List.{List}
 use lib.ListN.{length}
-use Rattle.memory.specs.declared.Front.{Front}
+use Rattle.cutborder.specs.declared.Front.{Front}
 use Rattle.wire.specs.declared.reader.OperationRead.{OperationRead}
 use Rattle.wire.specs.Reader.{ReadIs}
-use Rattle.unpacking.specs.declared.Stepped.{Stepped}
-use Rattle.unpacking.specs.declared.Progress.{Progress}
-use Rattle.unpacking.specs.Runs.{StepOf}
-use Rattle.unpacking.specs.Progressing.{Leads}
+use Rattle.cutborder.specs.declared.Stepped.{Stepped}
+use Rattle.cutborder.specs.declared.Progress.{Progress}
+use Rattle.unpack_theory.specs.Runs.{StepOf}
+use Rattle.unpack_theory.specs.Progressing.{Leads}
 
 -- a step, wherever the operation was read
 abbrev pub StepRead : OperationRead → Front → List ℕ → List ℕ → List ℕ → List ℕ → Stepped → List ℕ → List ℕ → List ℕ → List ℕ → Type 0

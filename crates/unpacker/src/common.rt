@@ -2,14 +2,14 @@
 // the core's. The answers are those of the core's functions of the same names, found in fewer steps.
 use border::plan::forward_plan;
 use border::plan::new_plan;
-use memory::Decided;
-use memory::Loops;
+use cutborder::Decided;
+use cutborder::Loops;
 use rings::surgery::cut_next;
 use rings::surgery::grow;
 use rules::Operation;
 ghost use mathlib.Core.Path.{_≡_};
-ghost use Rattle.memory.specs.Decision.{proposedAt, heldBy};
-ghost use Rattle.memory.specs.Performs.{Proposable, Performs};
+ghost use Rattle.border_theory.specs.Memory.Decision.{proposedAt, heldBy};
+ghost use Rattle.border_theory.specs.Memory.Performs.{Proposable, Performs};
 
 // 16, or what would be done with the loops l, where u is the next unused number.
 pub(crate) fn propose(m: &[u16], n: usize, l: Loops, u: u16, o: Operation) -> Decided

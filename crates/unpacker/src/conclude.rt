@@ -1,19 +1,19 @@
 // The end of a run: whether the model is complete, 19 and 20, and the answer.
-use memory::Front;
-use mesh::Links;
-use mesh::Met;
-use mesh::met_fans;
+use corners::Links;
+use cutborder::Front;
+use cutborder::Stepped;
+use mesh::fans::Met;
+use mesh::fans::met_fans;
 use rules::Model;
 use rules::Totals;
 use rules::Unpacked;
-use unpacking::Stepped;
 use wire::reader::is_rest_zero;
 ghost use mathlib.Core.Path.{_≡_};
 ghost use Prim.Native.Nat.{ℕ};
 ghost use lib.IntN.{pos, _+ℤ_, _-ℤ_};
 ghost use Rattle.rules.specs.Answer.{refusal, unpacked, unpackedAnswer};
-ghost use Rattle.unpacking.specs.declared.Stepped.the-variants.{Refused};
-ghost use Rattle.unpacking.specs.Runs.{isComplete, isAsStated, modelAnswer, Whole, Concludes, Ended, Answers};
+ghost use Rattle.cutborder.specs.declared.Stepped.the-variants.{Refused};
+ghost use Rattle.unpack_theory.specs.Runs.{isComplete, isAsStated, modelAnswer, Whole, Concludes, Ended, Answers};
 
 // Whether the model is complete: T triangles are built, and no loop is live.
 pub fn is_complete(s: Front) -> bool
@@ -80,7 +80,8 @@ fn conclude(
     met: &Met,
 ) -> Unpacked
     requires { ⌜ Whole s (now triangles) (now chains) (now met) ⌝ }
-    ensures { λ r. ⌜ Concludes (now (ops .entry)) at s (now (triangles .entry)) (now (chains .entry)) (now (met .entry)) (unpackedAnswer r) ⌝ }
+    ensures { λ r. ⌜ Concludes (now (ops .entry)) at s (now (triangles .entry)) (now (chains .entry)) (now (met .entry)) (unpackedAnswer r)
+        ⌝ }
 {
     if !is_rest_zero(ops, at) {
         return Unpacked::Refused(19);

@@ -11,23 +11,19 @@ use crate::conclude::answer_of;
 use crate::step::run;
 use crate::tidy::tidy;
 use border::begin;
-use mesh::CORNERS;
-use mesh::VERTICES;
-use rules::Builder;
+use cutborder::CORE;
+use cutborder::PLACES;
+use rules::CORNERS;
 use rules::Counts;
 use rules::Unpacked;
+use rules::VERTICES;
 use wire::fields::PackFields;
 use wire::fields::fields_of;
 ghost use mathlib.Core.Path.{_≡_};
 ghost use Prim.Native.Nat.{ℕ};
 ghost use Rattle.rules.specs.declared.Unpacked.the-variants as Unpacks;
 ghost use Rattle.wire.specs.declared.fields.PackFields.the-variants as Packs;
-ghost use Rattle.unpacking.specs.Lent.{UnpackedOn, Fitting, RunGives, clearedBy};
-
-// How many places the memory has, and how many numbers.
-const PLACES: usize = Builder::MAX_PLACES;
-
-const MEMORY: usize = 5320;
+ghost use Rattle.unpack_theory.specs.Lent.{UnpackedOn, Fitting, RunGives, clearedBy};
 
 // The refusal of a pack's fields, 12 or 13, as the unpacking's.
 fn refusal_of(f: PackFields) -> Unpacked
@@ -69,7 +65,7 @@ pub fn unpack_on(pack: &[u8], triangles: &mut [u16], n: usize) -> Unpacked
     if n < PLACES {
         return Unpacked::Refused(14);
     }
-    let mut m = [0u16; MEMORY];
+    let mut m = [0u16; CORE];
     unpack_operations(&pack[from..to], stated, triangles, &mut m)
 }
 

@@ -1,11 +1,11 @@
 // The vertices that a run has met: split and union meet the third corner of their triangle. Any other vertex has one fan, so 20 tests
 // only those met.
-use mesh::Met;
+use mesh::fans::Met;
 use rules::Operation;
 ghost use mathlib.Core.Path.{_≡_};
 ghost use Prim.Native.Nat.{_<_};
 ghost use Rattle.rules.specs.Limits.{maxVertices};
-ghost use Rattle.unpacking.specs.Met.{isMeeting, metAfter};
+ghost use Rattle.unpack_theory.specs.Met.{isMeeting, metAfter};
 
 // Whether an operation of this kind meets the third corner of its triangle.
 fn is_meeting(o: Operation) -> bool

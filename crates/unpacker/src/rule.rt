@@ -1,11 +1,11 @@
 // The edge rule (18), by look-ups in the corner chains: a side that glues nothing joins two vertices that no triangle joins yet.
-use memory::Plan;
-use mesh::Links;
+use corners::Links;
+use corners::is_unjoined;
+use cutborder::Plan;
 use mesh::is_distinct;
-use mesh::is_unjoined;
 use rules::Operation;
 ghost use mathlib.Core.Path.{_≡_};
-ghost use Rattle.unpacking.specs.Rule.{isTested, SideIs, PlanIs, RuleIs};
+ghost use Rattle.unpack_theory.specs.Rule.{isTested, SideIs, PlanIs, RuleIs};
 
 // Whether a side x→y of a plan passes: it glues an edge (0), or joins what is not joined.
 fn is_side(list: &[u16], chains: &Links, side: u16, x: u16, y: u16) -> bool

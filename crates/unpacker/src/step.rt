@@ -1,5 +1,4 @@
 // One operation of a pack, read and done, and the run of them until the model is complete.
-use crate::PLACES;
 use crate::common::alter;
 use crate::common::propose;
 use crate::conclude::is_complete;
@@ -8,32 +7,33 @@ use crate::rule::is_ruled;
 use border::count::count_built;
 use border::mark;
 use border::verdict::test_room;
-use memory::Decided;
-use memory::Front;
-use memory::Plan;
-use mesh::Links;
-use mesh::Met;
-use mesh::link;
+use corners::Links;
+use corners::link;
+use cutborder::Decided;
+use cutborder::Front;
+use cutborder::PLACES;
+use cutborder::Plan;
+use cutborder::Progress;
+use cutborder::Stepped;
+use mesh::fans::Met;
 use rules::Operation;
 use rules::Triangle;
-use unpacking::Progress;
-use unpacking::Stepped;
 use wire::reader::OperationRead;
 use wire::reader::OperationReader;
 use wire::reader::read_operation;
 ghost use mathlib.Core.Path.{_≡_};
 ghost use Prim.Native.Nat.{_+_, _*_, _<_, _≤_};
 ghost use lib.ListN.{length};
-ghost use Rattle.memory.specs.declared.Decided.the-variants.{Builds};
-ghost use Rattle.memory.specs.Decision.{decided};
-ghost use Rattle.rules.specs.Limits.{maxPlaces};
-ghost use Rattle.unpacking.specs.Runs.{Held, written, Beyond, OperateOf, RunOf};
-ghost use Rattle.unpacking.specs.Progressing.{over, progressOf, HeldBy, Leads};
+ghost use Rattle.cutborder.specs.declared.Decided.the-variants.{Builds};
+ghost use Rattle.border_theory.specs.Memory.Decision.{decided};
+ghost use Rattle.rules.specs.Limits.{maxPlaces, maxTriangles};
+ghost use Rattle.unpack_theory.specs.Runs.{Held, written, Beyond, OperateOf, RunOf};
+ghost use Rattle.unpack_theory.specs.Progressing.{over, progressOf, HeldBy, Leads};
 ghost use Rattle.unpacker.specs.Turns.{StepRead, TurnOf};
 
 // Writes triangle n into the buffer.
 fn put_triangle(triangles: &mut [u16], n: usize, t: Triangle)
-    requires { ⌜ (3 * n + 3 ≤ length (now triangles)) × (n < 8192) ⌝ }
+    requires { ⌜ (3 * n + 3 ≤ length (now triangles)) × (n < maxTriangles) ⌝ }
     ensures { λ _. ⌜ now (triangles .exit) ≡ written (now (triangles .entry)) n t ⌝ }
 {
     let i = 3 * n;
@@ -55,7 +55,8 @@ fn build_triangle(
     met: &mut Met,
 ) -> Stepped
     requires { ⌜ Held s (now triangles) (now m) (now chains) (now met) × (decided maxPlaces s (now m) o ≡ Builds p) ⌝ }
-    ensures turn { λ r. ⌜ OperateOf o next s (now (triangles .entry)) (now (m .entry)) (now (chains .entry)) (now (met .entry)) r (now (triangles .exit)) (now (m .exit)) (now (chains .exit)) (now (met .exit)) ⌝ }
+    ensures turn { λ r. ⌜ OperateOf o next s (now (triangles .entry)) (now (m .entry)) (now (chains .entry)) (now (met .entry)) r
+        (now (triangles .exit)) (now (m .exit)) (now (chains .exit)) (now (met .exit)) ⌝ }
     ensures beyond { λ _. ⌜ Beyond (s .stated) (now (triangles .entry)) (now (triangles .exit)) ⌝ }
 {
     if !is_ruled(triangles, chains, o, p) {
@@ -81,7 +82,8 @@ fn operate(
     met: &mut Met,
 ) -> Stepped
     requires { ⌜ Held s (now triangles) (now m) (now chains) (now met) ⌝ }
-    ensures turn { λ r. ⌜ OperateOf o next s (now (triangles .entry)) (now (m .entry)) (now (chains .entry)) (now (met .entry)) r (now (triangles .exit)) (now (m .exit)) (now (chains .exit)) (now (met .exit)) ⌝ }
+    ensures turn { λ r. ⌜ OperateOf o next s (now (triangles .entry)) (now (m .entry)) (now (chains .entry)) (now (met .entry)) r
+        (now (triangles .exit)) (now (m .exit)) (now (chains .exit)) (now (met .exit)) ⌝ }
     ensures beyond { λ _. ⌜ Beyond (s .stated) (now (triangles .entry)) (now (triangles .exit)) ⌝ }
 {
     let proposed = propose(m, PLACES, s.loops, s.used, o);
@@ -103,7 +105,8 @@ fn step(
     met: &mut Met,
 ) -> Stepped
     requires { ⌜ Held s (now triangles) (now m) (now chains) (now met) ⌝ }
-    ensures turn { λ r. ⌜ StepRead read s (now (triangles .entry)) (now (m .entry)) (now (chains .entry)) (now (met .entry)) r (now (triangles .exit)) (now (m .exit)) (now (chains .exit)) (now (met .exit)) ⌝ }
+    ensures turn { λ r. ⌜ StepRead read s (now (triangles .entry)) (now (m .entry)) (now (chains .entry)) (now (met .entry)) r
+        (now (triangles .exit)) (now (m .exit)) (now (chains .exit)) (now (met .exit)) ⌝ }
     ensures beyond { λ _. ⌜ Beyond (s .stated) (now (triangles .entry)) (now (triangles .exit)) ⌝ }
 {
     let OperationRead::Found(o, next) = read else {
@@ -146,7 +149,8 @@ fn turn<'a>(
     met: &'a mut Met,
 ) -> Progress
     requires { ⌜ HeldBy p (now triangles) (now m) (now chains) (now met) × (0 < p .left) ⌝ }
-    ensures { λ r. ⌜ TurnOf read p (now (triangles .entry)) (now (m .entry)) (now (chains .entry)) (now (met .entry)) r (now (triangles .exit)) (now (m .exit)) (now (chains .exit)) (now (met .exit)) ⌝ }
+    ensures { λ r. ⌜ TurnOf read p (now (triangles .entry)) (now (m .entry)) (now (chains .entry)) (now (met .entry)) r
+        (now (triangles .exit)) (now (m .exit)) (now (chains .exit)) (now (met .exit)) ⌝ }
 {
     let stepped = p.stepped;
     let Stepped::Going(s, _) = stepped else {
@@ -169,7 +173,9 @@ fn turns(
     met: &mut Met,
 ) -> Progress
     requires { ⌜ HeldBy p (now triangles) (now m) (now chains) (now met) × (length (now ops) < 65536) ⌝ }
-    ensures { λ r. ⌜ (r .left ≡ 0) × Leads (now (ops .entry)) p (now (triangles .entry)) (now (m .entry)) (now (chains .entry)) (now (met .entry)) r (now (triangles .exit)) (now (m .exit)) (now (chains .exit)) (now (met .exit)) ⌝ }
+    ensures { λ r. ⌜ (r .left ≡ 0)
+        × Leads (now (ops .entry)) p (now (triangles .entry)) (now (m .entry)) (now (chains .entry)) (now (met .entry)) r
+        (now (triangles .exit)) (now (m .exit)) (now (chains .exit)) (now (met .exit)) ⌝ }
 {
     let mut r = OperationReader {
         bytes: ops,
@@ -195,7 +201,8 @@ pub fn run(
     met: &mut Met,
 ) -> Stepped
     requires { ⌜ Held start (now triangles) (now m) (now chains) (now met) × (length (now ops) < 65536) ⌝ }
-    ensures run { λ r. ⌜ RunOf (now (ops .entry)) budget start (now (triangles .entry)) (now (m .entry)) (now (chains .entry)) (now (met .entry)) r (now (triangles .exit)) (now (m .exit)) (now (chains .exit)) (now (met .exit)) ⌝ }
+    ensures run { λ r. ⌜ RunOf (now (ops .entry)) budget start (now (triangles .entry)) (now (m .entry)) (now (chains .entry))
+        (now (met .entry)) r (now (triangles .exit)) (now (m .exit)) (now (chains .exit)) (now (met .exit)) ⌝ }
     ensures beyond { λ _. ⌜ Beyond (start .stated) (now (triangles .entry)) (now (triangles .exit)) ⌝ }
 {
     let first = progress(Stepped::Going(start, 0), budget);

@@ -15,19 +15,21 @@ use Rattle.rules.specs.declared.Operation.{Operation}
 use Rattle.rules.specs.declared.Operation.the-variants.{New, Forward, Backward, Border, Split, Close, Union, Start}
 use Rattle.rules.specs.Bits as Bits
 use Rattle.rules.specs.Bits.{valueOf, bitsOfBytes, broken-off, number, readNumber}
-use Rattle.rules.specs.Code.{code, operationBits, Read, breaks-off, read, readSplit, readPlace, readUnion, kinds, kindIn, readIndices, readCode, readOperation}
-use Rattle.codes.specs.Shape.{Fits}
-use Rattle.codes.specs.Whole.{widthOf}
-use Rattle.codes.proofs.Lists.{below-drop}
-use Rattle.codes.proofs.Numbers.{read-enough, read-short}
-use Rattle.codes.proofs.Bytes.{length-bits-of-bytes, bits-of-bytes-are}
-use Rattle.codes.proofs.Operations as Ops
-use Rattle.codes.proofs.Operations.{operation-read, length-read, length-operation, width-least}
+use Rattle.rules.specs.Code.{code, operationBits, Read, breaks-off, read, readSplit, readPlace, readUnion, kinds, kindIn, readIndices}
+use Rattle.rules.specs.Code.{readCode, readOperation}
+use Rattle.wire_theory.specs.Shape.{Fits}
+use Rattle.wire_theory.specs.Whole.{widthOf}
+use Rattle.wire_theory.proofs.Lists.{below-drop}
+use Rattle.wire_theory.proofs.Numbers.{read-enough, read-short}
+use Rattle.wire_theory.proofs.Bytes.{length-bits-of-bytes, bits-of-bytes-are}
+use Rattle.wire_theory.proofs.Operations as Ops
+use Rattle.wire_theory.proofs.Operations.{operation-read, length-read, length-operation, width-least}
 use Rattle.wire.specs.declared.reader.Number.{Number}
 use Rattle.wire.specs.declared.reader.Number.the-variants.{Value, BrokenOff}
 use Rattle.wire.specs.declared.reader.OperationRead.{OperationRead}
 use Rattle.wire.specs.declared.reader.OperationRead.the-variants.{Found, BreaksOff}
-use Rattle.wire.specs.Reader.{mostBytes, numberIn, numberWithin, numberAt, IndexedIs, operationIn, operationWithin, operationAt, splitOf, placeOf, unionOf, OperationFound, Ahead}
+use Rattle.wire.specs.Reader.{mostBytes, numberIn, numberWithin, numberAt, IndexedIs, operationIn, operationWithin, operationAt}
+use Rattle.wire.specs.Reader.{splitOf, placeOf, unionOf, OperationFound, Ahead}
 
 -- ---- a kind by its code
 
@@ -43,9 +45,11 @@ last-kind c = go (eqb 7 c)
     go true = refl
     go false = refl
 
-pub kind-rest : (c : ℕ) → (c ≡ 0 → ⊥) → (c ≡ 1 → ⊥) → (c ≡ 2 → ⊥) → (c ≡ 3 → ⊥) → (c ≡ 4 → ⊥) → (c ≡ 5 → ⊥) → (c ≡ 6 → ⊥) → Start ≡ kindIn c kinds
+pub kind-rest : (c : ℕ) → (c ≡ 0 → ⊥) → (c ≡ 1 → ⊥) → (c ≡ 2 → ⊥) → (c ≡ 3 → ⊥) → (c ≡ 4 → ⊥) → (c ≡ 5 → ⊥) → (c ≡ 6 → ⊥)
+    → Start ≡ kindIn c kinds
 kind-rest c h0 h1 h2 h3 h4 h5 h6 =
-    sym (skip c New _ h0 ∙ skip c Forward _ h1 ∙ skip c Backward _ h2 ∙ skip c Border _ h3 ∙ skip c (Split 0) _ h4 ∙ skip c Close _ h5 ∙ skip c (Union 0 0) _ h6 ∙ last-kind c)
+    sym (skip c New _ h0 ∙ skip c Forward _ h1 ∙ skip c Backward _ h2 ∙ skip c Border _ h3 ∙ skip c (Split 0) _ h4 ∙ skip c Close _ h5
+    ∙ skip c (Union 0 0) _ h6 ∙ last-kind c)
 
 -- ---- a number that was read
 
@@ -63,7 +67,8 @@ module _ (bs : List ℕ) where
   unfolding numberAt
   within n at h = rw (le-leb (length bs) mostBytes h)
 
-  operation-within : (at : ℕ) → length bs ≤ mostBytes → operationAt bs at ≡ operationIn (8 * length bs) (readOperation (drop at (bitsOfBytes bs)))
+  operation-within : (at : ℕ) → length bs ≤ mostBytes
+      → operationAt bs at ≡ operationIn (8 * length bs) (readOperation (drop at (bitsOfBytes bs)))
   unfolding operationAt
   operation-within at h = rw (le-leb (length bs) mostBytes h)
 
@@ -73,7 +78,8 @@ module _ (bs : List ℕ) where
     numbered-by v next h (yes l) e p =
         let xs = drop at (bitsOfBytes bs) in
         let r : readNumber n 0 xs ≡ number (valueOf 0 (take n xs)) (drop n xs) = read-enough n 0 xs l in
-        let f : Value (valueOf 0 (take n xs)) (8 * length bs - length (drop n xs)) ≡ Value v next = sym (ap (numberIn (8 * length bs)) r) ∙ e in
+        let f : Value (valueOf 0 (take n xs)) (8 * length bs - length (drop n xs)) ≡ Value v next =
+        sym (ap (numberIn (8 * length bs)) r) ∙ e in
         let a : valueOf 0 (take n xs) ≡ v = cc in
         let b : 8 * length bs - length (drop n xs) ≡ next = cc in
         let d : next ≡ at + n = omega (arith, left at, length-drop n xs) in
@@ -101,7 +107,9 @@ module _ (bs : List ℕ) where
     none-read : length bs ≤ mostBytes → numberAt n bs at ≡ BrokenOff → readNumber n 0 (drop at (bitsOfBytes bs)) ≡ broken-off
     none-read h e = go (readNumber n 0 (drop at (bitsOfBytes bs))) refl (sym (within n at h) ∙ e)
       where
-        go : (r : Bits.Number) → readNumber n 0 (drop at (bitsOfBytes bs)) ≡ r → numberIn (8 * length bs) (readNumber n 0 (drop at (bitsOfBytes bs))) ≡ BrokenOff → readNumber n 0 (drop at (bitsOfBytes bs)) ≡ broken-off
+        go : (r : Bits.Number) → readNumber n 0 (drop at (bitsOfBytes bs)) ≡ r
+            → numberIn (8 * length bs) (readNumber n 0 (drop at (bitsOfBytes bs))) ≡ BrokenOff
+            → readNumber n 0 (drop at (bitsOfBytes bs)) ≡ broken-off
         go broken-off f g = f
         go (number v ys) f g =
             let k : Value v (8 * length bs - length ys) ≡ BrokenOff = sym (ap (numberIn (8 * length bs)) f) ∙ g in
@@ -119,7 +127,8 @@ place-in t p broken-off = refl
 place-in t p (number j ys) = refl
 
 -- a kind with no indices
-plain-kind : (t c : ℕ) (ys : List ℕ) → (c ≡ 4 → ⊥) → (c ≡ 6 → ⊥) → operationIn t (readIndices (kindIn c kinds) ys) ≡ Found (kindIn c kinds) (t - length ys)
+plain-kind : (t c : ℕ) (ys : List ℕ) → (c ≡ 4 → ⊥) → (c ≡ 6 → ⊥)
+    → operationIn t (readIndices (kindIn c kinds) ys) ≡ Found (kindIn c kinds) (t - length ys)
 unfolding kindIn
 plain-kind t zero ys h k = refl
 plain-kind t (suc zero) ys h k = refl
@@ -130,12 +139,14 @@ plain-kind t (suc (suc (suc (suc (suc zero))))) ys h k = refl
 plain-kind t (suc (suc (suc (suc (suc (suc zero)))))) ys h k = absurd (k refl)
 plain-kind t (suc (suc (suc (suc (suc (suc (suc c))))))) ys h k =
     let e : Start ≡ kindIn (suc (suc (suc (suc (suc (suc (suc c))))))) kinds =
-    kind-rest (suc (suc (suc (suc (suc (suc (suc c))))))) (λ x. omega arith) (λ x. omega arith) (λ x. omega arith) (λ x. omega arith) h (λ x. omega arith) k in
+    kind-rest (suc (suc (suc (suc (suc (suc (suc c))))))) (λ x. omega arith) (λ x. omega arith) (λ x. omega arith) (λ x. omega arith) h
+    (λ x. omega arith) k in
     ap (λ (o : Operation). operationIn t (readIndices o ys)) (sym e) ∙ ap (λ (o : Operation). Found o (t - length ys)) e
 
 module _ (bs : List ℕ) (at : ℕ) where
   -- by its code
-  by-code : (c next : ℕ) → Numbered 3 bs at c next → operationAt bs at ≡ operationIn (8 * length bs) (readIndices (kindIn c kinds) (drop next (bitsOfBytes bs)))
+  by-code : (c next : ℕ) → Numbered 3 bs at c next
+      → operationAt bs at ≡ operationIn (8 * length bs) (readIndices (kindIn c kinds) (drop next (bitsOfBytes bs)))
   unfolding readOperation
   by-code c next n = operation-within bs at (n .short) ∙ ap (λ (r : Bits.Number). operationIn (8 * length bs) (readCode r)) (n .reads)
 
@@ -144,7 +155,8 @@ module _ (bs : List ℕ) (at : ℕ) where
   breaks-code e = go (leb (length bs) mostBytes) refl
     where
       go : (t : Bool) → leb (length bs) mostBytes ≡ t → BreaksOff ≡ operationWithin t bs at
-      go true f = sym (ap (λ (r : Bits.Number). operationIn (8 * length bs) (readCode r)) (none-read bs 3 at (leb-true (length bs) mostBytes f) e))
+      go true f = sym (ap (λ (r : Bits.Number). operationIn (8 * length bs) (readCode r))
+          (none-read bs 3 at (leb-true (length bs) mostBytes f) e))
       go false f = refl
 
   module _ (c next : ℕ) (first : numberAt 3 bs at ≡ Value c next) where
@@ -192,7 +204,8 @@ module _ (bs : List ℕ) (at : ℕ) where
       let l : length xs ≡ widthOf k + length ys = length-read k xs ys r in
       let w : next ≡ at + widthOf k = omega (arith, left bs at, width-least k) in
       let d : ys ≡ drop next (bitsOfBytes bs) =
-      sym (drop-append-seam (operationBits k) ys) ∙ ap₂ drop (length-operation k) (sym (r .from)) ∙ drop-drop (widthOf k) at (bitsOfBytes bs)
+      sym (drop-append-seam (operationBits k) ys) ∙ ap₂ drop (length-operation k) (sym (r .from))
+      ∙ drop-drop (widthOf k) at (bitsOfBytes bs)
       ∙ ap (λ (i : ℕ). drop i (bitsOfBytes bs)) (sym w) in
       record {
         reads = e ∙ ap₂ read p d;

@@ -13,10 +13,11 @@ use mir.Syntax.{w8}
 use mir.Val.{Fits}
 use borrow.Author.Tests.{eq-eqb, ne-eqb, le-leb, lt-leb}
 use Rattle.rules.specs.declared.Counts.{Counts}
-use Rattle.rules.specs.Fields.{wordAt, Field, no-field, field, takeField, Fields, no-pack, fields, countsFrom, lastField, firstField, fieldsOf}
+use Rattle.rules.specs.Fields.{wordAt, Field, no-field, field, takeField, Fields, no-pack, fields, countsFrom, lastField, firstField}
+use Rattle.rules.specs.Fields.{fieldsOf}
 use Rattle.rules.specs.Limits.{between, inRange}
-use Rattle.codes.proofs.Lists.{below-all}
-use Rattle.codes.proofs.Fields.{pack-found, found-part, PackFound}
+use Rattle.wire_theory.proofs.Lists.{below-all}
+use Rattle.wire_theory.proofs.Fields.{pack-found, found-part, PackFound}
 use Rattle.wire.specs.declared.fields.Contents.the-variants.{At, Nothing}
 use Rattle.wire.specs.declared.fields.PackFields.{PackFields}
 use Rattle.wire.specs.declared.fields.PackFields.the-variants.{Found, Refused}
@@ -61,15 +62,18 @@ module _ (bs : List ℕ) (at tag : ℕ) where
       unfolding fieldAt takeField
       field-cut k =
           let m = 256 * getD bs (at + 1) 0 + getD bs (at + 1 + 1) 0 in
-          let l : leb m (length (drop (at + 3) bs)) ≡ false = lt-leb m (length (drop (at + 3) bs)) (omega (arith, length-drop (at + 3) bs)) in
+          let l : leb m (length (drop (at + 3) bs)) ≡ false =
+          lt-leb m (length (drop (at + 3) bs)) (omega (arith, length-drop (at + 3) bs)) in
           rw (heads bs at h, takeField, eq-eqb (getD bs at 0) tag t, l)
 
       pub field-whole : at + 3 + n ≤ length bs → At (at + 3) (at + 3 + n) ≡ fieldAt bs at tag
       unfolding fieldAt takeField
       field-whole k =
           let m = 256 * getD bs (at + 1) 0 + getD bs (at + 1 + 1) 0 in
-          let l : leb m (length (drop (at + 3) bs)) ≡ true = le-leb m (length (drop (at + 3) bs)) (omega (arith, length-drop (at + 3) bs)) in
-          let e : n ≡ length (take m (drop (at + 3) bs)) = sym (length-take-le m (drop (at + 3) bs) (omega (arith, length-drop (at + 3) bs)) ∙ sym w) in
+          let l : leb m (length (drop (at + 3) bs)) ≡ true =
+          le-leb m (length (drop (at + 3) bs)) (omega (arith, length-drop (at + 3) bs)) in
+          let e : n ≡ length (take m (drop (at + 3) bs)) =
+          sym (length-take-le m (drop (at + 3) bs) (omega (arith, length-drop (at + 3) bs)) ∙ sym w) in
           rw (heads bs at h, takeField, eq-eqb (getD bs at 0) tag t, l) (ap (λ (k : ℕ). At (at + 3) (at + 3 + k)) e)
 
 -- ---- a field that was found
@@ -83,7 +87,9 @@ field-parts tag (a ∷ (b ∷ [])) cs ds e = absurd (no-such cs ds e)
 field-parts tag (t ∷ (h ∷ (l ∷ bs))) cs ds e = (go (eqb t tag) (leb (256 * h + l) (length bs)) e, omega arith)
   where
     go : (x y : Bool)
-        → _≡_ {A = Field} (elim x [ true ↦ elim y [ true ↦ field (take (256 * h + l) bs) (drop (256 * h + l) bs) | false ↦ no-field ] | false ↦ no-field ]) (field cs ds)
+        → _≡_ {A = Field} (elim x
+        [ true ↦ elim y [ true ↦ field (take (256 * h + l) bs) (drop (256 * h + l) bs) | false ↦ no-field ] | false ↦ no-field ])
+        (field cs ds)
         → bs ≡ cs ++ ds
     go true true e =
         let p : take (256 * h + l) bs ≡ cs = cc in
@@ -118,7 +124,8 @@ parts bs at tag a b e = go (takeField tag (drop at bs)) refl e
           ds = ds;
           taken = f;
           inner = ap (take (length cs)) d ∙ take-append-seam cs ds;
-          after = ap (λ (k : ℕ). drop k bs) (sym r) ∙ sym (drop-drop (length cs) (at + 3) bs) ∙ ap (drop (length cs)) d ∙ drop-append-seam cs ds;
+          after = ap (λ (k : ℕ). drop k bs) (sym r) ∙ sym (drop-drop (length cs) (at + 3) bs) ∙ ap (drop (length cs)) d
+              ∙ drop-append-seam cs ds;
           start = sym q;
           end = sym r;
           within = omega (arith, ap length d, length-append cs ds, length-drop (at + 3) bs, length-drop at bs, p .1);
@@ -134,7 +141,8 @@ other-eight cs ds l = rw (firstField, ne-eqb (length cs) 8 l)
 -- ---- the answers
 
 module _ (bs : List ℕ) (all : (i : ℕ) → Fits w8 (getD bs i 0)) where
-  part-found : (s : Counts) (ops : List ℕ) (a b : ℕ) (t : Bool) → fieldsOf bs ≡ fields s ops → inRange s ≡ t → (u : Counts) → ranged t s ops ≡ Found u a b
+  part-found : (s : Counts) (ops : List ℕ) (a b : ℕ) (t : Bool) → fieldsOf bs ≡ fields s ops → inRange s ≡ t → (u : Counts)
+      → ranged t s ops ≡ Found u a b
       → PartFound bs u a b
   part-found s ops a b true e i u f =
       let p : PackFound bs s ops = pack-found bs s ops (below-all 256 bs (λ i. all i .fits)) e in
@@ -190,7 +198,8 @@ module _ (bs : List ℕ) where
           let p : Parts bs 0 1 a e = parts bs 0 1 a e first in
           let l : length (p .cs) ≡ 8 = omega (arith, p .end) in
           let i : p .cs ≡ take 8 (drop 3 bs) = sym (p .inner) ∙ ap (λ (k : ℕ). take k (drop 3 bs)) l in
-          ap firstField (p .taken) ∙ just-eight (p .cs) (p .ds) l ∙ ap₂ (λ (us vs : List ℕ). lastField us (takeField 2 vs)) i (sym (p .after))
+          ap firstField (p .taken) ∙ just-eight (p .cs) (p .ds) l
+          ∙ ap₂ (λ (us vs : List ℕ). lastField us (takeField 2 vs)) i (sym (p .after))
 
       pub none-second : fieldAt bs e 2 ≡ Nothing → Refused 12 ≡ packFields bs
       unfolding fieldAt packFields
@@ -220,7 +229,9 @@ module _ (bs : List ℕ) where
 
           pub out-of-range : (s : Counts) → s ≡ countsFrom (take 8 (drop 3 bs)) → inRange s ≡ false → Refused 13 ≡ packFields bs
           unfolding packFields
-          out-of-range s i f = sym (ap tested (both ∙ ap (λ (u : Counts). fields u (parts bs e 2 c d second .cs)) (sym i)) ∙ ap (λ (t : Bool). ranged t s (parts bs e 2 c d second .cs)) f)
+          out-of-range s i f = sym
+              (ap tested (both ∙ ap (λ (u : Counts). fields u (parts bs e 2 c d second .cs)) (sym i))
+              ∙ ap (λ (t : Bool). ranged t s (parts bs e 2 c d second .cs)) f)
 
           pub all-found : (s : Counts) → s ≡ countsFrom (take 8 (drop 3 bs)) → inRange s ≡ true → Found s c d ≡ packFields bs
           unfolding packFields
@@ -237,7 +248,8 @@ module _ (bs : List ℕ) where
   inner-word : (i : ℕ) → i + 1 < 8 → wordAt bs (3 + i) ≡ wordAt (take 8 (drop 3 bs)) i
   inner-word i h =
       let a : getD (take 8 (drop 3 bs)) i 0 ≡ getD bs (3 + i) 0 = getD-take 8 (drop 3 bs) i 0 (omega arith) ∙ getD-drop 3 bs i 0 in
-      let b : getD (take 8 (drop 3 bs)) (i + 1) 0 ≡ getD bs (3 + (i + 1)) 0 = getD-take 8 (drop 3 bs) (i + 1) 0 h ∙ getD-drop 3 bs (i + 1) 0 in
+      let b : getD (take 8 (drop 3 bs)) (i + 1) 0 ≡ getD bs (3 + (i + 1)) 0 =
+      getD-take 8 (drop 3 bs) (i + 1) 0 h ∙ getD-drop 3 bs (i + 1) 0 in
       let c : getD bs (3 + (i + 1)) 0 ≡ getD bs (3 + i + 1) 0 = ap (λ (k : ℕ). getD bs k 0) (sym (add-assoc 3 i 1)) in
       ap₂ (λ (x y : ℕ). 256 * x + y) (sym a) (sym (b ∙ c))
 

@@ -12,8 +12,8 @@ use lib.Seq.{paste, paste-zero, paste-suc, take-length}
 use borrow.Author.Tests.{le-leb, lt-leb}
 use Rattle.rules.specs.declared.Counts.{Counts}
 use Rattle.rules.specs.Buffer.{over}
-use Rattle.codes.specs.Header.{headerOf}
-use Rattle.codes.proofs.Fields.{length-header}
+use Rattle.wire_theory.specs.Header.{headerOf}
+use Rattle.wire_theory.proofs.Fields.{length-header}
 use Rattle.wire.specs.Fields.{headed}
 
 -- after i bytes of s, from k on, of which there are n
@@ -28,7 +28,8 @@ module _ (n k : ℕ) (s buffer₀ : List ℕ) where
   pub copy-none : k + n ≤ length buffer₀ → n ≤ length s → Copied n k s buffer₀ buffer₀ 0
   copy-none h l = record { count = omega arith; within = h; enough = l; long = refl; holds = paste-zero buffer₀ k s }
 
-  pub copy-more : (buffer : List ℕ) (i j v : ℕ) → Copied n k s buffer₀ buffer i → i < n → j ≡ k + i → v ≡ getD s i 0 → Copied n k s buffer₀ (set buffer j v) (i + 1)
+  pub copy-more : (buffer : List ℕ) (i j v : ℕ) → Copied n k s buffer₀ buffer i → i < n → j ≡ k + i → v ≡ getD s i 0
+      → Copied n k s buffer₀ (set buffer j v) (i + 1)
   copy-more buffer i j v c h p q =
       record {
         count = omega arith;
@@ -46,7 +47,8 @@ module _ (n k : ℕ) (s buffer₀ : List ℕ) where
 -- ---- the header
 
 module _ (s : Counts) (n : ℕ) where
-  pub header-made : (a b c d e f g h i j : ℕ) → a ≡ s .vertices / 256 % 256 → b ≡ s .vertices % 256 → c ≡ s .triangles / 256 % 256 → d ≡ s .triangles % 256
+  pub header-made : (a b c d e f g h i j : ℕ) → a ≡ s .vertices / 256 % 256 → b ≡ s .vertices % 256 → c ≡ s .triangles / 256 % 256
+      → d ≡ s .triangles % 256
       → e ≡ s .places / 256 % 256 → f ≡ s .places % 256 → g ≡ s .loops / 256 % 256 → h ≡ s .loops % 256 → i ≡ n / 256 % 256 → j ≡ n % 256
       → 1 ∷ (0 ∷ (8 ∷ (a ∷ (b ∷ (c ∷ (d ∷ (e ∷ (f ∷ (g ∷ (h ∷ (2 ∷ (i ∷ (j ∷ []))))))))))))) ≡ headerOf s n
   unfolding headerOf
@@ -64,6 +66,7 @@ module _ (s : Counts) (n : ℕ) where
         let l : leb 14 (length buffer) ≡ true = le-leb 14 (length buffer) (c .within) in
         let m : length hs ≡ 14 = ap length e ∙ length-header s n in
         let p : last ≡ hs ++ drop 14 buffer =
-        copy-all 14 0 hs buffer last i c h ∙ ap (λ (us : List ℕ). us ++ drop 14 buffer) (ap (λ (k : ℕ). take k hs) (sym m) ∙ take-length hs) in
+        copy-all 14 0 hs buffer last i c h
+        ∙ ap (λ (us : List ℕ). us ++ drop 14 buffer) (ap (λ (k : ℕ). take k hs) (sym m) ∙ take-length hs) in
         let q : over hs buffer ≡ hs ++ drop 14 buffer = ap (λ (k : ℕ). hs ++ drop k buffer) m in
         (sym l, rw l (p ∙ sym q ∙ ap (λ (us : List ℕ). over us buffer) e))

@@ -1,6 +1,6 @@
+pub mod Codes
 pub mod Contents
 pub mod Copies
-pub mod Windows
-pub mod Codes
 pub mod Reading
+pub mod Windows
 pub mod Words

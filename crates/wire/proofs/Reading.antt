@@ -12,7 +12,8 @@ use Rattle.wire.specs.declared.reader.Number.{Number}
 use Rattle.wire.specs.declared.reader.Number.the-variants.{Value, BrokenOff}
 use Rattle.wire.specs.declared.reader.OperationRead.{OperationRead}
 use Rattle.wire.specs.declared.reader.OperationRead.the-variants.{Found}
-use Rattle.wire.specs.Reader.{numberAt, IndexedIs, PlainIs, plainOf, nextOf, placeAt, splitOf, unionOf, unionIn, indexedOf, indicesAt, ReadIs}
+use Rattle.wire.specs.Reader.{numberAt, IndexedIs, PlainIs, plainOf, nextOf, placeAt, splitOf, unionOf, unionIn, indexedOf, indicesAt}
+use Rattle.wire.specs.Reader.{ReadIs}
 use Rattle.wire.proofs.Codes.{answered, breaks-code, by-split, by-union, by-kind}
 
 -- one law for each way through the functions that the reader calls
@@ -32,7 +33,8 @@ plain-found n c next o e h = ap (λ (k : Operation). Found k next) h ∙ sym (ap
 pub place-union : (n p : Number) (c next r : ℕ) → n ≡ Value c next → (c ≡ 4 → ⊥) → r ≡ nextOf p → r ≡ placeAt n p
 place-union n p c next r e d h = h ∙ sym (ap (λ (x : Number). placeAt x p) e ∙ rw (placeAt, ne-eqb c 4 d))
 
-pub indexed-union : (n p j : Number) (c next : ℕ) (r : OperationRead) → n ≡ Value c next → (c ≡ 4 → ⊥) → r ≡ unionIn p j → r ≡ indexedOf n p j
+pub indexed-union : (n p j : Number) (c next : ℕ) (r : OperationRead) → n ≡ Value c next → (c ≡ 4 → ⊥) → r ≡ unionIn p j
+    → r ≡ indexedOf n p j
 indexed-union n p j c next r e d h = h ∙ sym (ap (λ (x : Number). indexedOf x p j) e ∙ rw (indexedOf, ne-eqb c 4 d))
 
 pub plain-read : (bs : List ℕ) (at : ℕ) (n : Number) (b : Bool) (r : OperationRead) → n ≡ numberAt 3 bs at → PlainIs n b → b ≡ true

@@ -13,11 +13,11 @@ use mir.Val.{Fits}
 use borrow.Author.Tests.{le-leb, lt-leb}
 use Rattle.rules.specs.Bits.{valueOf, bitsOfBytes, readNumber}
 use Rattle.rules.specs.Unpack.{restFits}
-use Rattle.codes.proofs.Lists.{below-all}
-use Rattle.codes.proofs.Numbers.{read-enough, read-short}
-use Rattle.codes.proofs.Bytes.{length-bits-of-bytes}
-use Rattle.codes.proofs.Rest.{rest-part}
-use Rattle.codes.proofs.Window.{window-value}
+use Rattle.wire_theory.proofs.Lists.{below-all}
+use Rattle.wire_theory.proofs.Numbers.{read-enough, read-short}
+use Rattle.wire_theory.proofs.Bytes.{length-bits-of-bytes}
+use Rattle.wire_theory.proofs.Rest.{rest-part}
+use Rattle.wire_theory.proofs.Window.{window-value}
 use Rattle.wire.specs.declared.reader.Number.the-variants.{Value, BrokenOff}
 use Rattle.wire.specs.Reader.{mostBytes, numberIn, numberAt}
 
@@ -54,13 +54,15 @@ module _ (n : ℕ) (bs : List ℕ) (at : ℕ) where
   number-short p h l =
       sym (within h ∙ ap (numberIn (8 * length bs)) (read-short n 0 (drop at (bitsOfBytes bs)) (omega (arith, left))))
 
-  pub number-read : (a b c : ℕ) → ((i : ℕ) → Fits w8 (getD bs i 0)) → n ≤ 10 → length bs ≤ mostBytes → at / 8 + (at % 8 + n + 7) / 8 ≤ length bs
+  pub number-read : (a b c : ℕ) → ((i : ℕ) → Fits w8 (getD bs i 0)) → n ≤ 10 → length bs ≤ mostBytes
+      → at / 8 + (at % 8 + n + 7) / 8 ≤ length bs
       → a ≡ getD bs (at / 8) 0 → b ≡ getD bs (at / 8 + 1) 0 → c ≡ getD bs (at / 8 + 2) 0
       → Value ((65536 * a + 256 * b + c) / 2 ^ (24 - at % 8 - n) % (1 * 2 ^ n % 18446744073709551616)) (at + n) ≡ numberAt n bs at
   number-read a b c all s h l ea eb ec =
       let xs = drop at (bitsOfBytes bs) in
       let e : at + n ≤ 8 * length bs = omega arith in
-      let w : valueOf 0 (take n xs) ≡ (65536 * getD bs (at / 8) 0 + 256 * getD bs (at / 8 + 1) 0 + getD bs (at / 8 + 2) 0) / 2 ^ (24 - at % 8 - n) % 2 ^ n =
+      let w : valueOf 0 (take n xs)
+      ≡ (65536 * getD bs (at / 8) 0 + 256 * getD bs (at / 8 + 1) 0 + getD bs (at / 8 + 2) 0) / 2 ^ (24 - at % 8 - n) % 2 ^ n =
       window-value bs at n (below-all 256 bs (λ i. all i .fits)) (omega arith) e in
       let d : length (drop n xs) ≡ 8 * length bs - (at + n) =
       length-drop n xs ∙ omega (arith, left) in

@@ -16,12 +16,12 @@ use Rattle.rules.specs.declared.Operation.{Operation}
 use Rattle.rules.specs.declared.Operation.the-variants.{New, Forward, Backward, Border, Split, Close, Union, Start}
 use Rattle.rules.specs.Bits.{bits, valueOf}
 use Rattle.rules.specs.Code.{operationBits}
-use Rattle.codes.specs.Buffer.{writtenAt, bytesFor, fourBytes, wordOf}
-use Rattle.codes.specs.Whole.{widthOf}
-use Rattle.codes.proofs.Lists.{below-all}
-use Rattle.codes.proofs.Numbers.{value-append, value-bits, value-below}
-use Rattle.codes.proofs.Operations.{length-operation, operation-bits-are, width-least, width-most}
-use Rattle.codes.proofs.Buffer.{written-word}
+use Rattle.wire_theory.specs.Buffer.{writtenAt, bytesFor, fourBytes, wordOf}
+use Rattle.wire_theory.specs.Whole.{widthOf}
+use Rattle.wire_theory.proofs.Lists.{below-all}
+use Rattle.wire_theory.proofs.Numbers.{value-append, value-bits, value-below}
+use Rattle.wire_theory.proofs.Operations.{length-operation, operation-bits-are, width-least, width-most}
+use Rattle.wire_theory.proofs.Buffer.{written-word}
 use Rattle.wire.specs.declared.writer.Written.{Written}
 use Rattle.wire.specs.Fields.{pickBuffer}
 use Rattle.wire.specs.Writer.{PieceOf, fitsIn, lastNumber, writtenOf, bufferAfter}
@@ -56,7 +56,8 @@ piece-value (Union p j) =
 piece-value Start = refl
 
 below-width : (o : Operation) → valueOf 0 (operationBits o) < 2 ^ widthOf o
-below-width o = subst (λ (k : ℕ). valueOf 0 (operationBits o) < 2 ^ k) (length-operation o) (value-below (operationBits o) (operation-bits-are o))
+below-width o = subst (λ (k : ℕ). valueOf 0 (operationBits o) < 2 ^ k) (length-operation o)
+    (value-below (operationBits o) (operation-bits-are o))
 
 pub piece-is : (o k : Operation) → o ≡ k → PieceOf o (widthOf k) (valueIn k)
 piece-is o k e =
@@ -85,7 +86,8 @@ module _ (b bit n v : ℕ) (hb : b < 256) (hn : n ≤ 20) (hv : v < 2 ^ n) where
   word-is =
       let p : 2 ^ n ≤ 2 ^ 20 = pow-mono hn in
       let s : b / 2 ^ (8 - bit) * 2 ^ n + v < 2 ^ 29 = omega (arith, front-small) in
-      let w : wordOf b bit n v < 2 ^ 61 = lt-of-lt-of-le (shl-lt 29 (32 - bit - n) s) (pow-mono {i = 29 + (32 - bit - n)} {j = 61} (omega arith)) in
+      let w : wordOf b bit n v < 2 ^ 61 =
+      lt-of-lt-of-le (shl-lt 29 (32 - bit - n) s) (pow-mono {i = 29 + (32 - bit - n)} {j = 61} (omega arith)) in
       ap (λ (x : ℕ). (x + v) * 2 ^ (32 - bit - n) % 18446744073709551616) front-same ∙ mod-eq-of-lt (omega (arith, w))
 
 -- its bytes
@@ -106,11 +108,16 @@ module _ (buffer : List ℕ) (at : ℕ) (o : Operation) (n next : ℕ) (wide : n
       → (_≡_ {A = Written} (record { fits = false; next = next }) (writtenOf (length buffer) at o)) × (buffer ≡ bufferAfter buffer at o)
   unfolding bufferAfter
   buffer-refused h =
-      let f : fitsIn (length buffer) at o ≡ false = lt-leb (bytesFor (at + widthOf o)) (length buffer) (omega arith) in
-      (ap₂ (λ (t : Bool) (k : ℕ). record { fits = t; next = k }) (sym f) ahead, sym (ap (λ (t : Bool). pickBuffer t (writtenAt buffer at (operationBits o)) buffer) f))
+      let f : fitsIn (length buffer) at o ≡ false = lt-leb (bytesFor (at + widthOf o)) (length buffer) (omega arith) in (
+        ap₂ (λ (t : Bool) (k : ℕ). record { fits = t; next = k }) (sym f) ahead,
+        sym
+            (ap (λ (t : Bool). pickBuffer t (writtenAt buffer at (operationBits o)) buffer) f),
+      )
 
-  pub buffer-written : (last : List ℕ) (b v w : ℕ) → ((i : ℕ) → Val.Fits w8 (getD buffer i 0)) → at / 8 + (at % 8 + n + 7) / 8 ≤ length buffer
-      → b ≡ getD buffer (at / 8) 0 → v ≡ valueOf 0 (operationBits o) → w ≡ wordOf b (at % 8) n v → last ≡ paste buffer (at / 8) (fourBytes w) ((at % 8 + n + 7) / 8)
+  pub buffer-written : (last : List ℕ) (b v w : ℕ) → ((i : ℕ) → Val.Fits w8 (getD buffer i 0))
+      → at / 8 + (at % 8 + n + 7) / 8 ≤ length buffer
+      → b ≡ getD buffer (at / 8) 0 → v ≡ valueOf 0 (operationBits o) → w ≡ wordOf b (at % 8) n v
+      → last ≡ paste buffer (at / 8) (fourBytes w) ((at % 8 + n + 7) / 8)
       → (_≡_ {A = Written} (record { fits = true; next = next }) (writtenOf (length buffer) at o)) × (last ≡ bufferAfter buffer at o)
   unfolding bufferAfter
   buffer-written last b v w all h eb ev ew el =
@@ -118,8 +125,11 @@ module _ (buffer : List ℕ) (at : ℕ) (o : Operation) (n next : ℕ) (wide : n
       let l : length xs ≡ widthOf o = length-operation o in
       let m : n ≡ length xs = wide ∙ sym l in
       let f : fitsIn (length buffer) at o ≡ true = le-leb (bytesFor (at + widthOf o)) (length buffer) (omega arith) in
-      let p : writtenAt buffer at xs ≡ paste buffer (at / 8) (fourBytes (wordOf (getD buffer (at / 8) 0) (at % 8) (length xs) (valueOf 0 xs))) (bytesFor (at % 8 + length xs)) =
-      written-word buffer at xs (below-all 256 buffer (λ i. all i .fits)) (operation-bits-are o) (omega (arith, width-most o)) (omega arith) (omega arith) in
+      let p : writtenAt buffer at xs
+      ≡ paste buffer (at / 8) (fourBytes (wordOf (getD buffer (at / 8) 0) (at % 8) (length xs) (valueOf 0 xs)))
+      (bytesFor (at % 8 + length xs)) =
+      written-word buffer at xs (below-all 256 buffer (λ i. all i .fits)) (operation-bits-are o) (omega (arith, width-most o)) (omega arith)
+      (omega arith) in
       let q : wordOf b (at % 8) n v ≡ wordOf (getD buffer (at / 8) 0) (at % 8) (length xs) (valueOf 0 xs) = rw (eb, ev, m) in
       let r : paste buffer (at / 8) (fourBytes w) ((at % 8 + n + 7) / 8) ≡ writtenAt buffer at xs =
       ap₂ (λ (x k : ℕ). paste buffer (at / 8) (fourBytes x) (bytesFor (at % 8 + k))) (ew ∙ q) m ∙ sym p in (

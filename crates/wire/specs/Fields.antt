@@ -10,7 +10,7 @@ use Rattle.rules.specs.declared.Counts.{Counts}
 use Rattle.rules.specs.Fields.{Field, no-field, field, takeField, Fields, no-pack, fields, fieldsOf}
 use Rattle.rules.specs.Limits.{inRange}
 use Rattle.rules.specs.Buffer.{over}
-use Rattle.codes.specs.Header.{headerOf}
+use Rattle.wire_theory.specs.Header.{headerOf}
 use Rattle.wire.specs.declared.fields.Contents.{Contents}
 use Rattle.wire.specs.declared.fields.Contents.the-variants.{At, Nothing}
 use Rattle.wire.specs.declared.fields.PackFields.{PackFields}

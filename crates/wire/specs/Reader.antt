@@ -12,8 +12,8 @@ use Rattle.rules.specs.declared.Operation.the-variants.{Split, Union}
 use Rattle.rules.specs.Bits as Bits
 use Rattle.rules.specs.Bits.{bitsOfBytes, broken-off, number, readNumber}
 use Rattle.rules.specs.Code.{Read, breaks-off, read, readOperation, kinds, kindIn}
-use Rattle.codes.specs.Shape.{Fits}
-use Rattle.codes.specs.Whole.{widthOf}
+use Rattle.wire_theory.specs.Shape.{Fits}
+use Rattle.wire_theory.specs.Whole.{widthOf}
 use Rattle.wire.specs.declared.reader.Number.{Number}
 use Rattle.wire.specs.declared.reader.Number.the-variants.{Value, BrokenOff}
 use Rattle.wire.specs.declared.reader.OperationRead.{OperationRead}

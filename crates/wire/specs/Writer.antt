@@ -9,8 +9,8 @@ use lib.ListN.{length}
 use Rattle.rules.specs.declared.Operation.{Operation}
 use Rattle.rules.specs.Bits.{valueOf}
 use Rattle.rules.specs.Code.{operationBits}
-use Rattle.codes.specs.Buffer.{writtenAt, bytesFor}
-use Rattle.codes.specs.Whole.{widthOf}
+use Rattle.wire_theory.specs.Buffer.{writtenAt, bytesFor}
+use Rattle.wire_theory.specs.Whole.{widthOf}
 use Rattle.wire.specs.declared.writer.Written.{Written}
 use Rattle.wire.specs.Fields.{pickBuffer}
 

@@ -9,7 +9,7 @@ ghost use lib.Dec.{leb};
 ghost use lib.ListN.{length, take, drop};
 ghost use Rattle.rules.specs.Fields.{wordAt, countsFrom};
 ghost use Rattle.rules.specs.Limits.{between, inRange};
-ghost use Rattle.codes.specs.Header.{headerOf};
+ghost use Rattle.wire_theory.specs.Header.{headerOf};
 ghost use Rattle.wire.specs.Fields.{fieldAt, packFields, Parted, headed};
 
 const COUNTS_TAG: u8 = 1;

@@ -8,7 +8,8 @@ ghost use lib.ListN.{drop, getD};
 ghost use Rattle.rules.specs.Bits.{bitsOfBytes};
 ghost use Rattle.rules.specs.Code.{kinds, kindIn};
 ghost use Rattle.rules.specs.Unpack.{restFits};
-ghost use Rattle.wire.specs.Reader.{numberAt, IndexedIs, PlainIs, plainOf, nextOf, placeAt, splitOf, unionIn, indexedOf, indicesAt, ReadIs};
+ghost use Rattle.wire.specs.Reader.{numberAt, IndexedIs, PlainIs, plainOf, nextOf, placeAt, splitOf, unionIn, indexedOf, indicesAt};
+ghost use Rattle.wire.specs.Reader.{ReadIs};
 
 // A field has no more bytes than its length can say.
 const MOST_BYTES: usize = 65535;

@@ -6,7 +6,7 @@ ghost use mathlib.Core.Path.{_≡_};
 ghost use Prim.Native.Nat.{_+_, _^_, _≤_, _<_, min};
 ghost use lib.ListN.{length};
 ghost use lib.Seq.{paste};
-ghost use Rattle.codes.specs.Buffer.{fourBytes, wordOf};
+ghost use Rattle.wire_theory.specs.Buffer.{fourBytes, wordOf};
 ghost use Rattle.wire.specs.Writer.{PieceOf, writtenOf, bufferAfter};
 
 // Whether the bits fit in the buffer, and the bit position after them, or the last that a number holds.

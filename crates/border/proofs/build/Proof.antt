@@ -1,6 +1,6 @@
 -- `border::build` meets its contract.
 -- Assumes nothing.
-use Rattle.memory.proofs.Performed.{performs}
+use Rattle.border_theory.proofs.Memory.Performed.{performs}
 use Rattle.border.proofs.Performing.{built-counts, built-state}
 use borrow.Author.Needs.{needs}
 use Rattle.border.proofs.build.Statement.{statement}
@@ -16,7 +16,10 @@ same-length : tie.Need-same-length
 same-length c = search needs
 
 returns : tie.Need-returns
-returns c = built-state (c .before .before .before .before .before .before .args .n) (c .before .before .before .before .before .before .args .s) (c .before .before .before .before .before .before .args .m .now) (c .before .before .before .before .before .before .args .o) (c .before .before .before .before .before .before .args .p) _ _ _ (c .before .before .before .alter .ensures) (c .count-built .ensures)
+returns c = built-state (c .before .before .before .before .before .before .args .n)
+    (c .before .before .before .before .before .before .args .s) (c .before .before .before .before .before .before .args .m .now)
+    (c .before .before .before .before .before .before .args .o) (c .before .before .before .before .before .before .args .p) _ _ _
+    (c .before .before .before .alter .ensures) (c .count-built .ensures)
 
 pub build-spec : {M : Type 1} → statement M
 build-spec = tie.close (tie.spec alter-requires count-built-requires same-length returns)

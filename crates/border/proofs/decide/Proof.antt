@@ -1,6 +1,6 @@
 -- `border::decide` meets its contract.
 -- Assumes nothing.
-use Rattle.memory.proofs.Ready.{ready-proposes, ready-free}
+use Rattle.border_theory.proofs.Memory.Ready.{ready-proposes, ready-free}
 use Rattle.border.proofs.Deciding.{decided-by}
 use borrow.Author.Needs.{needs}
 use Rattle.border.proofs.decide.Statement.{statement}

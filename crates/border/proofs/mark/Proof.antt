@@ -1,6 +1,6 @@
 -- `border::mark` meets its contract.
 -- Assumes nothing.
-use Rattle.memory.proofs.Ready.{ready-borders}
+use Rattle.border_theory.proofs.Memory.Ready.{ready-borders}
 use Rattle.border.proofs.Performing.{marked-counts, marked-state}
 use borrow.Author.Needs.{needs}
 use Rattle.border.proofs.mark.Statement.{statement}
@@ -10,7 +10,8 @@ mark-border-requires : tie.Need-mark-border-requires
 mark-border-requires c κs = ready-borders _ _ _ (c .before .before .before .pre .0) (c .before .before .before .pre .1)
 
 count-marked-requires : tie.Need-count-marked-requires
-count-marked-requires c κs = marked-counts _ _ _ _ (c .before .before .before .before .before .before .pre) (c .before .before .mark-border .ensures .0)
+count-marked-requires c κs =
+    marked-counts _ _ _ _ (c .before .before .before .before .before .before .pre) (c .before .before .mark-border .ensures .0)
 
 same-length : tie.Need-same-length
 same-length c = search needs

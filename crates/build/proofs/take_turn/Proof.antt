@@ -2,7 +2,7 @@
 -- Assumes nothing.
 use native.Mathlib.Omega.{arith}
 use borrow.Author.Needs.{needs}
-use Rattle.streams.proofs.Fills.{fills-to, filled-length}
+use Rattle.text.proofs.Fills.{fills-to, filled-length}
 use Rattle.build.proofs.take_turn.Statement.{statement}
 use Rattle.build.proofs.take_turn.Tie as tie
 

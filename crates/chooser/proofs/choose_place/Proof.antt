@@ -1,6 +1,6 @@
 -- `chooser::choose_place` meets its contract.
 -- Assumes nothing.
-use Rattle.choosing.proofs.Choosing.{seek-asks, enter-within, chosen-enter, chosen-leave, chosen-none}
+use Rattle.pack_theory.proofs.Choosing.Operation.{seek-asks, enter-within, chosen-enter, chosen-leave, chosen-none}
 use borrow.Author.Needs.{needs}
 use Rattle.chooser.proofs.choose_place.Statement.{statement}
 use Rattle.chooser.proofs.choose_place.Tie as tie
@@ -12,14 +12,17 @@ enum-known-s : tie.Need-enum-known-s
 enum-known-s c = search needs
 
 following-requires : tie.Need-following-requires
-following-requires c κs = enter-within _ _ _ _ _ _ _ _ (c .before .before .before .before .before .before .pre) _ _ _ _ (c .before .before .before .enter-seat .ensures) (c .before .s .given .1)
+following-requires c κs =
+    enter-within _ _ _ _ _ _ _ _ (c .before .before .before .before .before .before .pre) _ _ _ _
+    (c .before .before .before .enter-seat .ensures) (c .before .s .given .1)
 
 place-operation-requires : tie.Need-place-operation-requires
 place-operation-requires c κs = seek-asks _ _ _ _ _ _ _ _ (c .before .before .before .before .before .before .before .pre)
 
 returns : tie.Need-returns
 returns c =
-    chosen-enter _ _ _ _ _ _ _ _ (c .before .before .before .before .before .before .before .before .pre) _ _ _ _ _ _ (c .before .before .before .before .before .enter-seat .ensures) (c .before .before .before .s .given .1)
+    chosen-enter _ _ _ _ _ _ _ _ (c .before .before .before .before .before .before .before .before .pre) _ _ _ _ _ _
+    (c .before .before .before .before .before .enter-seat .ensures) (c .before .before .before .s .given .1)
     (c .before .following .ensures) (c .place-operation .ensures)
 
 enum-told : tie.Need-enum-told
@@ -36,7 +39,9 @@ place-operation-requires-2 c κs = seek-asks _ _ _ _ _ _ _ _ (c .before .before 
 
 returns-2 : tie.Need-returns-2
 returns-2 c =
-    chosen-leave _ _ _ _ _ _ _ _ (c .before .before .before .before .before .before .before .before .before .before .pre) _ _ _ _ _ _ (c .before .before .before .before .before .before .before .enter-seat .ensures) (c .before .before .before .before .before .enum-told .given .1) (c .before .before .before .before .leave-seat .ensures)
+    chosen-leave _ _ _ _ _ _ _ _ (c .before .before .before .before .before .before .before .before .before .before .pre) _ _ _ _ _ _
+    (c .before .before .before .before .before .before .before .enter-seat .ensures)
+    (c .before .before .before .before .before .enum-told .given .1) (c .before .before .before .before .leave-seat .ensures)
     (c .before .before .t .given .1) (c .place-operation2 .ensures)
 
 enum-told-2 : tie.Need-enum-told-2
@@ -44,7 +49,9 @@ enum-told-2 c = search needs
 
 returns-3 : tie.Need-returns-3
 returns-3 c =
-    chosen-none _ _ _ _ _ _ _ _ (c .before .before .before .before .before .before .before .before .pre) _ _ (c .before .before .before .before .before .enter-seat .ensures) (c .before .before .before .enum-told .given .1) (c .before .before .leave-seat .ensures)
+    chosen-none _ _ _ _ _ _ _ _ (c .before .before .before .before .before .before .before .before .pre) _ _
+    (c .before .before .before .before .before .enter-seat .ensures) (c .before .before .before .enum-told .given .1)
+    (c .before .before .leave-seat .ensures)
     (c .enum-told2 .given .1)
 
 pub choose-place-spec : {M : Type 1} → statement M

@@ -42,13 +42,15 @@ is-pair-requires-2 : tie.Need-is-pair-requires-2
 is-pair-requires-2 c κs = search needs
 
 returns-2 : tie.Need-returns-2
-returns-2 c = joins-second _ _ _ _ _ _ (c .before .before .before .is-pair .ensures) (c .before .before .if1 .left) (c .before .is-pair2 .ensures) (c .if2 .taken)
+returns-2 c = joins-second _ _ _ _ _ _ (c .before .before .before .is-pair .ensures) (c .before .before .if1 .left)
+    (c .before .is-pair2 .ensures) (c .if2 .taken)
 
 is-pair-requires-3 : tie.Need-is-pair-requires-3
 is-pair-requires-3 c κs = search needs
 
 returns-3 : tie.Need-returns-3
-returns-3 c = joins-third _ _ _ _ _ _ _ (c .before .before .before .before .is-pair .ensures) (c .before .before .before .if1 .left) (c .before .before .is-pair2 .ensures) (c .before .if2 .left) (c .is-pair3 .ensures)
+returns-3 c = joins-third _ _ _ _ _ _ _ (c .before .before .before .before .is-pair .ensures) (c .before .before .before .if1 .left)
+    (c .before .before .is-pair2 .ensures) (c .before .if2 .left) (c .is-pair3 .ensures)
 
 pub joins-spec : {M : Type 1} → statement M
 joins-spec =

@@ -24,13 +24,18 @@ joins-requires : tie.Need-joins-requires Inv-loop μ-loop
 joins-requires c κs = search needs
 
 returns : tie.Need-returns Inv-loop μ-loop
-returns c = none-here _ _ _ _ _ _ (c .before .before .loop-test .taken) (c .before .before .before .loop .inv .1) (c .before .joins .ensures) (c .if1 .taken)
+returns c = none-here _ _ _ _ _ _ (c .before .before .loop-test .taken) (c .before .before .before .loop .inv .1)
+    (c .before .joins .ensures) (c .if1 .taken)
 
 loop-less : tie.Need-loop-less Inv-loop μ-loop
 loop-less c = search needs
 
 loop-again : tie.Need-loop-again Inv-loop μ-loop
-loop-again c = (search needs, none-before _ _ _ _ _ _ (c .before .before .loop-test .taken) (c .before .before .before .loop .inv .1) (c .before .joins .ensures) (c .if1 .left))
+loop-again c = (
+  search needs,
+  none-before _ _ _ _ _ _ (c .before .before .loop-test .taken) (c .before .before .before .loop .inv .1)
+      (c .before .joins .ensures) (c .if1 .left),
+)
 
 returns-2 : tie.Need-returns-2 Inv-loop μ-loop
 returns-2 c = none-left _ _ _ _ _ (c .loop-test .left) (c .before .loop .inv .1)

@@ -7,7 +7,7 @@ use mathlib.Core.Path.{_≡_, refl}
 use lib.ListN.{length, drop}
 use borrow.Author.Needs.{needs}
 use Rattle.rules.specs.Check.{allBelow}
-use Rattle.chains.proofs.Listing.{below-more, below-not, below-all}
+use Rattle.mesh_theory.proofs.Chains.Listing.{below-more, below-not, below-all}
 use Rattle.mesh.proofs.all_below.Statement.{statement}
 use Rattle.mesh.proofs.all_below.Tie as tie
 

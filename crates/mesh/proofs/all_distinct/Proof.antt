@@ -8,7 +8,7 @@ use lib.ListN.{length, drop}
 use borrow.Author.Needs.{needs}
 use Rattle.rules.specs.Check.{allDistinct}
 use Rattle.rules.specs.Triangle.{trianglesOf}
-use Rattle.chains.proofs.Listing.{distinct-more, distinct-not, distinct-all}
+use Rattle.mesh_theory.proofs.Chains.Listing.{distinct-more, distinct-not, distinct-all}
 use Rattle.mesh.proofs.all_distinct.Statement.{statement}
 use Rattle.mesh.proofs.all_distinct.Tie as tie
 

@@ -8,8 +8,8 @@ use mathlib.Core.Path.{_≡_, refl, _∙_}
 use borrow.Author.Needs.{needs}
 use Rattle.rules.specs.Check.{allUsed}
 use Rattle.rules.specs.Triangle.{trianglesOf, corners}
-use Rattle.chains.proofs.Fans.{head-some, head-none, head-all}
-use Rattle.chains.specs.Chains.{Linked}
+use Rattle.mesh_theory.proofs.Chains.Fans.{head-some, head-none, head-all}
+use Rattle.mesh_theory.specs.Chains.Linked.{Linked}
 use Rattle.mesh.proofs.all_used.Statement.{statement}
 use Rattle.mesh.proofs.all_used.Tie as tie
 

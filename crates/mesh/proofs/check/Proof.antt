@@ -2,7 +2,7 @@
 -- Assumes nothing.
 use mathlib.Core.Path.{refl, ap}
 use Rattle.rules.specs.Answer.{checkedAnswer}
-use Rattle.chains.proofs.Linking.{zeros-none}
+use Rattle.mesh_theory.proofs.Chains.Linking.{zeros-none}
 use Rattle.mesh.proofs.check.Statement.{statement}
 use Rattle.mesh.proofs.check.Tie as tie
 

@@ -3,8 +3,8 @@
 use mathlib.Core.Path.{refl}
 use borrow.Author.Needs.{needs}
 use borrow.Author.Tests.{not-false}
-use Rattle.chains.proofs.Checking.{refuses, goes-on, answers-no}
-use Rattle.chains.specs.Checks.{checkChains}
+use Rattle.mesh_theory.proofs.Chains.Checking.{refuses, goes-on, answers-no}
+use Rattle.mesh_theory.specs.Chains.Checks.{checkChains}
 use Rattle.mesh.proofs.check_chains.Statement.{statement}
 use Rattle.mesh.proofs.check_chains.Tie as tie
 

@@ -2,7 +2,7 @@
 -- Assumes nothing.
 use mathlib.Core.Path.{sym, _∙_}
 use borrow.Author.Needs.{needs}
-use Rattle.chains.proofs.Checking.{refuses, goes-on, size-long, range-most, sound-is, check-is, answers-no, answers-on}
+use Rattle.mesh_theory.proofs.Chains.Checking.{refuses, goes-on, size-long, range-most, sound-is, check-is, answers-no, answers-on}
 use Rattle.mesh.proofs.check_into.Statement.{statement}
 use Rattle.mesh.proofs.check_into.Tie as tie
 

@@ -1,6 +1,6 @@
 -- `mesh::is_distinct` meets its contract: the three tests in their order.
 -- Assumes nothing.
-use Rattle.chains.proofs.Listing.{same-first, same-second, same-third}
+use Rattle.mesh_theory.proofs.Chains.Listing.{same-first, same-second, same-third}
 use Rattle.mesh.proofs.is_distinct.Statement.{statement}
 use Rattle.mesh.proofs.is_distinct.Tie as tie
 

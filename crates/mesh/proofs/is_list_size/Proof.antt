@@ -1,6 +1,6 @@
 -- `mesh::is_list_size` meets its contract: the three tests in their order.
 -- Assumes nothing.
-use Rattle.chains.proofs.Checking.{size-none, size-over, size-within}
+use Rattle.mesh_theory.proofs.Chains.Checking.{size-none, size-over, size-within}
 use Rattle.mesh.proofs.is_list_size.Statement.{statement}
 use Rattle.mesh.proofs.is_list_size.Tie as tie
 

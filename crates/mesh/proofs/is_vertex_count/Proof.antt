@@ -1,6 +1,6 @@
 -- `mesh::is_vertex_count` meets its contract: the two tests in their order.
 -- Assumes nothing.
-use Rattle.chains.proofs.Checking.{count-under, count-over}
+use Rattle.mesh_theory.proofs.Chains.Checking.{count-under, count-over}
 use Rattle.mesh.proofs.is_vertex_count.Statement.{statement}
 use Rattle.mesh.proofs.is_vertex_count.Tie as tie
 

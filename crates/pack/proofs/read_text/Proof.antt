@@ -3,7 +3,7 @@
 use mathlib.Core.Path.{_≡_}
 use lib.ListN.{length}
 use borrow.Author.Needs.{needs}
-use Rattle.streams.proofs.Fills.{fills-to, filled-length}
+use Rattle.text.proofs.Fills.{fills-to, filled-length}
 use Rattle.pack.proofs.read_text.Statement.{statement}
 use Rattle.pack.proofs.read_text.Tie as tie
 

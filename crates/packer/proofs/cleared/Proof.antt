@@ -1,7 +1,7 @@
 -- `packer::cleared` meets its contract: 1 to 8 clear none, any other answer all.
 -- Assumes nothing.
 use borrow.Author.Needs.{needs}
-use Rattle.packing.proofs.Clearing.{cleared-early, cleared-late}
+use Rattle.pack_theory.proofs.Packing.Clearing.{cleared-early, cleared-late}
 use Rattle.packer.proofs.cleared.Statement.{statement}
 use Rattle.packer.proofs.cleared.Tie as tie
 

@@ -2,8 +2,8 @@
 -- Assumes nothing.
 use mathlib.Core.Path.{refl}
 use borrow.Author.Needs.{needs}
-use Rattle.chains.proofs.Linking.{zeros-none}
-use Rattle.packing.proofs.Ending.{packed-unfit, packed-few, packed-list, packed-fitting, packed-ran}
+use Rattle.mesh_theory.proofs.Chains.Linking.{zeros-none}
+use Rattle.pack_theory.proofs.Packing.Ending.{packed-unfit, packed-few, packed-list, packed-fitting, packed-ran}
 use Rattle.packer.proofs.pack_on.Statement.{statement}
 use Rattle.packer.proofs.pack_on.Tie as tie
 
@@ -20,19 +20,33 @@ refusal-of-requires : tie.Need-refusal-of-requires
 refusal-of-requires c κs = search needs
 
 returns : tie.Need-returns
-returns c = let a = c .before .before .before .before .before .before .before .before .args in packed-unfit (a .v) (a .list .now) (a .numbering .now) (a .buffer .now) (a .n) _ (c .before .before .before .check-into .ensures .right) _ (c .before .enum-told2 .given .1) _ (c .refusal-of .ensures _ (c .before .enum-told2 .given .1))
+returns c = let a = c .before .before .before .before .before .before .before .before .args in
+    packed-unfit (a .v) (a .list .now) (a .numbering .now) (a .buffer .now) (a .n) _ (c .before .before .before .check-into .ensures .right)
+    _ (c .before .enum-told2 .given .1) _ (c .refusal-of .ensures _ (c .before .enum-told2 .given .1))
 
 returns-2 : tie.Need-returns-2
-returns-2 c = let a = c .before .before .before .before .before .before .before .before .args in packed-few (a .v) (a .list .now) (a .numbering .now) (a .buffer .now) (a .n) _ (c .before .before .before .check-into .ensures .right) (c .before .enum-told .given .1) (c .if1 .taken)
+returns-2 c = let a = c .before .before .before .before .before .before .before .before .args in
+    packed-few (a .v) (a .list .now) (a .numbering .now) (a .buffer .now) (a .n) _ (c .before .before .before .check-into .ensures .right)
+    (c .before .enum-told .given .1) (c .if1 .taken)
 
 returns-3 : tie.Need-returns-3
-returns-3 c = let a = c .before .before .before .before .before .before .before .before .before .args in packed-list (a .v) (a .list .now) (a .numbering .now) (a .buffer .now) (a .n) _ (c .before .before .before .before .check-into .ensures .right) (c .before .before .enum-told .given .1) (c .before .if1 .left) (c .if2 .taken)
+returns-3 c = let a = c .before .before .before .before .before .before .before .before .before .args in
+    packed-list (a .v) (a .list .now) (a .numbering .now) (a .buffer .now) (a .n) _
+    (c .before .before .before .before .check-into .ensures .right) (c .before .before .enum-told .given .1) (c .before .if1 .left)
+    (c .if2 .taken)
 
 slice-aggregate-pack-accepted : tie.Need-slice-aggregate-pack-accepted
 slice-aggregate-pack-accepted c = search needs
 
 pack-accepted-requires : tie.Need-pack-accepted-requires
-pack-accepted-requires c κs = let a = c .before .before .before .before .before .before .before .before .before .before .before .before .before .args in packed-fitting (a .v) (a .list .now) (a .numbering .now) (a .buffer .now) (a .n) _ (c .before .before .before .before .before .before .before .before .check-into .ensures .right) (c .before .before .before .before .before .before .enum-told .given .1) (c .before .before .before .before .before .if1 .left) (c .before .before .before .before .if2 .left) _ _ (c .before .before .before .before .before .before .before .before .check-into .ensures .chained (c .before .before .before .before .before .before .enum-told .given .1)) (search needs)
+pack-accepted-requires c κs = let a =
+    c .before .before .before .before .before .before .before .before .before .before .before .before .before .args in
+    packed-fitting (a .v) (a .list .now) (a .numbering .now) (a .buffer .now) (a .n) _
+    (c .before .before .before .before .before .before .before .before .check-into .ensures .right)
+    (c .before .before .before .before .before .before .enum-told .given .1)
+    (c .before .before .before .before .before .if1 .left) (c .before .before .before .before .if2 .left) _ _
+    (c .before .before .before .before .before .before .before .before .check-into .ensures .chained
+    (c .before .before .before .before .before .before .enum-told .given .1)) (search needs)
 
 same-length : tie.Need-same-length
 same-length c = search needs
@@ -41,7 +55,14 @@ same-length-2 : tie.Need-same-length-2
 same-length-2 c = search needs
 
 returns-4 : tie.Need-returns-4
-returns-4 c = let a = c .before .before .before .before .before .before .before .before .before .before .before .before .before .before .before .before .before .before .before .args in packed-ran (a .v) (a .list .now) (a .numbering .now) (a .buffer .now) (a .n) _ (c .before .before .before .before .before .before .before .before .before .before .before .before .before .before .check-into .ensures .right) (c .before .before .before .before .before .before .before .before .before .before .before .before .enum-told .given .1) (c .before .before .before .before .before .before .before .before .before .before .before .if1 .left) (c .before .before .before .before .before .before .before .before .before .before .if2 .left) _ _ _ (c .before .before .before .before .before .pack-accepted .ensures)
+returns-4 c = let a = c .before .before .before .before .before .before .before .before .before .before .before .before .before .before
+    .before .before .before .before .before .args in
+    packed-ran (a .v) (a .list .now) (a .numbering .now) (a .buffer .now) (a .n) _
+    (c .before .before .before .before .before .before .before .before .before .before .before .before .before .before .check-into
+    .ensures .right) (c .before .before .before .before .before .before .before .before .before .before .before .before
+    .enum-told .given .1) (c .before .before .before .before .before .before .before .before .before .before .before .if1
+    .left) (c .before .before .before .before .before .before .before .before .before .before .if2 .left) _ _ _
+    (c .before .before .before .before .before .pack-accepted .ensures)
 
 pub pack-on-spec : {M : Type 1} → statement M
 pack-on-spec =

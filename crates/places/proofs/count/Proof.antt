@@ -1,6 +1,6 @@
 -- `places::count` meets its contract: the two laws of `countOf`.
 -- Assumes nothing.
-use Rattle.places.proofs.Counting.{count-short, count-long}
+use Rattle.border_theory.proofs.Records.Counting.{count-short, count-long}
 use Rattle.places.proofs.count.Statement.{statement}
 use Rattle.places.proofs.count.Tie as tie
 

@@ -1,7 +1,7 @@
 -- `places::empty` meets its contract: an array of zeros is `blank`.
 -- Assumes nothing.
 use mathlib.Core.Path.{refl}
-use Rattle.places.specs.Memory.{blank}
+use Rattle.border_theory.specs.Records.Plain.{blank}
 use Rattle.places.proofs.empty.Statement.{statement}
 use Rattle.places.proofs.empty.Tie as tie
 

@@ -1,6 +1,6 @@
 -- `places::record_at` meets its contract: three numbers and a flag are read.
 -- Assumes nothing.
-use Rattle.places.proofs.Stored.{flag-read}
+use Rattle.border_theory.proofs.Records.Stored.{flag-read}
 use borrow.Author.Needs.{needs}
 use Rattle.places.proofs.record_at.Statement.{statement}
 use Rattle.places.proofs.record_at.Tie as tie

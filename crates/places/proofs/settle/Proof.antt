@@ -2,9 +2,9 @@
 -- Assumes nothing.
 use Prim.Native.Nat.{_-_}
 use mathlib.Core.Path.{ap, _∙_}
-use Rattle.places.specs.Memory.{numberOf}
+use Rattle.border_theory.specs.Records.Plain.{numberOf}
 use borrow.Author.Needs.{needs}
-use Rattle.places.proofs.Settling.{Settled, settled-none, settled-more}
+use Rattle.border_theory.proofs.Records.Settling.{Settled, settled-none, settled-more}
 use Rattle.places.proofs.settle.Statement.{statement}
 use Rattle.places.proofs.settle.Tie as tie
 

@@ -1,6 +1,6 @@
 -- `places::store_record` meets its contract: three numbers and a flag are stored.
 -- Assumes nothing.
-use Rattle.places.proofs.Stored.{flag-stored}
+use Rattle.border_theory.proofs.Records.Stored.{flag-stored}
 use borrow.Author.Needs.{needs}
 use Rattle.places.proofs.store_record.Statement.{statement}
 use Rattle.places.proofs.store_record.Tie as tie

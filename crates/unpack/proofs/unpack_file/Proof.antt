@@ -1,7 +1,7 @@
 -- `unpack::unpack_file` is safe and ends.
 -- Assumes nothing.
 use borrow.Author.Needs.{needs}
-use Rattle.streams.proofs.Fills.{fills-to, filled-length}
+use Rattle.text.proofs.Fills.{fills-to, filled-length}
 use Rattle.unpack.proofs.unpack_file.Statement.{statement}
 use Rattle.unpack.proofs.unpack_file.Tie as tie
 
@@ -50,7 +50,8 @@ slice-reshare-prefix-unpack-bytes c =
 
 slice-aggregate-unpack-bytes : tie.Need-slice-aggregate-unpack-bytes
 slice-aggregate-unpack-bytes c =
-    filled-length _ _ (c .before .before .before .before .before .before .before .read-full .ensures) (c .before .before .before .r .given .1)
+    filled-length _ _ (c .before .before .before .before .before .before .before .read-full .ensures)
+    (c .before .before .before .r .given .1)
 
 unpack-bytes-requires : tie.Need-unpack-bytes-requires
 unpack-bytes-requires c κs = search needs

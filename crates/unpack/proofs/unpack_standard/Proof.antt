@@ -1,7 +1,7 @@
 -- `unpack::unpack_standard` is safe and ends.
 -- Assumes nothing.
 use borrow.Author.Needs.{needs}
-use Rattle.streams.proofs.Fills.{fills-to, filled-length}
+use Rattle.text.proofs.Fills.{fills-to, filled-length}
 use Rattle.unpack.proofs.unpack_standard.Statement.{statement}
 use Rattle.unpack.proofs.unpack_standard.Tie as tie
 

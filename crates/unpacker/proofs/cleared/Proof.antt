@@ -1,7 +1,7 @@
 -- `unpacker::cleared` meets its contract: 12 to 14 clear none, any other answer all.
 -- Assumes nothing.
 use borrow.Author.Needs.{needs}
-use Rattle.unpacking.proofs.Cleared.{cleared-early, cleared-late}
+use Rattle.unpack_theory.proofs.Cleared.{cleared-early, cleared-late}
 use Rattle.unpacker.proofs.cleared.Statement.{statement}
 use Rattle.unpacker.proofs.cleared.Tie as tie
 

@@ -27,7 +27,10 @@ add-t13 : tie.Need-add-t13
 add-t13 c = record { fits = c .before .before .before .before .before .before .before .before .before .before .before .pre .starts }
 
 add-t14 : tie.Need-add-t14
-add-t14 c = record { fits = c .before .before .before .before .before .before .before .before .before .before .before .before .before .pre .unions }
+add-t14 c = record {
+  fits =
+      c .before .before .before .before .before .before .before .before .before .before .before .before .before .pre .unions;
+}
 
 returns : tie.Need-returns
 returns c = built-is _ _ _ _ _ (c .before .before .before .before .before .before .before .before .before .before .raise .ensures)

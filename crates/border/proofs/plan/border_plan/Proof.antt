@@ -1,7 +1,7 @@
 -- `border::plan::border_plan` meets its contract.
 -- Assumes nothing.
 use native.Mathlib.Omega.{arith}
-use Rattle.memory.proofs.Near.{near-e, near-f}
+use Rattle.border_theory.proofs.Memory.Near.{near-e, near-f}
 use Rattle.border.proofs.Planning.{border-marks}
 use Rattle.border.proofs.plan.border_plan.Statement.{statement}
 use Rattle.border.proofs.plan.border_plan.Tie as tie

@@ -1,7 +1,7 @@
 -- `border::plan::close_plan` meets its contract.
 -- Assumes nothing.
 use native.Mathlib.Omega.{arith}
-use Rattle.memory.proofs.Near.{near-e, near-f, near-next}
+use Rattle.border_theory.proofs.Memory.Near.{near-e, near-f, near-next}
 use Rattle.border.proofs.Planning.{plan-near, close-other, close-first, close-second, close-builds}
 use Rattle.border.proofs.plan.close_plan.Statement.{statement}
 use Rattle.border.proofs.plan.close_plan.Tie as tie
@@ -19,22 +19,40 @@ is-open-requires : tie.Need-is-open-requires
 is-open-requires c κs = omega (arith, c .before .after-of .ensures, near-f _ _ _ (c .before .before .before .before .pre))
 
 is-open-requires-2 : tie.Need-is-open-requires-2
-is-open-requires-2 c κs = omega (arith, near-next _ _ _ (c .before .before .before .before .before .before .pre) _ _ (c .before .before .before .after-of .ensures) (c .before .before .after-of2 .ensures))
+is-open-requires-2 c κs =
+    omega (
+      arith,
+      near-next _ _ _ (c .before .before .before .before .before .before .pre) _ _
+          (c .before .before .before .after-of .ensures) (c .before .before .after-of2 .ensures),
+    )
 
 vertex-of-requires : tie.Need-vertex-of-requires
-vertex-of-requires c κs = omega (arith, near-next _ _ _ (c .before .before .before .before .before .before .before .before .pre) _ _ (c .before .before .before .before .before .after-of .ensures) (c .before .before .before .before .after-of2 .ensures))
+vertex-of-requires c κs =
+    omega (
+      arith,
+      near-next _ _ _ (c .before .before .before .before .before .before .before .before .pre) _ _
+          (c .before .before .before .before .before .after-of .ensures) (c .before .before .before .before .after-of2 .ensures),
+    )
 
 plan-at-requires : tie.Need-plan-at-requires
 plan-at-requires c κs = plan-near _ _ _ (c .before .before .before .before .before .before .before .before .before .pre)
 
 returns-2 : tie.Need-returns-2
-returns-2 c = close-builds _ _ _ _ _ _ _ _ (c .before .before .before .before .before .before .before .before .if1 .left) (c .before .before .before .before .before .before .before .after-of .ensures) (c .before .before .before .before .before .before .after-of2 .ensures) (c .before .before .before .before .before .is-open .ensures) (c .before .before .before .before .if2 .taken) (c .before .before .before .is-open2 .ensures) (c .before .before .if3 .taken) (c .before .vertex-of .ensures) (c .plan-at .ensures)
+returns-2 c = close-builds _ _ _ _ _ _ _ _ (c .before .before .before .before .before .before .before .before .if1 .left)
+    (c .before .before .before .before .before .before .before .after-of .ensures)
+    (c .before .before .before .before .before .before .after-of2 .ensures)
+    (c .before .before .before .before .before .is-open .ensures) (c .before .before .before .before .if2 .taken)
+    (c .before .before .before .is-open2 .ensures) (c .before .before .if3 .taken) (c .before .vertex-of .ensures)
+    (c .plan-at .ensures)
 
 returns-3 : tie.Need-returns-3
-returns-3 c = close-second _ _ _ _ _ _ (c .before .before .before .before .before .before .if1 .left) (c .before .before .before .before .before .after-of .ensures) (c .before .before .before .before .after-of2 .ensures) (c .before .before .before .is-open .ensures) (c .before .before .if2 .taken) (c .before .is-open2 .ensures) (c .if3 .left)
+returns-3 c = close-second _ _ _ _ _ _ (c .before .before .before .before .before .before .if1 .left)
+    (c .before .before .before .before .before .after-of .ensures) (c .before .before .before .before .after-of2 .ensures)
+    (c .before .before .before .is-open .ensures) (c .before .before .if2 .taken) (c .before .is-open2 .ensures) (c .if3 .left)
 
 returns-4 : tie.Need-returns-4
-returns-4 c = close-first _ _ _ _ (c .before .before .before .before .if1 .left) (c .before .before .before .after-of .ensures) (c .before .is-open .ensures) (c .if2 .left)
+returns-4 c = close-first _ _ _ _ (c .before .before .before .before .if1 .left) (c .before .before .before .after-of .ensures)
+    (c .before .is-open .ensures) (c .if2 .left)
 
 pub close-plan-spec : {M : Type 1} → statement M
 close-plan-spec =

@@ -1,7 +1,7 @@
 -- `border::plan::forward_plan` meets its contract.
 -- Assumes nothing.
 use native.Mathlib.Omega.{arith}
-use Rattle.memory.proofs.Near.{near-e, near-f, near-next}
+use Rattle.border_theory.proofs.Memory.Near.{near-e, near-f, near-next}
 use Rattle.border.proofs.Planning.{plan-near, forward-small, forward-marked, forward-three, forward-builds}
 use Rattle.border.proofs.plan.forward_plan.Statement.{statement}
 use Rattle.border.proofs.plan.forward_plan.Tie as tie
@@ -16,25 +16,43 @@ is-open-requires : tie.Need-is-open-requires
 is-open-requires c κs = omega (arith, c .after-of .ensures, near-f _ _ _ (c .before .before .before .pre))
 
 after-of-requires-2 : tie.Need-after-of-requires-2
-after-of-requires-2 c κs = omega (arith, c .before .before .before .before .after-of .ensures, near-f _ _ _ (c .before .before .before .before .before .before .before .pre))
+after-of-requires-2 c κs =
+    omega (
+      arith,
+      c .before .before .before .before .after-of .ensures,
+      near-f _ _ _
+          (c .before .before .before .before .before .before .before .pre),
+    )
 
 vertex-of-requires : tie.Need-vertex-of-requires
-vertex-of-requires c κs = omega (arith, near-next _ _ _ (c .before .before .before .before .before .before .before .before .pre) _ _ (c .before .before .before .before .before .after-of .ensures) (c .after-of2 .ensures))
+vertex-of-requires c κs =
+    omega (
+      arith,
+      near-next _ _ _ (c .before .before .before .before .before .before .before .before .pre) _ _
+          (c .before .before .before .before .before .after-of .ensures) (c .after-of2 .ensures),
+    )
 
 plan-at-requires : tie.Need-plan-at-requires
 plan-at-requires c κs = plan-near _ _ _ (c .before .before .before .before .before .before .before .before .before .pre)
 
 returns-2 : tie.Need-returns-2
-returns-2 c = forward-three _ _ _ _ _ (c .before .before .before .before .before .if1 .left) (c .before .before .before .before .after-of .ensures) (c .before .before .before .is-open .ensures) (c .before .before .if2 .taken) (c .before .is-three .ensures) (c .if3 .taken)
+returns-2 c = forward-three _ _ _ _ _ (c .before .before .before .before .before .if1 .left)
+    (c .before .before .before .before .after-of .ensures) (c .before .before .before .is-open .ensures) (c .before .before .if2 .taken)
+    (c .before .is-three .ensures) (c .if3 .taken)
 
 returns-3 : tie.Need-returns-3
-returns-3 c = forward-builds _ _ _ _ _ _ _ _ (c .before .before .before .before .before .before .before .before .if1 .left) (c .before .before .before .before .before .before .before .after-of .ensures) (c .before .before .before .before .before .before .is-open .ensures) (c .before .before .before .before .before .if2 .taken) (c .before .before .before .before .is-three .ensures) (c .before .before .before .if3 .left) (c .before .before .after-of2 .ensures) (c .before .vertex-of .ensures) (c .plan-at .ensures)
+returns-3 c = forward-builds _ _ _ _ _ _ _ _ (c .before .before .before .before .before .before .before .before .if1 .left)
+    (c .before .before .before .before .before .before .before .after-of .ensures)
+    (c .before .before .before .before .before .before .is-open .ensures) (c .before .before .before .before .before .if2 .taken)
+    (c .before .before .before .before .is-three .ensures) (c .before .before .before .if3 .left)
+    (c .before .before .after-of2 .ensures) (c .before .vertex-of .ensures) (c .plan-at .ensures)
 
 is-three-requires : tie.Need-is-three-requires
 is-three-requires c κs = c .before .before .before .before .before .pre
 
 returns-4 : tie.Need-returns-4
-returns-4 c = forward-marked _ _ _ _ (c .before .before .before .if1 .left) (c .before .before .after-of .ensures) (c .before .is-open .ensures) (c .if2 .left)
+returns-4 c = forward-marked _ _ _ _ (c .before .before .before .if1 .left) (c .before .before .after-of .ensures)
+    (c .before .is-open .ensures) (c .if2 .left)
 
 pub forward-plan-spec : {M : Type 1} → statement M
 forward-plan-spec =

@@ -1,7 +1,7 @@
 -- `border::plan::is_beside_last` meets its contract.
 -- Assumes nothing.
 use native.Mathlib.Omega.{arith}
-use Rattle.memory.proofs.Near.{near-e}
+use Rattle.border_theory.proofs.Memory.Near.{near-e}
 use Rattle.border.proofs.Planning.{beside-last-other, beside-last-is}
 use borrow.Author.Needs.{needs}
 use Rattle.border.proofs.plan.is_beside_last.Statement.{statement}

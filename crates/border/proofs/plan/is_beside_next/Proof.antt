@@ -1,7 +1,7 @@
 -- `border::plan::is_beside_next` meets its contract.
 -- Assumes nothing.
 use native.Mathlib.Omega.{arith}
-use Rattle.memory.proofs.Near.{near-e, near-f}
+use Rattle.border_theory.proofs.Memory.Near.{near-e, near-f}
 use Rattle.border.proofs.Planning.{beside-next-other, beside-next-is}
 use Rattle.border.proofs.plan.is_beside_next.Statement.{statement}
 use Rattle.border.proofs.plan.is_beside_next.Tie as tie

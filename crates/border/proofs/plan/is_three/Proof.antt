@@ -1,7 +1,7 @@
 -- `border::plan::is_three` meets its contract.
 -- Assumes nothing.
 use native.Mathlib.Omega.{arith}
-use Rattle.memory.proofs.Near.{near-e, near-f, near-next}
+use Rattle.border_theory.proofs.Memory.Near.{near-e, near-f, near-next}
 use Rattle.border.proofs.Planning.{three-other, three-first, three-is}
 use Rattle.border.proofs.plan.is_three.Statement.{statement}
 use Rattle.border.proofs.plan.is_three.Tie as tie
@@ -16,16 +16,25 @@ is-open-requires : tie.Need-is-open-requires
 is-open-requires c κs = omega (arith, c .after-of .ensures, near-f _ _ _ (c .before .before .before .pre))
 
 after-of-requires-2 : tie.Need-after-of-requires-2
-after-of-requires-2 c κs = omega (arith, c .before .before .after-of .ensures, near-f _ _ _ (c .before .before .before .before .before .pre))
+after-of-requires-2 c κs =
+    omega (arith, c .before .before .after-of .ensures, near-f _ _ _ (c .before .before .before .before .before .pre))
 
 is-open-requires-2 : tie.Need-is-open-requires-2
-is-open-requires-2 c κs = omega (arith, near-next _ _ _ (c .before .before .before .before .before .before .pre) _ _ (c .before .before .before .after-of .ensures) (c .after-of2 .ensures))
+is-open-requires-2 c κs =
+    omega (
+      arith,
+      near-next _ _ _ (c .before .before .before .before .before .before .pre) _ _
+          (c .before .before .before .after-of .ensures) (c .after-of2 .ensures),
+    )
 
 returns-2 : tie.Need-returns-2
-returns-2 c = three-is _ _ _ _ _ _ (c .before .before .before .before .before .if1 .left) (c .before .before .before .before .after-of .ensures) (c .before .before .before .is-open .ensures) (c .before .before .if2 .taken) (c .before .after-of2 .ensures) (c .is-open2 .ensures)
+returns-2 c = three-is _ _ _ _ _ _ (c .before .before .before .before .before .if1 .left)
+    (c .before .before .before .before .after-of .ensures) (c .before .before .before .is-open .ensures) (c .before .before .if2 .taken)
+    (c .before .after-of2 .ensures) (c .is-open2 .ensures)
 
 returns-3 : tie.Need-returns-3
-returns-3 c = three-first _ _ _ _ (c .before .before .before .if1 .left) (c .before .before .after-of .ensures) (c .before .is-open .ensures) (c .if2 .left)
+returns-3 c = three-first _ _ _ _ (c .before .before .before .if1 .left) (c .before .before .after-of .ensures)
+    (c .before .is-open .ensures) (c .if2 .left)
 
 pub is-three-spec : {M : Type 1} → statement M
 is-three-spec = tie.close (tie.spec returns after-of-requires is-open-requires after-of-requires-2 is-open-requires-2 returns-2 returns-3)

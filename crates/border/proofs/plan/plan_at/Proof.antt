@@ -15,7 +15,8 @@ vertex-of-requires-2 : tie.Need-vertex-of-requires-2
 vertex-of-requires-2 c κs = search needs
 
 returns : tie.Need-returns
-returns c = plan-is (c .before .before .before .before .args .l) (c .before .before .before .before .args .m .now) _ _ _ _ _ _ _ _ _ (c .before .before .after-of .ensures) (c .before .vertex-of .ensures) (c .vertex-of2 .ensures)
+returns c = plan-is (c .before .before .before .before .args .l) (c .before .before .before .before .args .m .now) _ _ _ _ _ _ _ _ _
+    (c .before .before .after-of .ensures) (c .before .vertex-of .ensures) (c .vertex-of2 .ensures)
 
 pub plan-at-spec : {M : Type 1} → statement M
 plan-at-spec =

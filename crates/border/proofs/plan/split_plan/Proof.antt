@@ -1,7 +1,7 @@
 -- `border::plan::split_plan` meets its contract.
 -- Assumes nothing.
 use native.Mathlib.Omega.{arith}
-use Rattle.memory.proofs.Near.{near-e}
+use Rattle.border_theory.proofs.Memory.Near.{near-e}
 use Rattle.border.proofs.Planning.{plan-near, split-near, split-place, split-low, split-high, split-next, split-last, split-builds}
 use borrow.Author.Needs.{needs}
 use Rattle.border.proofs.plan.split_plan.Statement.{statement}
@@ -23,16 +23,20 @@ after-of-requires : tie.Need-after-of-requires
 after-of-requires c κs = omega (arith, near-e _ _ _ (c .before .before .before .before .before .before .before .pre))
 
 walk-requires : tie.Need-walk-requires
-walk-requires c κs = split-near _ _ _ (c .before .before .before .before .before .before .before .before .pre) _ _ (c .before .before .before .before .before .if2 .left) (c .after-of .ensures)
+walk-requires c κs = split-near _ _ _ (c .before .before .before .before .before .before .before .before .pre) _ _
+    (c .before .before .before .before .before .if2 .left) (c .after-of .ensures)
 
 vertex-of-requires : tie.Need-vertex-of-requires
-vertex-of-requires c κs = split-place _ _ _ (c .before .before .before .before .before .before .before .before .before .pre) _ _ _ (c .before .before .before .before .before .before .if2 .left) (c .before .after-of .ensures) (c .walk .ensures)
+vertex-of-requires c κs =
+    split-place _ _ _ (c .before .before .before .before .before .before .before .before .before .pre) _ _ _
+    (c .before .before .before .before .before .before .if2 .left) (c .before .after-of .ensures) (c .walk .ensures)
 
 plan-at-requires : tie.Need-plan-at-requires
 plan-at-requires c κs = plan-near _ _ _ (c .before .before .before .before .before .before .before .before .before .before .pre)
 
 returns-3 : tie.Need-returns-3
-returns-3 c = split-next _ _ _ _ (c .before .before .before .if1 .left) (c .before .before .if2 .left) (c .before .is-beside-next .ensures) (c .if3 .taken)
+returns-3 c = split-next _ _ _ _ (c .before .before .before .if1 .left) (c .before .before .if2 .left) (c .before .is-beside-next .ensures)
+    (c .if3 .taken)
 
 is-beside-next-requires : tie.Need-is-beside-next-requires
 is-beside-next-requires c κs = c .before .before .before .pre
@@ -41,10 +45,17 @@ is-beside-last-requires : tie.Need-is-beside-last-requires
 is-beside-last-requires c κs = c .before .before .before .before .before .pre
 
 returns-4 : tie.Need-returns-4
-returns-4 c = split-last _ _ _ _ _ (c .before .before .before .before .before .if1 .left) (c .before .before .before .before .if2 .left) (c .before .before .before .is-beside-next .ensures) (c .before .before .if3 .left) (c .before .is-beside-last .ensures) (c .if4 .taken)
+returns-4 c = split-last _ _ _ _ _ (c .before .before .before .before .before .if1 .left) (c .before .before .before .before .if2 .left)
+    (c .before .before .before .is-beside-next .ensures) (c .before .before .if3 .left) (c .before .is-beside-last .ensures) (c .if4 .taken)
 
 returns-5 : tie.Need-returns-5
-returns-5 c = split-builds _ _ _ _ _ _ _ _ _ (c .before .before .before .before .before .before .before .before .before .if1 .left) (c .before .before .before .before .before .before .before .before .if2 .left) (c .before .before .before .before .before .before .before .is-beside-next .ensures) (c .before .before .before .before .before .before .if3 .left) (c .before .before .before .before .before .is-beside-last .ensures) (c .before .before .before .before .if4 .left) (c .before .before .before .after-of .ensures) (c .before .before .walk .ensures) (c .before .vertex-of .ensures) (c .plan-at .ensures)
+returns-5 c = split-builds _ _ _ _ _ _ _ _ _ (c .before .before .before .before .before .before .before .before .before .if1 .left)
+    (c .before .before .before .before .before .before .before .before .if2 .left)
+    (c .before .before .before .before .before .before .before .is-beside-next .ensures)
+    (c .before .before .before .before .before .before .if3 .left)
+    (c .before .before .before .before .before .is-beside-last .ensures) (c .before .before .before .before .if4 .left)
+    (c .before .before .before .after-of .ensures) (c .before .before .walk .ensures) (c .before .vertex-of .ensures)
+    (c .plan-at .ensures)
 
 pub split-plan-spec : {M : Type 1} → statement M
 split-plan-spec =

@@ -1,7 +1,7 @@
 -- `border::plan::start_plan` meets its contract.
 -- Assumes nothing.
 use mathlib.Core.Path.{refl}
-use Rattle.memory.specs.Decision.{startPlan}
+use Rattle.border_theory.specs.Memory.Decision.{startPlan}
 use borrow.Author.Needs.{needs}
 use Rattle.border.proofs.plan.start_plan.Statement.{statement}
 use Rattle.border.proofs.plan.start_plan.Tie as tie

@@ -21,19 +21,29 @@ place-at-requires : tie.Need-place-at-requires
 place-at-requires c κs = search needs
 
 walk-requires : tie.Need-walk-requires
-walk-requires c κs = union-near _ _ _ (c .before .before .before .before .before .before .before .pre) _ _ _ _ (c .before .before .before .before .if1 .left) (c .before .before .before .if2 .left) (c .before .before .size-at .ensures) (c .before .if3 .taken) (c .place-at .ensures)
+walk-requires c κs = union-near _ _ _ (c .before .before .before .before .before .before .before .pre) _ _ _ _
+    (c .before .before .before .before .if1 .left) (c .before .before .before .if2 .left) (c .before .before .size-at .ensures)
+    (c .before .if3 .taken) (c .place-at .ensures)
 
 vertex-of-requires : tie.Need-vertex-of-requires
-vertex-of-requires c κs = union-place _ _ _ (c .before .before .before .before .before .before .before .before .pre) _ _ _ _ (c .before .before .before .before .before .if1 .left) (c .before .before .before .before .if2 .left) (c .before .before .before .size-at .ensures) (c .before .before .if3 .taken) (c .before .place-at .ensures) _ (c .walk .ensures)
+vertex-of-requires c κs =
+    union-place _ _ _ (c .before .before .before .before .before .before .before .before .pre) _ _ _ _
+    (c .before .before .before .before .before .if1 .left) (c .before .before .before .before .if2 .left)
+    (c .before .before .before .size-at .ensures) (c .before .before .if3 .taken) (c .before .place-at .ensures) _
+    (c .walk .ensures)
 
 plan-at-requires : tie.Need-plan-at-requires
 plan-at-requires c κs = plan-near _ _ _ (c .before .before .before .before .before .before .before .before .before .pre)
 
 returns-3 : tie.Need-returns-3
-returns-3 c = union-builds _ _ _ _ _ _ _ _ _ _ (c .before .before .before .before .before .before .before .if1 .left) (c .before .before .before .before .before .before .if2 .left) (c .before .before .before .before .before .size-at .ensures) (c .before .before .before .before .if3 .taken) (c .before .before .before .place-at .ensures) (c .before .before .walk .ensures) (c .before .vertex-of .ensures) (c .plan-at .ensures)
+returns-3 c = union-builds _ _ _ _ _ _ _ _ _ _ (c .before .before .before .before .before .before .before .if1 .left)
+    (c .before .before .before .before .before .before .if2 .left) (c .before .before .before .before .before .size-at .ensures)
+    (c .before .before .before .before .if3 .taken) (c .before .before .before .place-at .ensures) (c .before .before .walk .ensures)
+    (c .before .vertex-of .ensures) (c .plan-at .ensures)
 
 returns-4 : tie.Need-returns-4
-returns-4 c = union-far _ _ _ _ _ _ (c .before .before .before .if1 .left) (c .before .before .if2 .left) (c .before .size-at .ensures) (c .if3 .left)
+returns-4 c = union-far _ _ _ _ _ _ (c .before .before .before .if1 .left) (c .before .before .if2 .left) (c .before .size-at .ensures)
+    (c .if3 .left)
 
 pub union-plan-spec : {M : Type 1} → statement M
 union-plan-spec =

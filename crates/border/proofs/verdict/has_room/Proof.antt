@@ -64,7 +64,10 @@ mul-if3 : tie.Need-mul-if3
 mul-if3 c = search needs
 
 add-if3-2 : tie.Need-add-if3-2
-add-if3-2 c = record { fits = omega (arith, c .before .before .before .before .before .before .before .before .before .before .before .before .before .before .pre .1) }
+add-if3-2 c = record {
+  fits =
+      omega (arith, c .before .before .before .before .before .before .before .before .before .before .before .before .before .before .pre .1);
+}
 
 returns-3 : tie.Need-returns-3
 returns-3 c = room-places _ _ _ (c .if3 .taken)
@@ -106,7 +109,8 @@ add-result-3 : tie.Need-add-result-3
 add-result-3 c = search needs
 
 returns-4 : tie.Need-returns-4
-returns-4 c = room-loops _ _ _ (c .before .before .before .before .before .before .before .before .before .before .before .if1 .left) (c .before .before .before .before .before .before .before .before .if2 .left) (c .before .before .before .before .before .if3 .left)
+returns-4 c = room-loops _ _ _ (c .before .before .before .before .before .before .before .before .before .before .before .if1 .left)
+    (c .before .before .before .before .before .before .before .before .if2 .left) (c .before .before .before .before .before .if3 .left)
 
 pub has-room-spec : {M : Type 1} → statement M
 has-room-spec =

@@ -19,7 +19,8 @@ has-room-requires : tie.Need-has-room-requires
 has-room-requires c κs = search needs
 
 returns : tie.Need-returns
-returns c = tested-by _ _ _ _ _ (c .before .before .before .d3 .given .1) (tested-room _ _ _ _ (c .before .has-room .ensures) (c .if1 .taken))
+returns c = tested-by _ _ _ _ _ (c .before .before .before .d3 .given .1)
+    (tested-room _ _ _ _ (c .before .has-room .ensures) (c .if1 .taken))
 
 returns-2 : tie.Need-returns-2
 returns-2 c = tested-by _ _ _ _ _ (c .before .d .given .1) refl
@@ -28,7 +29,8 @@ returns-3 : tie.Need-returns-3
 returns-3 c = tested-by _ _ _ _ _ (c .before .d2 .given .1) refl
 
 returns-4 : tie.Need-returns-4
-returns-4 c = tested-by _ _ _ _ _ (c .before .before .before .d3 .given .1) (tested-full _ _ _ _ (c .before .has-room .ensures) (c .if1 .left))
+returns-4 c = tested-by _ _ _ _ _ (c .before .before .before .d3 .given .1)
+    (tested-full _ _ _ _ (c .before .has-room .ensures) (c .if1 .left))
 
 pub test-room-spec : {M : Type 1} → statement M
 test-room-spec =

@@ -18,7 +18,8 @@ within-16-requires-4 : tie.Need-within-16-requires-4
 within-16-requires-4 c κs = search needs
 
 returns : tie.Need-returns
-returns c = counts-are _ _ _ _ _ _ _ _ (c .before .before .before .within-16 .ensures) (c .before .before .within-162 .ensures) (c .before .within-163 .ensures) (c .within-164 .ensures)
+returns c = counts-are _ _ _ _ _ _ _ _ (c .before .before .before .within-16 .ensures) (c .before .before .within-162 .ensures)
+    (c .before .within-163 .ensures) (c .within-164 .ensures)
 
 pub counts-of-spec : {M : Type 1} → statement M
 counts-of-spec =

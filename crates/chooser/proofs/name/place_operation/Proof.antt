@@ -27,7 +27,9 @@ returns c =
     let g = v .before in
     let u = g .before in
     let a = u .before .before .before .args in
-    by-edges (a .m .now) (a .l) _ _ _ _ _ _ _ (u .before .after-of .ensures) (u .is-open .ensures) (g .before-of .ensures) (v .is-open2 .ensures) (c .operation-for .ensures)
+    by-edges (a .m .now) (a .l) _ _ _ _ _ _ _ (u .before .after-of .ensures) (u .is-open .ensures) (g .before-of .ensures)
+    (v .is-open2 .ensures) (c .operation-for .ensures)
 
 pub place-operation-spec : {M : Type 1} → statement M
-place-operation-spec = tie.close (tie.spec after-of-requires is-open-requires before-of-requires is-open-requires-2 operation-for-requires returns)
+place-operation-spec = tie.close
+    (tie.spec after-of-requires is-open-requires before-of-requires is-open-requires-2 operation-for-requires returns)

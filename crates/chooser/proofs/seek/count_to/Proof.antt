@@ -21,7 +21,8 @@ is-start-requires : tie.Need-is-start-requires Inv-loop μ-loop
 is-start-requires c κs = counting-here _ _ _ _ _ _ _ (c .before .loop .inv) (c .loop-test .taken)
 
 returns : tie.Need-returns Inv-loop μ-loop
-returns c = counting-found _ _ _ _ _ _ _ (c .before .before .before .loop .inv) _ (c .before .before .loop-test .taken) (c .before .is-start .ensures) (c .if1 .taken)
+returns c = counting-found _ _ _ _ _ _ _ (c .before .before .before .loop .inv) _ (c .before .before .loop-test .taken)
+    (c .before .is-start .ensures) (c .if1 .taken)
 
 after-of-requires : tie.Need-after-of-requires Inv-loop μ-loop
 after-of-requires c κs = counting-here _ _ _ _ _ _ _ (c .before .before .before .loop .inv) (c .before .before .loop-test .taken) .0
@@ -33,7 +34,8 @@ loop-less : tie.Need-loop-less Inv-loop μ-loop
 loop-less c = search needs
 
 loop-again : tie.Need-loop-again Inv-loop μ-loop
-loop-again c = counting-more _ _ _ _ _ _ _ (c .before .before .before .before .loop .inv) _ _ (c .before .before .before .loop-test .taken) (c .before .before .is-start .ensures) (c .before .if1 .left) (c .after-of .ensures)
+loop-again c = counting-more _ _ _ _ _ _ _ (c .before .before .before .before .loop .inv) _ _ (c .before .before .before .loop-test .taken)
+    (c .before .before .is-start .ensures) (c .before .if1 .left) (c .after-of .ensures)
 
 returns-2 : tie.Need-returns-2 Inv-loop μ-loop
 returns-2 c = counting-done _ _ _ _ _ _ _ (c .before .loop .inv) (c .loop-test .left)

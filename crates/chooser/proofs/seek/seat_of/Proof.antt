@@ -1,6 +1,7 @@
 -- `chooser::seek::seat_of` meets its contract: three places, then the walk.
 -- Assumes nothing.
-use Rattle.chooser.proofs.Looking.{current-long, inside-after, inside-before, inside-second, seat-after, seat-before, seat-second, seat-walked}
+use Rattle.chooser.proofs.Looking.{current-long, inside-after, inside-before, inside-second, seat-after, seat-before, seat-second}
+use Rattle.chooser.proofs.Looking.{seat-walked}
 use borrow.Author.Needs.{needs}
 use Rattle.chooser.proofs.seek.seat_of.Statement.{statement}
 use Rattle.chooser.proofs.seek.seat_of.Tie as tie
@@ -26,14 +27,17 @@ sub-t12 c = search needs
 returns-2 : tie.Need-returns-2
 returns-2 c =
     let g = c .before .before .before in
-    seat-before _ _ _ _ _ (g .before .before .after-of .ensures) _ (g .before .is-start .ensures) (g .if1 .left) _ (c .before .before .before-of .ensures) _
+    seat-before _ _ _ _ _ (g .before .before .after-of .ensures) _ (g .before .is-start .ensures) (g .if1 .left) _
+    (c .before .before .before-of .ensures) _
     (c .before .is-start2 .ensures) (c .if2 .taken)
 
 before-of-requires-2 : tie.Need-before-of-requires-2
 before-of-requires-2 c κs = search needs
 
 is-start-requires-3 : tie.Need-is-start-requires-3
-is-start-requires-3 c κs = inside-second _ _ (c .before .before .before .before .before .before .before .before .pre) _ _ (c .before .before .before .before-of .ensures) (c .before-of2 .ensures)
+is-start-requires-3 c κs =
+    inside-second _ _ (c .before .before .before .before .before .before .before .before .pre) _ _
+    (c .before .before .before .before-of .ensures) (c .before-of2 .ensures)
 
 sub-t14 : tie.Need-sub-t14
 sub-t14 c = search needs
@@ -42,8 +46,10 @@ returns-3 : tie.Need-returns-3
 returns-3 c =
     let h = c .before .before .before in
     let g = h .before .before .before in
-    seat-second _ _ _ _ _ (g .before .before .after-of .ensures) _ (g .before .is-start .ensures) (g .if1 .left) _ (h .before .before .before-of .ensures) _
-    (h .before .is-start2 .ensures) (h .if2 .left) _ (c .before .before .before-of2 .ensures) _ (c .before .is-start3 .ensures) (c .if3 .taken)
+    seat-second _ _ _ _ _ (g .before .before .after-of .ensures) _ (g .before .is-start .ensures) (g .if1 .left) _
+    (h .before .before .before-of .ensures) _
+    (h .before .is-start2 .ensures) (h .if2 .left) _ (c .before .before .before-of2 .ensures) _ (c .before .is-start3 .ensures)
+    (c .if3 .taken)
 
 walked-seat-requires : tie.Need-walked-seat-requires
 walked-seat-requires c κs = search needs
@@ -53,8 +59,10 @@ returns-4 c =
     let k = c .before in
     let h = k .before .before .before in
     let g = h .before .before .before in
-    seat-walked _ _ _ _ _ (g .before .before .after-of .ensures) _ (g .before .is-start .ensures) (g .if1 .left) _ (h .before .before .before-of .ensures) _
-    (h .before .is-start2 .ensures) (h .if2 .left) _ (k .before .before .before-of2 .ensures) _ (k .before .is-start3 .ensures) _ (k .if3 .left)
+    seat-walked _ _ _ _ _ (g .before .before .after-of .ensures) _ (g .before .is-start .ensures) (g .if1 .left) _
+    (h .before .before .before-of .ensures) _
+    (h .before .is-start2 .ensures) (h .if2 .left) _ (k .before .before .before-of2 .ensures) _ (k .before .is-start3 .ensures) _
+    (k .if3 .left)
     (c .walked-seat .ensures)
 
 pub seat-of-spec : {M : Type 1} → statement M

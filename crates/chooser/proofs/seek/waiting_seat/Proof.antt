@@ -26,13 +26,18 @@ size-at-requires : tie.Need-size-at-requires Inv-loop μ-loop
 size-at-requires c κs = looking-long _ _ (c .before .before .before .before .pre) _ _ _ _ (c .before .loop .inv) (c .loop-test .taken)
 
 place-at-requires : tie.Need-place-at-requires Inv-loop μ-loop
-place-at-requires c κs = looking-long _ _ (c .before .before .before .before .before .pre) _ _ _ _ (c .before .before .loop .inv) (c .before .loop-test .taken)
+place-at-requires c κs =
+    looking-long _ _ (c .before .before .before .before .before .pre) _ _ _ _ (c .before .before .loop .inv) (c .before .loop-test .taken)
 
 count-to-requires : tie.Need-count-to-requires Inv-loop μ-loop
-count-to-requires c κs = looking-near _ _ (c .before .before .before .before .before .before .pre) _ _ _ _ (c .before .before .before .loop .inv) (c .before .before .loop-test .taken) _ _ (c .before .size-at .ensures) (c .place-at .ensures)
+count-to-requires c κs =
+    looking-near _ _ (c .before .before .before .before .before .before .pre) _ _ _ _ (c .before .before .before .loop .inv)
+    (c .before .before .loop-test .taken) _ _ (c .before .size-at .ensures) (c .place-at .ensures)
 
 returns : tie.Need-returns Inv-loop μ-loop
-returns c = looking-found _ _ _ _ _ _ _ (c .before .before .before .before .before .loop .inv) _ _ _ (c .before .before .before .before .loop-test .taken) (c .before .before .before .size-at .ensures) (c .before .before .place-at .ensures) (c .before .count-to .ensures) (c .if1 .taken)
+returns c = looking-found _ _ _ _ _ _ _ (c .before .before .before .before .before .loop .inv) _ _ _
+    (c .before .before .before .before .loop-test .taken) (c .before .before .before .size-at .ensures)
+    (c .before .before .place-at .ensures) (c .before .count-to .ensures) (c .if1 .taken)
 
 add-w : tie.Need-add-w Inv-loop μ-loop
 add-w c = search needs
@@ -41,7 +46,9 @@ loop-less : tie.Need-loop-less Inv-loop μ-loop
 loop-less c = omega arith
 
 loop-again : tie.Need-loop-again Inv-loop μ-loop
-loop-again c = looking-more _ _ _ _ _ _ _ (c .before .before .before .before .before .loop .inv) _ _ _ (c .before .before .before .before .loop-test .taken) (c .before .before .before .size-at .ensures) (c .before .before .place-at .ensures) (c .before .count-to .ensures) (c .if1 .left)
+loop-again c = looking-more _ _ _ _ _ _ _ (c .before .before .before .before .before .loop .inv) _ _ _
+    (c .before .before .before .before .loop-test .taken) (c .before .before .before .size-at .ensures)
+    (c .before .before .place-at .ensures) (c .before .count-to .ensures) (c .if1 .left)
 
 returns-2 : tie.Need-returns-2 Inv-loop μ-loop
 returns-2 c = looking-done _ _ _ _ _ _ _ (c .before .loop .inv) (c .loop-test .left)

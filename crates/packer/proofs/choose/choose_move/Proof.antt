@@ -1,7 +1,7 @@
 -- `packer::choose::choose_move` meets its contract: border, or the triangle found and its move.
 -- Assumes nothing.
 use borrow.Author.Needs.{needs}
-use Rattle.packing.proofs.Ways.{chosen-none, chosen-flag, chosen-place, chosen-found}
+use Rattle.pack_theory.proofs.Packing.Ways.{chosen-none, chosen-flag, chosen-place, chosen-found}
 use Rattle.packer.proofs.choose.choose_move.Statement.{statement}
 use Rattle.packer.proofs.choose.choose_move.Tie as tie
 
@@ -24,19 +24,41 @@ enum-told : tie.Need-enum-told
 enum-told c = search needs
 
 returns : tie.Need-returns
-returns c = let a = c .before .before .before .before .before .before .before .before .before .args in chosen-none (a .list .now) (a .chains .now) (a .built .now) (a .numbering .now) (a .m .now) (a .l) (c .before .before .before .before .before .before .before .before .before .pre) _ _ _ (c .before .before .before .before .before .after-of .ensures) (c .before .before .before .before .vertex-of .ensures) (c .before .before .before .vertex-of2 .ensures) _ (c .before .before .across .ensures) (c .enum-told .given .1)
+returns c = let a = c .before .before .before .before .before .before .before .before .before .args in
+    chosen-none (a .list .now) (a .chains .now) (a .built .now) (a .numbering .now) (a .m .now) (a .l)
+    (c .before .before .before .before .before .before .before .before .before .pre) _ _ _
+    (c .before .before .before .before .before .after-of .ensures) (c .before .before .before .before .vertex-of .ensures)
+    (c .before .before .before .vertex-of2 .ensures) _ (c .before .before .across .ensures) (c .enum-told .given .1)
 
 cast-built : tie.Need-cast-built
 cast-built c = search needs
 
 element-write-built : tie.Need-element-write-built
-element-write-built c = let a = c .before .before .before .before .before .before .before .before .before .before .args in chosen-flag (a .list .now) (a .chains .now) (a .built .now) (a .numbering .now) (a .m .now) (a .l) (c .before .before .before .before .before .before .before .before .before .before .pre) _ _ _ (c .before .before .before .before .before .before .after-of .ensures) (c .before .before .before .before .before .vertex-of .ensures) (c .before .before .before .before .vertex-of2 .ensures) _ (c .before .before .before .across .ensures) _ _ _ (c .before .across2 .given .1)
+element-write-built c = let a = c .before .before .before .before .before .before .before .before .before .before .args in
+    chosen-flag (a .list .now) (a .chains .now) (a .built .now) (a .numbering .now) (a .m .now) (a .l)
+    (c .before .before .before .before .before .before .before .before .before .before .pre) _ _ _
+    (c .before .before .before .before .before .before .after-of .ensures)
+    (c .before .before .before .before .before .vertex-of .ensures) (c .before .before .before .before .vertex-of2 .ensures) _
+    (c .before .before .before .across .ensures) _ _ _ (c .before .across2 .given .1)
 
 place-move-requires : tie.Need-place-move-requires
-place-move-requires c κs = let a = c .before .before .before .before .before .before .before .before .before .before .before .args in chosen-place (a .list .now) (a .chains .now) (a .built .now) (a .numbering .now) (a .m .now) (a .l) (c .before .before .before .before .before .before .before .before .before .before .before .pre) _ _ _ (c .before .before .before .before .before .before .before .after-of .ensures) (c .before .before .before .before .before .before .vertex-of .ensures) (c .before .before .before .before .before .vertex-of2 .ensures) _ (c .before .before .before .before .across .ensures) _ _ _ (c .before .before .across2 .given .1)
+place-move-requires c κs = let a = c .before .before .before .before .before .before .before .before .before .before .before .args in
+    chosen-place (a .list .now) (a .chains .now) (a .built .now) (a .numbering .now) (a .m .now) (a .l)
+    (c .before .before .before .before .before .before .before .before .before .before .before .pre) _ _ _
+    (c .before .before .before .before .before .before .before .after-of .ensures)
+    (c .before .before .before .before .before .before .vertex-of .ensures)
+    (c .before .before .before .before .before .vertex-of2 .ensures) _ (c .before .before .before .before .across .ensures)
+    _ _ _ (c .before .before .across2 .given .1)
 
 returns-2 : tie.Need-returns-2
-returns-2 c = let a = c .before .before .before .before .before .before .before .before .before .before .before .before .args in chosen-found (a .list .now) (a .chains .now) (a .built .now) (a .numbering .now) (a .m .now) (a .l) (c .before .before .before .before .before .before .before .before .before .before .before .before .pre) _ _ _ (c .before .before .before .before .before .before .before .before .after-of .ensures) (c .before .before .before .before .before .before .before .vertex-of .ensures) (c .before .before .before .before .before .before .vertex-of2 .ensures) _ (c .before .before .before .before .before .across .ensures) _ _ _ (c .before .before .before .across2 .given .1) _ (c .place-move .ensures)
+returns-2 c = let a = c .before .before .before .before .before .before .before .before .before .before .before .before .args in
+    chosen-found (a .list .now) (a .chains .now) (a .built .now) (a .numbering .now) (a .m .now) (a .l)
+    (c .before .before .before .before .before .before .before .before .before .before .before .before .pre) _ _ _
+    (c .before .before .before .before .before .before .before .before .after-of .ensures)
+    (c .before .before .before .before .before .before .before .vertex-of .ensures)
+    (c .before .before .before .before .before .before .vertex-of2 .ensures) _
+    (c .before .before .before .before .before .across .ensures) _ _ _ (c .before .before .before .across2 .given .1) _
+    (c .place-move .ensures)
 
 pub choose-move-spec : {M : Type 1} → statement M
 choose-move-spec =

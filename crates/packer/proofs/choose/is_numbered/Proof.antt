@@ -1,7 +1,7 @@
 -- `packer::choose::is_numbered` meets its contract: one entry is compared.
 -- Assumes nothing.
 use borrow.Author.Needs.{needs}
-use Rattle.packing.proofs.Ways.{numbered-not, numbered-is}
+use Rattle.pack_theory.proofs.Packing.Ways.{numbered-not, numbered-is}
 use Rattle.packer.proofs.choose.is_numbered.Statement.{statement}
 use Rattle.packer.proofs.choose.is_numbered.Tie as tie
 

@@ -2,7 +2,7 @@
 -- Assumes nothing.
 use native.Mathlib.Omega.{arith}
 use borrow.Author.Needs.{needs}
-use Rattle.packing.proofs.Ways.{finish-refused, finish-short, finish-whole, finish-sized}
+use Rattle.pack_theory.proofs.Packing.Ways.{finish-refused, finish-short, finish-whole, finish-sized}
 use Rattle.packer.proofs.Wiring.{written-header}
 use Rattle.packer.proofs.finish.finish.Statement.{statement}
 use Rattle.packer.proofs.finish.finish.Tie as tie
@@ -26,10 +26,16 @@ same-length-2 : tie.Need-same-length-2
 same-length-2 c = search needs
 
 returns : tie.Need-returns
-returns c = let a = c .before .before .before .before .before .before .before .before .before .before .before .before .args in finish-refused (a .end) (a .v) (a .k) (a .numbering .now) (a .buffer .now) _ _ (c .before .before .before .before .before .before .before .before .enum-told .given .1) (c .before .before .before .before .before .before .before .number-of .ensures) _ (c .before .before .before .before .refuse .ensures .0) _ _ (c .before .before .before .before .refuse .ensures .1 .0) (c .before .before .before .before .refuse .ensures .1 .1)
+returns c = let a = c .before .before .before .before .before .before .before .before .before .before .before .before .args in
+    finish-refused (a .end) (a .v) (a .k) (a .numbering .now) (a .buffer .now) _ _
+    (c .before .before .before .before .before .before .before .before .enum-told .given .1)
+    (c .before .before .before .before .before .before .before .number-of .ensures) _
+    (c .before .before .before .before .refuse .ensures .0) _ _ (c .before .before .before .before .refuse .ensures .1 .0)
+    (c .before .before .before .before .refuse .ensures .1 .1)
 
 add-n : tie.Need-add-n
-add-n c = let a = c .before .before .before .before .before .args in omega (arith, finish-sized (a .end) _ _ (c .before .end .given .1) (c .before .before .before .before .before .pre .3) .1)
+add-n c = let a = c .before .before .before .before .before .args in
+    omega (arith, finish-sized (a .end) _ _ (c .before .end .given .1) (c .before .before .before .before .before .pre .3) .1)
 
 refuse-requires-2 : tie.Need-refuse-requires-2
 refuse-requires-2 c κs = c .before .before .before .before .before .before .before .before .pre .2
@@ -41,25 +47,48 @@ same-length-4 : tie.Need-same-length-4
 same-length-4 c = search needs
 
 returns-2 : tie.Need-returns-2
-returns-2 c = let a = c .before .before .before .before .before .before .before .before .before .before .before .before .before .args in finish-short (a .end) (a .v) (a .k) (a .numbering .now) (a .buffer .now) _ _ (c .before .before .before .before .before .before .before .before .before .end .given .1) (c .before .before .before .before .before .before .before .if1 .taken) _ (c .before .before .before .before .refuse2 .ensures .0) _ _ (c .before .before .before .before .refuse2 .ensures .1 .0) (c .before .before .before .before .refuse2 .ensures .1 .1)
+returns-2 c = let a = c .before .before .before .before .before .before .before .before .before .before .before .before .before .args in
+    finish-short (a .end) (a .v) (a .k) (a .numbering .now) (a .buffer .now) _ _
+    (c .before .before .before .before .before .before .before .before .before .end .given .1)
+    (c .before .before .before .before .before .before .before .if1 .taken) _
+    (c .before .before .before .before .refuse2 .ensures .0) _ _ (c .before .before .before .before .refuse2 .ensures .1 .0)
+    (c .before .before .before .before .refuse2 .ensures .1 .1)
 
 counts-at-requires : tie.Need-counts-at-requires
-counts-at-requires c κs = (c .before .before .before .before .before .before .pre .0, c .before .before .before .before .before .before .pre .1)
+counts-at-requires c κs =
+    (c .before .before .before .before .before .before .pre .0, c .before .before .before .before .before .before .pre .1)
 
 sub-write-header : tie.Need-sub-write-header
-sub-write-header c = let a = c .before .before .before .before .before .before .before .before .args in omega (arith, finish-sized (a .end) _ _ (c .before .before .before .before .end .given .1) (c .before .before .before .before .before .before .before .before .pre .3) .0)
+sub-write-header c = let a = c .before .before .before .before .before .before .before .before .args in
+    omega (
+      arith,
+      finish-sized (a .end) _ _ (c .before .before .before .before .end .given .1)
+          (c .before .before .before .before .before .before .before .before .pre .3) .0,
+    )
 
 write-header-requires : tie.Need-write-header-requires
 write-header-requires c κs = search needs
 
 cast-t23 : tie.Need-cast-t23
-cast-t23 c = let a = c .before .before .before .before .before .before .before .before .before .before .before .args in omega (arith, finish-sized (a .end) _ _ (c .before .before .before .before .before .before .before .end .given .1) (c .before .before .before .before .before .before .before .before .before .before .before .pre .3) .1)
+cast-t23 c = let a = c .before .before .before .before .before .before .before .before .before .before .before .args in
+    omega (
+      arith,
+      finish-sized (a .end) _ _ (c .before .before .before .before .before .before .before .end .given .1)
+          (c .before .before .before .before .before .before .before .before .before .before .before .pre .3) .1,
+    )
 
 same-length-5 : tie.Need-same-length-5
 same-length-5 c = search needs
 
 returns-3 : tie.Need-returns-3
-returns-3 c = let a = c .before .before .before .before .before .before .before .before .before .before .before .args in finish-whole (a .end) (a .v) (a .k) (a .numbering .now) (a .buffer .now) _ _ (c .before .before .before .before .before .before .before .end .given .1) (c .before .before .before .before .before .if1 .left) _ (c .before .before .before .before .counts-at .ensures) _ (written-header (a .buffer .now) _ _ _ _ (finish-sized (a .end) _ _ (c .before .before .before .before .before .before .before .end .given .1) (c .before .before .before .before .before .before .before .before .before .before .before .pre .3) .0) (c .before .before .before .before .before .if1 .left) (c .before .before .write-header .ensures .1))
+returns-3 c = let a = c .before .before .before .before .before .before .before .before .before .before .before .args in
+    finish-whole (a .end) (a .v) (a .k) (a .numbering .now) (a .buffer .now) _ _
+    (c .before .before .before .before .before .before .before .end .given .1) (c .before .before .before .before .before .if1 .left) _
+    (c .before .before .before .before .counts-at .ensures) _
+    (written-header (a .buffer .now) _ _ _ _
+    (finish-sized (a .end) _ _ (c .before .before .before .before .before .before .before .end .given .1)
+    (c .before .before .before .before .before .before .before .before .before .before .before .pre .3) .0)
+    (c .before .before .before .before .before .if1 .left) (c .before .before .write-header .ensures .1))
 
 pub finish-spec : {M : Type 1} → statement M
 finish-spec =

@@ -1,7 +1,7 @@
 -- `packer::finish::number_of` meets its contract: a refusal keeps its number.
 -- Assumes nothing.
 use borrow.Author.Needs.{needs}
-use Rattle.packing.proofs.Ways.{ran-same, ran-other}
+use Rattle.pack_theory.proofs.Packing.Ways.{ran-same, ran-other}
 use Rattle.packer.proofs.finish.number_of.Statement.{statement}
 use Rattle.packer.proofs.finish.number_of.Tie as tie
 

@@ -1,6 +1,6 @@
 -- `packer::operate::refusal_at` meets its contract: 9 or 10.
 -- Assumes nothing.
-use Rattle.packing.proofs.Ways.{refusal-nine, refusal-ten}
+use Rattle.pack_theory.proofs.Packing.Ways.{refusal-nine, refusal-ten}
 use Rattle.packer.proofs.operate.refusal_at.Statement.{statement}
 use Rattle.packer.proofs.operate.refusal_at.Tie as tie
 

@@ -1,7 +1,7 @@
 -- `packer::operate::refusal_of` meets its contract: a refusal keeps its number.
 -- Assumes nothing.
 use borrow.Author.Needs.{needs}
-use Rattle.packing.proofs.Ways.{done-same, done-other}
+use Rattle.pack_theory.proofs.Packing.Ways.{done-same, done-other}
 use Rattle.packer.proofs.operate.refusal_of.Statement.{statement}
 use Rattle.packer.proofs.operate.refusal_of.Tie as tie
 

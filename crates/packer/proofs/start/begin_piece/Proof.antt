@@ -2,7 +2,7 @@
 -- Assumes nothing.
 use native.Mathlib.Omega.{arith}
 use borrow.Author.Needs.{needs}
-use Rattle.packing.proofs.Stepping.{rest-lowest, rest-never, rest-starts}
+use Rattle.pack_theory.proofs.Packing.Stepping.{rest-lowest, rest-never, rest-starts}
 use Rattle.packer.proofs.start.begin_piece.Statement.{statement}
 use Rattle.packer.proofs.start.begin_piece.Tie as tie
 
@@ -10,13 +10,19 @@ cast-lowest-left : tie.Need-cast-lowest-left
 cast-lowest-left c = search needs
 
 lowest-left-requires : tie.Need-lowest-left-requires
-lowest-left-requires c κs = let a = c .before .before .before .before .before .args in rest-lowest (a .list .now) (a .t) (a .built .now) (a .numbering .now) (a .m .now) (c .before .before .before .before .before .pre)
+lowest-left-requires c κs = let a = c .before .before .before .before .before .args in
+    rest-lowest (a .list .now) (a .t) (a .built .now) (a .numbering .now) (a .m .now) (c .before .before .before .before .before .pre)
 
 returns : tie.Need-returns
-returns c = let a = c .before .before .before .before .before .before .before .args in absurd (rest-never (a .list .now) (a .t) (a .built .now) (a .numbering .now) (a .m .now) (c .before .before .before .before .before .before .before .pre) _ (c .before .lowest-left .ensures) (c .if1 .taken))
+returns c = let a = c .before .before .before .before .before .before .before .args in
+    absurd (rest-never (a .list .now) (a .t) (a .built .now) (a .numbering .now) (a .m .now)
+    (c .before .before .before .before .before .before .before .pre) _ (c .before .lowest-left .ensures) (c .if1 .taken))
 
 start-at-requires : tie.Need-start-at-requires
-start-at-requires c κs = let a = c .before .before .before .before .before .before .before .before .before .before .args in rest-starts (a .list .now) (a .t) (a .built .now) (a .numbering .now) (a .m .now) (c .before .before .before .before .before .before .before .before .before .before .pre) _ (c .before .before .before .before .lowest-left .ensures) (c .before .before .before .if1 .left)
+start-at-requires c κs = let a = c .before .before .before .before .before .before .before .before .before .before .args in
+    rest-starts (a .list .now) (a .t) (a .built .now) (a .numbering .now) (a .m .now)
+    (c .before .before .before .before .before .before .before .before .before .before .pre) _
+    (c .before .before .before .before .lowest-left .ensures) (c .before .before .before .if1 .left)
 
 same-length : tie.Need-same-length
 same-length c = search needs

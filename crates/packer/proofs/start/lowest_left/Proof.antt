@@ -2,7 +2,7 @@
 -- Assumes nothing.
 use Prim.Native.Nat.{_-_}
 use borrow.Author.Needs.{needs}
-use Rattle.packing.proofs.Ways.{Seeking, seeking-start, seeking-more, seeking-found, seeking-out}
+use Rattle.pack_theory.proofs.Packing.Ways.{Seeking, seeking-start, seeking-more, seeking-found, seeking-out}
 use Rattle.packer.proofs.start.lowest_left.Statement.{statement}
 use Rattle.packer.proofs.start.lowest_left.Tie as tie
 

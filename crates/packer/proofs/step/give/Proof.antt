@@ -1,7 +1,7 @@
 -- `packer::step::give` meets its contract: one store, or none.
 -- Assumes nothing.
 use borrow.Author.Needs.{needs}
-use Rattle.packing.proofs.Ways.{gives-none, gives-one}
+use Rattle.pack_theory.proofs.Packing.Ways.{gives-none, gives-one}
 use Rattle.packer.proofs.step.give.Statement.{statement}
 use Rattle.packer.proofs.step.give.Tie as tie
 

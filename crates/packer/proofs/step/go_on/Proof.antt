@@ -1,18 +1,23 @@
 -- `packer::step::go_on` meets its contract: what is chosen is done, numbered and flagged.
 -- Assumes nothing.
 use borrow.Author.Needs.{needs}
-use Rattle.packing.proofs.Stepping.{alive-chooses, alive-ready, alive-gives, alive-refused, alive-goes}
+use Rattle.pack_theory.proofs.Packing.Stepping.{alive-chooses, alive-ready, alive-gives, alive-refused, alive-goes}
 use Rattle.packer.proofs.step.go_on.Statement.{statement}
 use Rattle.packer.proofs.step.go_on.Tie as tie
 
 choose-move-requires : tie.Need-choose-move-requires
-choose-move-requires c κs = let a = c .before .before .before .before .before .before .before .args in alive-chooses (a .list .now) (a .chains .now) (a .t) (a .built .now) (a .numbering .now) (a .m .now) (c .before .before .before .before .before .before .before .pre)
+choose-move-requires c κs = let a = c .before .before .before .before .before .before .before .args in
+    alive-chooses (a .list .now) (a .chains .now) (a .t) (a .built .now) (a .numbering .now) (a .m .now)
+    (c .before .before .before .before .before .before .before .pre)
 
 ready-for-requires : tie.Need-ready-for-requires
 ready-for-requires c κs = search needs
 
 operate-requires : tie.Need-operate-requires
-operate-requires c κs = let a = c .before .before .before .before .before .before .before .before .before .before .args in alive-ready (a .list .now) (a .chains .now) (a .t) (a .built .now) (a .numbering .now) (a .m .now) (c .before .before .before .before .before .before .before .before .before .before .pre) _ (c .before .before .choose-move .ensures .0) _ (c .before .ready-for .ensures)
+operate-requires c κs = let a = c .before .before .before .before .before .before .before .before .before .before .args in
+    alive-ready (a .list .now) (a .chains .now) (a .t) (a .built .now) (a .numbering .now) (a .m .now)
+    (c .before .before .before .before .before .before .before .before .before .before .pre) _
+    (c .before .before .choose-move .ensures .0) _ (c .before .ready-for .ensures)
 
 enum-known-d : tie.Need-enum-known-d
 enum-known-d c = search needs
@@ -30,10 +35,23 @@ same-length-2 : tie.Need-same-length-2
 same-length-2 c = search needs
 
 returns : tie.Need-returns
-returns c = let a = c .before .before .before .before .before .before .before .before .before .before .before .before .before .before .before .before .args in alive-refused (a .list .now) (a .chains .now) (a .t) (a .built .now) (a .numbering .now) (a .m .now) (c .before .before .before .before .before .before .before .before .before .before .before .before .before .before .before .before .pre) _ (c .before .before .before .before .before .before .before .before .choose-move .ensures .0) _ (c .before .before .before .before .before .before .before .before .choose-move .ensures .1) _ (c .before .before .before .before .before .before .before .ready-for .ensures) _ (c .before .before .before .before .before .operate .ensures .0) _ (c .before .before .before .before .before .operate .ensures .1) _ (c .before .enum-told .given .1) _ (c .refusal-of .ensures)
+returns c = let a = c .before .before .before .before .before .before .before .before .before .before .before .before .before .before
+    .before .before .args in
+    alive-refused (a .list .now) (a .chains .now) (a .t) (a .built .now) (a .numbering .now) (a .m .now)
+    (c .before .before .before .before .before .before .before .before .before .before .before .before .before .before .before
+    .before .pre) _ (c .before .before .before .before .before .before .before .before .choose-move .ensures .0) _
+    (c .before .before .before .before .before .before .before .before .choose-move .ensures .1) _
+    (c .before .before .before .before .before .before .before .ready-for .ensures) _
+    (c .before .before .before .before .before .operate .ensures .0) _
+    (c .before .before .before .before .before .operate .ensures .1) _ (c .before .enum-told .given .1) _
+    (c .refusal-of .ensures)
 
 give-requires : tie.Need-give-requires
-give-requires c κs = let a = c .before .before .before .before .before .before .before .before .before .before .before .before .before .before .before .before .before .args in alive-gives (a .list .now) (a .chains .now) (a .t) (a .built .now) (a .numbering .now) (a .m .now) (c .before .before .before .before .before .before .before .before .before .before .before .before .before .before .before .before .before .pre) _ (c .before .before .before .before .before .before .before .before .before .choose-move .ensures .0)
+give-requires c κs = let a =
+    c .before .before .before .before .before .before .before .before .before .before .before .before .before .before .before .before
+    .before .args in alive-gives (a .list .now) (a .chains .now) (a .t) (a .built .now) (a .numbering .now) (a .m .now)
+    (c .before .before .before .before .before .before .before .before .before .before .before .before .before .before .before
+    .before .before .pre) _ (c .before .before .before .before .before .before .before .before .before .choose-move .ensures .0)
 
 same-length-3 : tie.Need-same-length-3
 same-length-3 c = search needs
@@ -42,7 +60,19 @@ same-length-4 : tie.Need-same-length-4
 same-length-4 c = search needs
 
 returns-2 : tie.Need-returns-2
-returns-2 c = let a = c .before .before .before .before .before .before .before .before .before .before .before .before .before .before .before .before .before .before .before .before .args in alive-goes (a .list .now) (a .chains .now) (a .t) (a .built .now) (a .numbering .now) (a .m .now) (c .before .before .before .before .before .before .before .before .before .before .before .before .before .before .before .before .before .before .before .before .pre) _ (c .before .before .before .before .before .before .before .before .before .before .before .before .choose-move .ensures .0) _ (c .before .before .before .before .before .before .before .before .before .before .before .before .choose-move .ensures .1) _ (c .before .before .before .before .before .before .before .before .before .before .before .ready-for .ensures) _ (c .before .before .before .before .before .before .before .before .before .operate .ensures .0) _ (c .before .before .before .before .before .before .before .before .before .operate .ensures .1) _ (c .before .before .before .before .before .d .given .1) _ (c .before .before .give .ensures .0) _ (c .before .before .give .ensures .1)
+returns-2 c = let a = c .before .before .before .before .before .before .before .before .before .before .before .before .before .before
+    .before .before .before .before .before .before .args in
+    alive-goes (a .list .now) (a .chains .now) (a .t) (a .built .now) (a .numbering .now) (a .m .now)
+    (c .before .before .before .before .before .before .before .before .before .before .before .before .before .before .before
+    .before .before .before .before .before .pre) _
+    (c .before .before .before .before .before .before .before .before .before .before .before .before .choose-move .ensures
+    .0) _ (c .before .before .before .before .before .before .before .before .before .before .before .before
+    .choose-move .ensures .1) _
+    (c .before .before .before .before .before .before .before .before .before .before .before .ready-for
+    .ensures) _ (c .before .before .before .before .before .before .before .before .before .operate .ensures
+    .0) _ (c .before .before .before .before .before .before .before .before .before .operate .ensures
+    .1) _ (c .before .before .before .before .before .d .given .1) _
+    (c .before .before .give .ensures .0) _ (c .before .before .give .ensures .1)
 
 pub go-on-spec : {M : Type 1} → statement M
 go-on-spec =

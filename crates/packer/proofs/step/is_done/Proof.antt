@@ -1,6 +1,6 @@
 -- `packer::step::is_done` meets its contract: the two tests in their order.
 -- Assumes nothing.
-use Rattle.packing.proofs.Ways.{not-done, all-made}
+use Rattle.pack_theory.proofs.Packing.Ways.{not-done, all-made}
 use Rattle.packer.proofs.step.is_done.Statement.{statement}
 use Rattle.packer.proofs.step.is_done.Tie as tie
 

@@ -1,7 +1,7 @@
 -- `packer::step::refusal_from` meets its contract: a refusal keeps its number.
 -- Assumes nothing.
 use borrow.Author.Needs.{needs}
-use Rattle.packing.proofs.Ways.{taken-same, taken-other}
+use Rattle.pack_theory.proofs.Packing.Ways.{taken-same, taken-other}
 use Rattle.packer.proofs.step.refusal_from.Statement.{statement}
 use Rattle.packer.proofs.step.refusal_from.Tie as tie
 

@@ -2,20 +2,23 @@
 -- Assumes nothing.
 use mathlib.Core.Path.{sym, _∙_}
 use borrow.Author.Needs.{needs}
-use Rattle.packing.specs.Steps.{Loop}
-use Rattle.packing.proofs.Running.{loop-first, loop-done, loop-out, loop-stopped, loop-room, loop-on}
+use Rattle.pack_theory.specs.Packing.Steps.{Loop}
+use Rattle.pack_theory.proofs.Packing.Running.{loop-first, loop-done, loop-out, loop-stopped, loop-room, loop-on}
 use Rattle.packer.proofs.Wiring.{written-position, written-buffer}
 use Rattle.packer.proofs.step.run.Statement.{statement}
 use Rattle.packer.proofs.step.run.Tie as tie
 
 abbrev Inv-loop : tie.InvT-loop
-Inv-loop list chains budget built₀ numbering₀ buffer₀ m₀ t₀ at₀ left₀ built numbering buffer m t at left = Loop list chains budget t₀ built₀ numbering₀ buffer₀ m₀ left t at built numbering buffer m
+Inv-loop list chains budget built₀ numbering₀ buffer₀ m₀ t₀ at₀ left₀ built numbering buffer m t at left =
+    Loop list chains budget t₀ built₀ numbering₀ buffer₀ m₀ left t at built numbering buffer m
 
 abbrev μ-loop : tie.MeasureT-loop
 μ-loop list chains budget built₀ numbering₀ buffer₀ m₀ t₀ at₀ left₀ built numbering buffer m t at left = left
 
 loop-holds : tie.Need-loop-holds Inv-loop μ-loop
-loop-holds c = let a = c .before .before .before .before .args in loop-first (a .list .now) (a .chains .now) (a .budget) (a .start) (a .built .now) (a .numbering .now) (a .buffer .now) (a .m .now) (c .before .before .before .before .pre .0)
+loop-holds c = let a = c .before .before .before .before .args in
+    loop-first (a .list .now) (a .chains .now) (a .budget) (a .start) (a .built .now) (a .numbering .now) (a .buffer .now) (a .m .now)
+    (c .before .before .before .before .pre .0)
 
 is-done-requires : tie.Need-is-done-requires Inv-loop μ-loop
 is-done-requires c κs = search needs
@@ -30,10 +33,16 @@ same-length-3 : tie.Need-same-length-3 Inv-loop μ-loop
 same-length-3 c = search needs
 
 returns : tie.Need-returns Inv-loop μ-loop
-returns c = let a = c .before .before .before .before .before .before .before .before .args in let l = c .before .before .before .loop in loop-done (a .list .now) (a .chains .now) (a .budget) (a .start) (a .built .now) (a .numbering .now) (a .buffer .now) (a .m .now) (l .left) (l .t) (l .at) (l .built) (l .numbering) (l .buffer) (l .m) (l .inv) (sym (c .before .is-done .ensures) ∙ c .if1 .taken)
+returns c = let a = c .before .before .before .before .before .before .before .before .args in let l = c .before .before .before .loop in
+    loop-done (a .list .now) (a .chains .now) (a .budget) (a .start) (a .built .now) (a .numbering .now) (a .buffer .now) (a .m .now)
+    (l .left) (l .t) (l .at) (l .built) (l .numbering) (l .buffer) (l .m) (l .inv) (sym (c .before .is-done .ensures) ∙ c .if1 .taken)
 
 step-requires : tie.Need-step-requires Inv-loop μ-loop
-step-requires c κs = (c .before .before .before .before .before .before .loop .inv .held, sym (c .before .before .before .before .is-done .ensures) ∙ c .before .before .before .if1 .left)
+step-requires c κs = (
+  c .before .before .before .before .before .before .loop .inv .held,
+  sym
+      (c .before .before .before .before .is-done .ensures) ∙ c .before .before .before .if1 .left,
+)
 
 enum-known-r : tie.Need-enum-known-r Inv-loop μ-loop
 enum-known-r c = search needs
@@ -54,7 +63,15 @@ same-length-6 : tie.Need-same-length-6 Inv-loop μ-loop
 same-length-6 c = search needs
 
 returns-2 : tie.Need-returns-2 Inv-loop μ-loop
-returns-2 c = let a = c .before .before .before .before .before .before .before .before .before .before .before .before .before .before .before .before .before .before .before .args in let l = c .before .before .before .before .before .before .before .before .before .before .before .before .before .before .loop in let k = c .before .before .before .before .before .before .before .step in loop-stopped (a .list .now) (a .chains .now) (a .budget) (a .start) (a .built .now) (a .numbering .now) (a .buffer .now) (a .m .now) (l .left) (l .t) (l .at) (l .built) (l .numbering) (l .buffer) (l .m) (l .inv) (k .result) _ _ _ (k .ensures) (c .before .before .before .before .before .before .before .before .before .before .before .before .before .loop-test .taken) _ (c .before .enum-told .given .1) _ (c .refusal-from .ensures _ (c .before .enum-told .given .1))
+returns-2 c = let a = c .before .before .before .before .before .before .before .before .before .before .before .before .before .before
+    .before .before .before .before .before .args in let l =
+    c .before .before .before .before .before .before .before .before .before .before .before .before .before .before .loop in let k =
+    c .before .before .before .before .before .before .before .step in
+    loop-stopped (a .list .now) (a .chains .now) (a .budget) (a .start) (a .built .now) (a .numbering .now) (a .buffer .now)
+    (a .m .now) (l .left) (l .t) (l .at) (l .built) (l .numbering) (l .buffer) (l .m) (l .inv) (k .result) _ _ _
+    (k .ensures) (c .before .before .before .before .before .before .before .before .before .before .before .before
+    .before .loop-test .taken) _ (c .before .enum-told .given .1) _
+    (c .refusal-from .ensures _ (c .before .enum-told .given .1))
 
 write-operation-requires : tie.Need-write-operation-requires Inv-loop μ-loop
 write-operation-requires c κs = search needs
@@ -67,9 +84,25 @@ loop-less c = search needs
 
 loop-again : tie.Need-loop-again Inv-loop μ-loop
 loop-again c =
-    let a = c .before .before .before .before .before .before .before .before .before .before .before .before .before .before .before .before .before .before .before .before .before .before .before .args in let l = c .before .before .before .before .before .before .before .before .before .before .before .before .before .before .before .before .before .before .loop in let k = c .before .before .before .before .before .before .before .before .before .before .before .step in let w = c .before .before .write-operation in let z = c .before .before .before .before .before .before .before .before .before .before .before .before .before .before .before .before .before .loop-test .taken in
-    let n = loop-room (a .list .now) (a .chains .now) (a .budget) (a .start) (a .built .now) (a .numbering .now) (a .buffer .now) (a .m .now) (l .left) (l .t) (l .at) (l .built) (l .numbering) (l .buffer) (l .m) (l .inv) (k .result) _ _ _ (k .ensures) _ _ (c .before .before .before .before .before .r .given .1) z in
-    loop-on (a .list .now) (a .chains .now) (a .budget) (a .start) (a .built .now) (a .numbering .now) (a .buffer .now) (a .m .now) (l .left) (l .t) (l .at) (l .built) (l .numbering) (l .buffer) (l .m) (l .inv) (k .result) _ _ _ (k .ensures) _ _ (c .before .before .before .before .before .r .given .1) z _ _ (written-position (l .buffer) (l .at) (c .before .before .before .before .before .r .given .0 .0) (w .result) (a .budget) (w .ensures .0) (c .before .before .before .before .before .before .before .before .before .before .before .before .before .before .before .before .before .before .before .before .before .before .before .pre .1) n) (w .kept .0) (written-buffer (l .buffer) _ (l .at) (c .before .before .before .before .before .r .given .0 .0) (w .ensures .1)) (k .kept .1 .1 .1 .1 .0) (k .kept .1 .1 .1 .1 .1 .0)
+    let a = c .before .before .before .before .before .before .before .before .before .before .before .before .before .before .before
+    .before .before .before .before .before .before .before .before .args in let l =
+    c .before .before .before .before .before .before .before .before .before .before .before .before .before .before .before
+    .before .before .before .loop in let k =
+    c .before .before .before .before .before .before .before .before .before .before .before .step in let w =
+    c .before .before .write-operation in let z =
+    c .before .before .before .before .before .before .before .before .before .before .before .before .before
+    .before .before .before .before .loop-test .taken in
+    let n = loop-room (a .list .now) (a .chains .now) (a .budget) (a .start) (a .built .now) (a .numbering .now) (a .buffer .now)
+    (a .m .now) (l .left) (l .t) (l .at) (l .built) (l .numbering) (l .buffer) (l .m) (l .inv) (k .result) _ _ _ (k .ensures) _ _
+    (c .before .before .before .before .before .r .given .1) z in
+    loop-on (a .list .now) (a .chains .now) (a .budget) (a .start) (a .built .now) (a .numbering .now) (a .buffer .now) (a .m .now)
+    (l .left) (l .t) (l .at) (l .built) (l .numbering) (l .buffer) (l .m) (l .inv) (k .result) _ _ _ (k .ensures) _ _
+    (c .before .before .before .before .before .r .given .1) z _ _
+    (written-position (l .buffer) (l .at) (c .before .before .before .before .before .r .given .0 .0) (w .result) (a .budget)
+    (w .ensures .0) (c .before .before .before .before .before .before .before .before .before .before .before .before
+    .before .before .before .before .before .before .before .before .before .before .before .pre .1) n) (w .kept .0)
+    (written-buffer (l .buffer) _ (l .at) (c .before .before .before .before .before .r .given .0 .0)
+    (w .ensures .1)) (k .kept .1 .1 .1 .1 .0) (k .kept .1 .1 .1 .1 .1 .0)
 
 same-length-7 : tie.Need-same-length-7 Inv-loop μ-loop
 same-length-7 c = search needs
@@ -81,7 +114,9 @@ same-length-9 : tie.Need-same-length-9 Inv-loop μ-loop
 same-length-9 c = search needs
 
 returns-3 : tie.Need-returns-3 Inv-loop μ-loop
-returns-3 c = let a = c .before .before .before .before .before .before .args in let l = c .before .loop in loop-out (a .list .now) (a .chains .now) (a .budget) (a .start) (a .built .now) (a .numbering .now) (a .buffer .now) (a .m .now) (l .left) (l .t) (l .at) (l .built) (l .numbering) (l .buffer) (l .m) (l .inv) (c .loop-test .left)
+returns-3 c = let a = c .before .before .before .before .before .before .args in let l = c .before .loop in
+    loop-out (a .list .now) (a .chains .now) (a .budget) (a .start) (a .built .now) (a .numbering .now) (a .buffer .now) (a .m .now)
+    (l .left) (l .t) (l .at) (l .built) (l .numbering) (l .buffer) (l .m) (l .inv) (c .loop-test .left)
 
 pub run-spec : {M : Type 1} → statement M
 run-spec =

@@ -1,12 +1,16 @@
 -- `packer::step::step` meets its contract: a start, or a step at the live loop.
 -- Assumes nothing.
 use borrow.Author.Needs.{needs}
-use Rattle.packing.proofs.Stepping.{step-alive, step-resting}
+use Rattle.pack_theory.proofs.Packing.Stepping.{step-alive, step-resting}
 use Rattle.packer.proofs.step.step.Statement.{statement}
 use Rattle.packer.proofs.step.step.Tie as tie
 
 begin-piece-requires : tie.Need-begin-piece-requires
-begin-piece-requires c κs = let a = c .before .before .before .before .before .before .before .before .before .before .args in step-resting (a .list .now) (a .chains .now) (a .t) (a .built .now) (a .numbering .now) (a .m .now) (c .before .before .before .before .before .before .before .before .before .before .pre .0) (c .before .before .before .before .before .before .before .before .before .before .pre .1) (c .before .before .before .if1 .taken)
+begin-piece-requires c κs = let a = c .before .before .before .before .before .before .before .before .before .before .args in
+    step-resting (a .list .now) (a .chains .now) (a .t) (a .built .now) (a .numbering .now) (a .m .now)
+    (c .before .before .before .before .before .before .before .before .before .before .pre .0)
+    (c .before .before .before .before .before .before .before .before .before .before .pre .1)
+    (c .before .before .before .if1 .taken)
 
 same-length : tie.Need-same-length
 same-length c = search needs
@@ -18,7 +22,11 @@ returns : tie.Need-returns
 returns c = c .before .before .before .before .begin-piece .ensures
 
 go-on-requires : tie.Need-go-on-requires
-go-on-requires c κs = let a = c .before .before .before .before .before .before .before .before .before .before .args in step-alive (a .list .now) (a .chains .now) (a .t) (a .built .now) (a .numbering .now) (a .m .now) (c .before .before .before .before .before .before .before .before .before .before .pre .0) (c .before .before .before .before .before .before .before .before .before .before .pre .1) (c .before .before .before .if1 .left)
+go-on-requires c κs = let a = c .before .before .before .before .before .before .before .before .before .before .args in
+    step-alive (a .list .now) (a .chains .now) (a .t) (a .built .now) (a .numbering .now) (a .m .now)
+    (c .before .before .before .before .before .before .before .before .before .before .pre .0)
+    (c .before .before .before .before .before .before .before .before .before .before .pre .1)
+    (c .before .before .before .if1 .left)
 
 same-length-3 : tie.Need-same-length-3
 same-length-3 c = search needs

@@ -3,7 +3,7 @@
 use native.Mathlib.Omega.{arith}
 use lib.ListN.{length-set}
 use mathlib.Core.Path.{refl}
-use Rattle.memory.specs.Layout.{edgeStored}
+use Rattle.border_theory.specs.Memory.Layout.{edgeStored}
 use borrow.Author.Needs.{needs}
 use Rattle.rings.proofs.place.store_edge.Statement.{statement}
 use Rattle.rings.proofs.place.store_edge.Tie as tie

@@ -1,7 +1,7 @@
 -- `rings::surgery::cut_current` meets its contract.
 -- Assumes nothing.
 use native.Mathlib.Omega.{arith}
-use Rattle.memory.proofs.Near.{near-e, near-f}
+use Rattle.border_theory.proofs.Memory.Near.{near-e, near-f}
 use Rattle.rings.proofs.Storing.{backward-memory, backward-loops}
 use borrow.Author.Needs.{needs}
 use Rattle.rings.proofs.surgery.cut_current.Statement.{statement}
@@ -14,7 +14,11 @@ before-of-requires : tie.Need-before-of-requires
 before-of-requires c κs = omega (arith, near-e _ _ _ (c .before .before .before .before .pre))
 
 store-edge-requires : tie.Need-store-edge-requires
-store-edge-requires c κs = (omega (arith, c .before .before-of .ensures, c .before .before .before .before .before .before .pre .behind), omega (arith, c .before .before .before .after-of .ensures, near-f _ _ _ (c .before .before .before .before .before .before .pre)))
+store-edge-requires c κs = (
+  omega (arith, c .before .before-of .ensures, c .before .before .before .before .before .before .pre .behind),
+  omega
+      (arith, c .before .before .before .after-of .ensures, near-f _ _ _ (c .before .before .before .before .before .before .pre)),
+)
 
 free-place-requires : tie.Need-free-place-requires
 free-place-requires c κs = search needs
@@ -29,7 +33,14 @@ same-length : tie.Need-same-length
 same-length c = search needs
 
 returns : tie.Need-returns
-returns c = (backward-loops _ _ _ _ (c .before .before .before .before .before .before .before .before .before .before-of .ensures), backward-memory _ _ _ _ _ _ _ (c .before .before .before .before .before .before .before .before .before .before .before .after-of .ensures) (c .before .before .before .before .before .before .before .before .before .before-of .ensures) (c .before .before .before .before .before .before .before .store-edge .ensures) (c .before .before .before .free-place .ensures))
+returns c = (
+  backward-loops _ _ _ _ (c .before .before .before .before .before .before .before .before .before .before-of .ensures),
+  backward-memory _ _ _ _ _ _ _
+      (c .before .before .before .before .before .before .before .before .before .before .before .after-of .ensures)
+      (c .before .before .before .before .before .before .before .before .before .before-of .ensures)
+      (c .before .before .before .before .before .before .before .store-edge .ensures)
+      (c .before .before .before .free-place .ensures),
+)
 
 pub cut-current-spec : {M : Type 1} → statement M
 cut-current-spec =

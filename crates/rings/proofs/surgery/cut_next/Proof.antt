@@ -1,7 +1,7 @@
 -- `rings::surgery::cut_next` meets its contract.
 -- Assumes nothing.
 use native.Mathlib.Omega.{arith}
-use Rattle.memory.proofs.Near.{near-e, near-f, near-next}
+use Rattle.border_theory.proofs.Memory.Near.{near-e, near-f, near-next}
 use Rattle.rings.proofs.Storing.{forward-memory, forward-loops}
 use borrow.Author.Needs.{needs}
 use Rattle.rings.proofs.surgery.cut_next.Statement.{statement}
@@ -14,7 +14,16 @@ after-of-requires-2 : tie.Need-after-of-requires-2
 after-of-requires-2 c κs = omega (arith, c .before .after-of .ensures, near-f _ _ _ (c .before .before .before .before .pre))
 
 store-edge-requires : tie.Need-store-edge-requires
-store-edge-requires c κs = (omega (arith, near-e _ _ _ (c .before .before .before .before .before .before .pre)), omega (arith, c .before .before .before .after-of .ensures, near-f _ _ _ (c .before .before .before .before .before .before .pre), near-next _ _ _ (c .before .before .before .before .before .before .pre) _ _ (c .before .before .before .after-of .ensures) (c .before .after-of2 .ensures)))
+store-edge-requires c κs = (
+  omega (arith, near-e _ _ _ (c .before .before .before .before .before .before .pre)),
+  omega (
+    arith,
+    c .before .before .before .after-of .ensures,
+    near-f _ _ _ (c .before .before .before .before .before .before .pre),
+    near-next _ _ _ (c .before .before .before .before .before .before .pre) _ _ (c .before .before .before .after-of .ensures)
+        (c .before .after-of2 .ensures),
+  ),
+)
 
 free-place-requires : tie.Need-free-place-requires
 free-place-requires c κs = search needs
@@ -29,7 +38,14 @@ same-length : tie.Need-same-length
 same-length c = search needs
 
 returns : tie.Need-returns
-returns c = (forward-loops _ _ _, forward-memory _ _ _ _ _ _ _ (c .before .before .before .before .before .before .before .before .before .before .before .after-of .ensures) (c .before .before .before .before .before .before .before .before .before .after-of2 .ensures) (c .before .before .before .before .before .before .before .store-edge .ensures) (c .before .before .before .free-place .ensures))
+returns c = (
+  forward-loops _ _ _,
+  forward-memory _ _ _ _ _ _ _
+      (c .before .before .before .before .before .before .before .before .before .before .before .after-of .ensures)
+      (c .before .before .before .before .before .before .before .before .before .after-of2 .ensures)
+      (c .before .before .before .before .before .before .before .store-edge .ensures)
+      (c .before .before .before .free-place .ensures),
+)
 
 pub cut-next-spec : {M : Type 1} → statement M
 cut-next-spec =

@@ -1,7 +1,7 @@
 -- `rings::surgery::double` meets its contract.
 -- Assumes nothing.
 use native.Mathlib.Omega.{arith}
-use Rattle.memory.proofs.Near.{near-e, near-f}
+use Rattle.border_theory.proofs.Memory.Near.{near-e, near-f}
 use Rattle.rings.proofs.Storing.{doubled-memory}
 use borrow.Author.Needs.{needs}
 use Rattle.rings.proofs.surgery.double.Statement.{statement}
@@ -23,22 +23,112 @@ vertex-of-requires : tie.Need-vertex-of-requires
 vertex-of-requires c κs = search needs
 
 set-vertex-requires : tie.Need-set-vertex-requires
-set-vertex-requires c κs = omega (arith, c .before .before .before .before .before .before .before .before .before .free-at .ensures, c .before .before .before .before .before .before .before .before .before .before .before .before .pre .0 .top (c .before .before .before .before .before .before .before .before .before .before .before .before .pre .1 .some))
+set-vertex-requires c κs =
+    omega (
+      arith,
+      c .before .before .before .before .before .before .before .before .before .free-at .ensures,
+      c .before .before .before
+          .before .before .before .before .before .before .before .before .before .pre .0 .top
+          (c .before .before .before .before .before .before .before .before .before .before .before .before .pre .1 .some),
+    )
 
 store-edge-requires : tie.Need-store-edge-requires
-store-edge-requires c κs = (omega (arith, near-e _ _ _ (c .before .before .before .before .before .before .before .before .before .before .before .before .before .before .before .before .pre .0), c .before .before .before .set-vertex .kept .0), omega (arith, c .before .before .before .before .before .before .before .before .before .before .before .before .before .before .before .before .pre .1 .place, c .before .before .before .set-vertex .kept .0))
+store-edge-requires c κs = (
+  omega (
+    arith,
+    near-e _ _ _
+        (c .before .before .before .before .before .before .before .before .before .before .before .before .before .before .before .before
+        .pre .0),
+    c .before .before .before .set-vertex .kept .0,
+  ),
+  omega (
+    arith,
+    c .before .before .before .before .before .before .before .before .before .before .before .before .before .before
+        .before .before .pre .1 .place,
+    c .before .before .before .set-vertex .kept .0,
+  ),
+)
 
 store-edge-requires-2 : tie.Need-store-edge-requires-2
-store-edge-requires-2 c κs = (omega (arith, c .before .before .before .before .before .before .before .before .before .before .before .before .before .before-of .ensures, c .before .before .before .before .before .before .before .before .before .before .before .before .before .before .before .before .before .before .before .before .pre .1 .before, c .before .before .before .before .before .before .before .set-vertex .kept .0, c .before .before .before .store-edge .kept .0), omega (arith, c .before .before .before .before .before .before .before .before .before .before .before .before .before .before .before .before .before .free-at .ensures, c .before .before .before .before .before .before .before .before .before .before .before .before .before .before .before .before .before .before .before .before .pre .0 .top (c .before .before .before .before .before .before .before .before .before .before .before .before .before .before .before .before .before .before .before .before .pre .1 .some), c .before .before .before .before .before .before .before .set-vertex .kept .0, c .before .before .before .store-edge .kept .0))
+store-edge-requires-2 c κs = (
+  omega (
+    arith,
+    c .before .before .before .before .before .before .before .before .before .before .before .before .before .before-of
+        .ensures,
+    c .before .before .before .before .before .before .before .before .before .before .before .before .before .before .before
+        .before .before .before .before .before .pre .1 .before,
+    c .before .before .before .before .before .before .before .set-vertex
+        .kept .0,
+    c .before .before .before .store-edge .kept .0,
+  ),
+  omega (
+    arith,
+    c .before .before .before .before .before .before .before .before .before .before .before .before .before
+        .before .before .before .before .free-at .ensures,
+    c .before .before .before .before .before .before .before .before
+        .before .before .before .before .before .before .before .before .before .before .before .before .pre .0 .top
+        (c .before .before .before .before .before .before .before .before .before .before .before .before .before
+        .before .before .before .before .before .before .before .pre .1 .some),
+    c .before .before .before
+        .before .before .before .before .set-vertex .kept .0,
+    c .before .before .before .store-edge .kept
+        .0,
+  ),
+)
 
 store-edge-requires-3 : tie.Need-store-edge-requires-3
-store-edge-requires-3 c κs = (omega (arith, c .before .before .before .before .before .before .before .before .before .before .before .before .before .before .before .before .before .before .before .before .before .free-at .ensures, c .before .before .before .before .before .before .before .before .before .before .before .before .before .before .before .before .before .before .before .before .before .before .before .before .pre .0 .top (c .before .before .before .before .before .before .before .before .before .before .before .before .before .before .before .before .before .before .before .before .before .before .before .before .pre .1 .some), c .before .before .before .before .before .before .before .before .before .before .before .set-vertex .kept .0, c .before .before .before .before .before .before .before .store-edge .kept .0, c .before .before .before .store-edge2 .kept .0), omega (arith, c .before .before .before .before .before .before .before .before .before .before .before .before .before .before .before .before .before .before .before .after-of .ensures, near-f _ _ _ (c .before .before .before .before .before .before .before .before .before .before .before .before .before .before .before .before .before .before .before .before .before .before .before .before .pre .0), c .before .before .before .before .before .before .before .before .before .before .before .set-vertex .kept .0, c .before .before .before .before .before .before .before .store-edge .kept .0, c .before .before .before .store-edge2 .kept .0))
+store-edge-requires-3 c κs = (
+  omega (
+    arith,
+    c .before .before .before .before .before .before .before .before .before .before .before .before .before .before .before
+        .before .before .before .before .before .before .free-at .ensures,
+    c .before .before .before .before .before .before .before .before
+        .before .before .before .before .before .before .before .before .before .before .before .before .before .before .before .before
+        .pre .0 .top (c .before .before .before .before .before .before .before .before .before .before .before .before .before
+        .before .before .before .before .before .before .before .before .before .before .before .pre .1 .some),
+    c .before
+        .before .before .before .before .before .before .before .before .before .before .set-vertex .kept .0,
+    c .before
+        .before .before .before .before .before .before .store-edge .kept .0,
+    c .before .before .before .store-edge2
+        .kept .0,
+  ),
+  omega (
+    arith,
+    c .before .before .before .before .before .before .before .before .before .before
+        .before .before .before .before .before .before .before .before .before .after-of .ensures,
+    near-f _ _ _
+        (c .before .before .before .before .before .before .before .before .before .before .before .before
+        .before .before .before .before .before .before .before .before .before .before .before .before
+        .pre .0),
+    c .before .before .before .before .before .before .before .before .before .before
+        .before .set-vertex .kept .0,
+    c .before .before .before .before .before .before .before
+        .store-edge .kept .0,
+    c .before .before .before .store-edge2 .kept .0,
+  ),
+)
 
 same-length : tie.Need-same-length
 same-length c = search needs
 
 returns : tie.Need-returns
-returns c = doubled-memory _ _ _ _ _ _ _ _ _ _ _ _ _ (c .before .before .before .before .before .before .before .before .before .before .before .before .before .before .before .before .before .before .before .before .before .before .before .before .free-at .ensures) (c .before .before .before .before .before .before .before .before .before .before .before .before .before .before .before .before .before .before .before .before .before .before .after-of .ensures) (c .before .before .before .before .before .before .before .before .before .before .before .before .before .before .before .before .before .before .before .before .before-of .ensures) (c .before .before .before .before .before .before .before .before .before .before .before .before .before .before .before .before .before .before .open-of .ensures) (c .before .before .before .before .before .before .before .before .before .before .before .before .before .before .before .before .vertex-of .ensures) (c .before .before .before .before .before .before .before .before .before .before .before .before .before .before .set-vertex .ensures) (c .before .before .before .before .before .before .before .before .before .before .store-edge .ensures) (c .before .before .before .before .before .before .store-edge2 .ensures) (c .before .before .store-edge3 .ensures)
+returns c = doubled-memory _ _ _ _ _ _ _ _ _ _ _ _ _
+    (c .before .before .before .before .before .before .before .before .before .before .before .before .before .before .before .before
+    .before .before .before .before .before .before .before .before .free-at .ensures)
+    (c .before .before .before .before .before .before .before .before .before .before .before .before .before .before .before
+    .before .before .before .before .before .before .before .after-of .ensures)
+    (c .before .before .before .before .before .before .before .before .before .before .before .before .before .before
+    .before .before .before .before .before .before .before-of .ensures)
+    (c .before .before .before .before .before .before .before .before .before .before .before .before .before
+    .before .before .before .before .before .open-of .ensures)
+    (c .before .before .before .before .before .before .before .before .before .before .before .before
+    .before .before .before .before .vertex-of .ensures)
+    (c .before .before .before .before .before .before .before .before .before .before .before
+    .before .before .before .set-vertex .ensures)
+    (c .before .before .before .before .before .before .before .before .before .before
+    .store-edge .ensures) (c .before .before .before .before .before .before
+    .store-edge2 .ensures) (c .before .before .store-edge3 .ensures)
 
 pub double-spec : {M : Type 1} → statement M
 double-spec =

@@ -1,7 +1,7 @@
 -- `rings::surgery::grow` meets its contract.
 -- Assumes nothing.
 use native.Mathlib.Omega.{arith}
-use Rattle.memory.proofs.Near.{near-e, near-f}
+use Rattle.border_theory.proofs.Memory.Near.{near-e, near-f}
 use Rattle.rings.proofs.Storing.{new-memory, new-loops}
 use borrow.Author.Needs.{needs}
 use Rattle.rings.proofs.surgery.grow.Statement.{statement}
@@ -14,13 +14,57 @@ after-of-requires : tie.Need-after-of-requires
 after-of-requires c κs = omega (arith, near-e _ _ _ (c .before .before .before .before .pre .0))
 
 set-vertex-requires : tie.Need-set-vertex-requires
-set-vertex-requires c κs = omega (arith, c .before .before .before .free-at .ensures, c .before .before .before .before .before .before .pre .0 .top (c .before .before .before .before .before .before .pre .1))
+set-vertex-requires c κs =
+    omega (
+      arith,
+      c .before .before .before .free-at .ensures,
+      c .before .before .before .before .before .before .pre .0 .top
+          (c .before .before .before .before .before .before .pre .1),
+    )
 
 store-edge-requires : tie.Need-store-edge-requires
-store-edge-requires c κs = (omega (arith, c .before .before .before .before .before .before .before .free-at .ensures, c .before .before .before .before .before .before .before .before .before .before .pre .0 .top (c .before .before .before .before .before .before .before .before .before .before .pre .1), c .before .before .before .set-vertex .kept .0), omega (arith, c .before .before .before .before .before .after-of .ensures, near-f _ _ _ (c .before .before .before .before .before .before .before .before .before .before .pre .0), c .before .before .before .set-vertex .kept .0))
+store-edge-requires c κs = (
+  omega (
+    arith,
+    c .before .before .before .before .before .before .before .free-at .ensures,
+    c .before .before .before .before .before
+        .before .before .before .before .before .pre .0 .top
+        (c .before .before .before .before .before .before .before .before .before .before .pre .1),
+    c .before .before .before
+        .set-vertex .kept .0,
+  ),
+  omega (
+    arith,
+    c .before .before .before .before .before .after-of .ensures,
+    near-f _ _ _
+        (c .before .before .before .before .before .before .before .before .before .before .pre .0),
+    c .before .before
+        .before .set-vertex .kept .0,
+  ),
+)
 
 store-edge-requires-2 : tie.Need-store-edge-requires-2
-store-edge-requires-2 c κs = (omega (arith, near-e _ _ _ (c .before .before .before .before .before .before .before .before .before .before .before .before .before .before .pre .0), c .before .before .before .before .before .before .before .set-vertex .kept .0, c .before .before .before .store-edge .kept .0), omega (arith, c .before .before .before .before .before .before .before .before .before .before .before .free-at .ensures, c .before .before .before .before .before .before .before .before .before .before .before .before .before .before .pre .0 .top (c .before .before .before .before .before .before .before .before .before .before .before .before .before .before .pre .1), c .before .before .before .before .before .before .before .set-vertex .kept .0, c .before .before .before .store-edge .kept .0))
+store-edge-requires-2 c κs = (
+  omega (
+    arith,
+    near-e _ _ _
+        (c .before .before .before .before .before .before .before .before .before .before .before .before .before .before .pre .0),
+    c
+        .before .before .before .before .before .before .before .set-vertex .kept .0,
+    c .before .before .before .store-edge .kept .0,
+  ),
+  omega (
+    arith,
+    c .before .before .before .before .before .before .before .before .before .before .before .free-at .ensures,
+    c
+        .before .before .before .before .before .before .before .before .before .before .before .before .before .before .pre .0
+        .top (c .before .before .before .before .before .before .before .before .before .before .before .before .before
+        .before .pre .1),
+    c .before .before .before .before .before .before .before .set-vertex .kept .0,
+    c .before
+        .before .before .store-edge .kept .0,
+  ),
+)
 
 add-t20 : tie.Need-add-t20
 add-t20 c = search needs
@@ -32,7 +76,18 @@ same-length : tie.Need-same-length
 same-length c = search needs
 
 returns : tie.Need-returns
-returns c = (new-loops _ _ _ _ _ (c .before .before .before .before .before .before .before .before .before .before .before .before .before .before .before .free-at .ensures), new-memory _ _ _ _ _ _ _ _ _ (c .before .before .before .before .before .before .before .before .before .before .before .before .before .before .before .free-at .ensures) (c .before .before .before .before .before .before .before .before .before .before .before .before .before .after-of .ensures) (c .before .before .before .before .before .before .before .before .before .before .before .set-vertex .ensures) (c .before .before .before .before .before .before .before .store-edge .ensures) (c .before .before .before .store-edge2 .ensures))
+returns c = (
+  new-loops _ _ _ _ _
+      (c .before .before .before .before .before .before .before .before .before .before .before .before .before .before .before .free-at
+      .ensures),
+  new-memory _ _ _ _ _ _ _ _ _
+      (c .before .before .before .before .before .before .before .before .before .before .before .before .before .before .before
+      .free-at .ensures) (c .before .before .before .before .before .before .before .before .before .before .before .before
+      .before .after-of .ensures)
+      (c .before .before .before .before .before .before .before .before .before .before .before .set-vertex .ensures)
+      (c .before .before .before .before .before .before .before .store-edge .ensures)
+      (c .before .before .before .store-edge2 .ensures),
+)
 
 pub grow-spec : {M : Type 1} → statement M
 grow-spec =

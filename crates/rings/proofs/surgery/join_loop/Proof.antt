@@ -34,7 +34,14 @@ add-t21 : tie.Need-add-t21
 add-t21 c = search needs
 
 add-t22 : tie.Need-add-t22
-add-t22 c = omega (arith, join-fits _ _ _ _ _ (c .before .before .before .before .before .before .before .before .before .before .before .before .before .before .pre .0 .0) (c .before .before .before .before .before .before .before .before .before .before .before .before .before .before .pre .1 .0) (c .before .before .before .before .before .before .before .before .before .before .before .before .before .before .pre .1 .1) (c .before .before .before .before .before .before .before .before .before .size-at .ensures))
+add-t22 c = omega (
+  arith,
+  join-fits _ _ _ _ _
+      (c .before .before .before .before .before .before .before .before .before .before .before .before .before .before .pre .0 .0)
+      (c .before .before .before .before .before .before .before .before .before .before .before .before .before .before .pre .1 .0)
+      (c .before .before .before .before .before .before .before .before .before .before .before .before .before .before .pre .1 .1)
+      (c .before .before .before .before .before .before .before .before .before .size-at .ensures),
+)
 
 sub-t23 : tie.Need-sub-t23
 sub-t23 c = search needs
@@ -43,7 +50,10 @@ same-length : tie.Need-same-length
 same-length c = search needs
 
 returns : tie.Need-returns
-returns c = join-done _ _ _ _ _ _ _ _ _ (c .before .before .before .before .before .before .before .before .before .before .before .free-at .ensures) (c .before .before .before .before .before .before .before .before .before .size-at .ensures) (c .before .before .before .before .before .before .before .double .ensures) (c .before .before .before .move-down .ensures)
+returns c = join-done _ _ _ _ _ _ _ _ _
+    (c .before .before .before .before .before .before .before .before .before .before .before .free-at .ensures)
+    (c .before .before .before .before .before .before .before .before .before .size-at .ensures)
+    (c .before .before .before .before .before .before .before .double .ensures) (c .before .before .before .move-down .ensures)
 
 pub join-loop-spec : {M : Type 1} → statement M
 join-loop-spec =

@@ -1,7 +1,7 @@
 -- `rings::surgery::leave_next` meets its contract.
 -- Assumes nothing.
 use native.Mathlib.Omega.{arith}
-use Rattle.memory.proofs.Near.{near-e, near-f}
+use Rattle.border_theory.proofs.Memory.Near.{near-e, near-f}
 use Rattle.rings.proofs.Storing.{next-leaves, next-stays}
 use borrow.Author.Needs.{needs}
 use Rattle.rings.proofs.surgery.leave_next.Statement.{statement}
@@ -20,7 +20,9 @@ same-length : tie.Need-same-length
 same-length c = search needs
 
 returns : tie.Need-returns
-returns c = next-leaves _ _ _ _ _ _ _ (c .before .before .before .before .before .before .before .after-of .ensures) (c .before .before .before .before .before .open-of .ensures) (c .before .before .before .before .if1 .taken) (c .before .before .cut-next .ensures)
+returns c = next-leaves _ _ _ _ _ _ _ (c .before .before .before .before .before .before .before .after-of .ensures)
+    (c .before .before .before .before .before .open-of .ensures) (c .before .before .before .before .if1 .taken)
+    (c .before .before .cut-next .ensures)
 
 same-length-2 : tie.Need-same-length-2
 same-length-2 c = search needs

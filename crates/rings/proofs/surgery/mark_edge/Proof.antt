@@ -1,7 +1,7 @@
 -- `rings::surgery::mark_edge` meets its contract.
 -- Assumes nothing.
 use native.Mathlib.Omega.{arith}
-use Rattle.memory.proofs.Near.{near-e, near-f}
+use Rattle.border_theory.proofs.Memory.Near.{near-e, near-f}
 use Rattle.rings.proofs.Storing.{mark-near, mark-next, mark-ended, mark-on}
 use borrow.Author.Needs.{needs}
 use Rattle.rings.proofs.surgery.mark_edge.Statement.{statement}
@@ -39,7 +39,8 @@ returns c =
     let look = then .before in
     let store = look .before .before .before .before in
     let after = store .before .before in
-    mark-ended _ _ _ _ _ (after .before .before .before .pre) (after .after-of .ensures) (store .store-edge .ensures) _ _ _ (look .open-of .ensures)
+    mark-ended _ _ _ _ _ (after .before .before .before .pre) (after .after-of .ensures) (store .store-edge .ensures) _ _ _
+    (look .open-of .ensures)
     (then .if1 .taken) (end .end-loop .ensures .0) (end .end-loop .ensures .1)
 
 same-length-2 : tie.Need-same-length-2
@@ -50,7 +51,8 @@ returns-2 c =
     let look = c .before in
     let store = look .before .before .before .before in
     let after = store .before .before in
-    mark-on _ _ _ _ _ (after .before .before .before .pre) (after .after-of .ensures) (store .store-edge .ensures) _ (look .open-of .ensures) (c .if1 .left)
+    mark-on _ _ _ _ _ (after .before .before .before .pre) (after .after-of .ensures) (store .store-edge .ensures) _
+    (look .open-of .ensures) (c .if1 .left)
 
 pub mark-edge-spec : {M : Type 1} → statement M
 mark-edge-spec =

@@ -36,7 +36,9 @@ same-length : tie.Need-same-length
 same-length c = search needs
 
 returns : tie.Need-returns
-returns c = split-first _ _ _ _ _ _ _ _ (c .before .before .before .before .before .before .before .before .before .free-at .ensures) (c .before .before .before .before .before .before .before .double .ensures) (c .before .before .before .before .if1 .taken) (c .before .before .wait-at .ensures)
+returns c = split-first _ _ _ _ _ _ _ _ (c .before .before .before .before .before .before .before .before .before .free-at .ensures)
+    (c .before .before .before .before .before .before .before .double .ensures) (c .before .before .before .before .if1 .taken)
+    (c .before .before .wait-at .ensures)
 
 sub-wait-at-2 : tie.Need-sub-wait-at-2
 sub-wait-at-2 c = search needs
@@ -57,7 +59,9 @@ same-length-2 : tie.Need-same-length-2
 same-length-2 c = search needs
 
 returns-2 : tie.Need-returns-2
-returns-2 c = split-second _ _ _ _ _ _ _ _ (c .before .before .before .before .before .before .before .before .before .free-at .ensures) (c .before .before .before .before .before .before .before .double .ensures) (c .before .before .before .before .if1 .left) (c .before .before .wait-at2 .ensures)
+returns-2 c = split-second _ _ _ _ _ _ _ _ (c .before .before .before .before .before .before .before .before .before .free-at .ensures)
+    (c .before .before .before .before .before .before .before .double .ensures) (c .before .before .before .before .if1 .left)
+    (c .before .before .wait-at2 .ensures)
 
 pub split-loop-spec : {M : Type 1} → statement M
 split-loop-spec =

@@ -32,22 +32,136 @@ set-vertex-requires-3 : tie.Need-set-vertex-requires-3
 set-vertex-requires-3 c κs = search needs
 
 store-edge-requires : tie.Need-store-edge-requires
-store-edge-requires c κs = ends-near (c .before .before .before .before .before .before .before .before .before .before .before .before .before .before .before .before .before .before .before .before .args .n) _ _ _ _ (c .before .before .before .set-vertex3 .kept .0 ∙ c .before .before .before .before .before .before .before .set-vertex2 .kept .0 ∙ c .before .before .before .before .before .before .before .before .before .before .before .set-vertex .kept .0) (c .before .before .before .before .before .before .before .before .before .before .before .before .before .before .before .before .before .before .before .before .pre .0 .long) (omega (arith, c .before .before .before .before .before .before .before .before .before .before .before .before .before .free-at3 .ensures, c .before .before .before .before .before .before .before .before .before .before .before .before .before .before .before .before .before .before .before .before .pre .0 .third)) (omega (arith, c .before .before .before .before .before .before .before .before .before .before .before .before .before .before .before .before .before .free-at .ensures, c .before .before .before .before .before .before .before .before .before .before .before .before .before .before .before .before .before .before .before .before .pre .0 .first))
+store-edge-requires c κs =
+    ends-near (c .before .before .before .before .before .before .before .before .before .before .before .before .before .before .before
+    .before .before .before .before .before .args .n) _ _ _ _
+    (c .before .before .before .set-vertex3 .kept .0
+    ∙ c .before .before .before .before .before .before .before .set-vertex2 .kept .0
+    ∙ c .before .before .before .before .before .before .before .before .before .before .before .set-vertex .kept .0)
+    (c .before .before .before .before .before .before .before .before .before .before .before .before .before .before
+    .before .before .before .before .before .before .pre .0 .long)
+    (omega (
+      arith,
+      c .before .before .before .before .before .before .before .before .before .before .before
+          .before .before .free-at3 .ensures,
+      c .before .before .before .before .before .before .before .before
+          .before .before .before .before .before .before .before .before .before .before .before .before .pre
+          .0 .third,
+    )) (omega (
+      arith,
+      c .before .before .before .before .before .before .before .before
+          .before .before .before .before .before .before .before .before .before .free-at .ensures,
+      c
+          .before .before .before .before .before .before .before .before .before .before .before
+          .before .before .before .before .before .before .before .before .before .pre .0
+          .first,
+    ))
 
 store-edge-requires-2 : tie.Need-store-edge-requires-2
-store-edge-requires-2 c κs = ends-near (c .before .before .before .before .before .before .before .before .before .before .before .before .before .before .before .before .before .before .before .before .before .before .before .before .args .n) _ _ _ _ (c .before .before .before .store-edge .kept .0 ∙ c .before .before .before .before .before .before .before .set-vertex3 .kept .0 ∙ c .before .before .before .before .before .before .before .before .before .before .before .set-vertex2 .kept .0 ∙ c .before .before .before .before .before .before .before .before .before .before .before .before .before .before .before .set-vertex .kept .0) (c .before .before .before .before .before .before .before .before .before .before .before .before .before .before .before .before .before .before .before .before .before .before .before .before .pre .0 .long) (omega (arith, c .before .before .before .before .before .before .before .before .before .before .before .before .before .before .before .before .before .before .before .free-at2 .ensures, c .before .before .before .before .before .before .before .before .before .before .before .before .before .before .before .before .before .before .before .before .before .before .before .before .pre .0 .second)) (omega (arith, c .before .before .before .before .before .before .before .before .before .before .before .before .before .before .before .before .before .free-at3 .ensures, c .before .before .before .before .before .before .before .before .before .before .before .before .before .before .before .before .before .before .before .before .before .before .before .before .pre .0 .third))
+store-edge-requires-2 c κs =
+    ends-near (c .before .before .before .before .before .before .before .before .before .before .before .before .before .before .before
+    .before .before .before .before .before .before .before .before .before .args .n) _ _ _ _
+    (c .before .before .before .store-edge .kept .0
+    ∙ c .before .before .before .before .before .before .before .set-vertex3 .kept .0
+    ∙ c .before .before .before .before .before .before .before .before .before .before .before .set-vertex2 .kept .0
+    ∙ c .before .before .before .before .before .before .before .before .before .before .before .before .before .before
+    .before .set-vertex .kept .0)
+    (c .before .before .before .before .before .before .before .before .before .before .before .before .before
+    .before .before .before .before .before .before .before .before .before .before .before .pre .0 .long)
+    (omega (
+      arith,
+      c .before .before .before .before .before .before .before .before .before .before
+          .before .before .before .before .before .before .before .before .before .free-at2 .ensures,
+      c
+          .before .before .before .before .before .before .before .before .before .before .before
+          .before .before .before .before .before .before .before .before .before .before .before
+          .before .before .pre .0 .second,
+    ))
+    (omega (
+      arith,
+      c .before .before .before .before .before .before .before .before
+          .before .before .before .before .before .before .before .before .before
+          .free-at3 .ensures,
+      c .before .before .before .before .before .before
+          .before .before .before .before .before .before .before .before
+          .before .before .before .before .before .before .before .before
+          .before .before .pre .0 .third,
+    ))
 
 store-edge-requires-3 : tie.Need-store-edge-requires-3
-store-edge-requires-3 c κs = ends-near (c .before .before .before .before .before .before .before .before .before .before .before .before .before .before .before .before .before .before .before .before .before .before .before .before .before .before .before .before .args .n) _ _ _ _ (c .before .before .before .store-edge2 .kept .0 ∙ c .before .before .before .before .before .before .before .store-edge .kept .0 ∙ c .before .before .before .before .before .before .before .before .before .before .before .set-vertex3 .kept .0 ∙ c .before .before .before .before .before .before .before .before .before .before .before .before .before .before .before .set-vertex2 .kept .0 ∙ c .before .before .before .before .before .before .before .before .before .before .before .before .before .before .before .before .before .before .before .set-vertex .kept .0) (c .before .before .before .before .before .before .before .before .before .before .before .before .before .before .before .before .before .before .before .before .before .before .before .before .before .before .before .before .pre .0 .long) (omega (arith, c .before .before .before .before .before .before .before .before .before .before .before .before .before .before .before .before .before .before .before .before .before .before .before .before .before .free-at .ensures, c .before .before .before .before .before .before .before .before .before .before .before .before .before .before .before .before .before .before .before .before .before .before .before .before .before .before .before .before .pre .0 .first)) (omega (arith, c .before .before .before .before .before .before .before .before .before .before .before .before .before .before .before .before .before .before .before .before .before .before .before .free-at2 .ensures, c .before .before .before .before .before .before .before .before .before .before .before .before .before .before .before .before .before .before .before .before .before .before .before .before .before .before .before .before .pre .0 .second))
+store-edge-requires-3 c κs =
+    ends-near (c .before .before .before .before .before .before .before .before .before .before .before .before .before .before .before
+    .before .before .before .before .before .before .before .before .before .before .before .before .before .args .n) _ _ _ _
+    (c .before .before .before .store-edge2 .kept .0
+    ∙ c .before .before .before .before .before .before .before .store-edge .kept .0
+    ∙ c .before .before .before .before .before .before .before .before .before .before .before .set-vertex3 .kept .0
+    ∙ c .before .before .before .before .before .before .before .before .before .before .before .before .before .before
+    .before .set-vertex2 .kept .0
+    ∙ c .before .before .before .before .before .before .before .before .before .before .before .before .before
+    .before .before .before .before .before .before .set-vertex .kept .0)
+    (c .before .before .before .before .before .before .before .before .before .before .before .before
+    .before .before .before .before .before .before .before .before .before .before .before .before
+    .before .before .before .before .pre .0 .long)
+    (omega (
+      arith,
+      c .before .before .before .before .before .before .before .before .before
+          .before .before .before .before .before .before .before .before .before .before
+          .before .before .before .before .before .before .free-at .ensures,
+      c .before
+          .before .before .before .before .before .before .before .before .before
+          .before .before .before .before .before .before .before .before .before
+          .before .before .before .before .before .before .before .before
+          .before .pre .0 .first,
+    ))
+    (omega (
+      arith,
+      c .before .before .before .before .before
+          .before .before .before .before .before .before .before
+          .before .before .before .before .before .before
+          .before .before .before .before .before
+          .free-at2 .ensures,
+      c .before .before
+          .before .before .before .before .before
+          .before .before .before .before
+          .before .before .before .before
+          .before .before
+          .before .before
+          .before .before
+          .before .before
+          .before .before
+          .before .before
+          .before .pre
+          .0 .second,
+    ))
 
 sub-t20 : tie.Need-sub-t20
-sub-t20 c = omega (arith, c .before .before .before .before .before .before .before .before .before .before .before .before .before .before .before .before .before .before .before .before .before .before .before .before .before .before .before .before .before .before .before .pre .0 .some)
+sub-t20 c = omega (
+  arith,
+  c .before .before .before .before .before .before .before .before .before .before .before .before .before .before
+      .before .before .before .before .before .before .before .before .before .before .before .before .before .before .before .before .before
+      .pre .0 .some,
+)
 
 same-length : tie.Need-same-length
 same-length c = search needs
 
 returns : tie.Need-returns
-returns c = start-done _ _ _ _ _ _ _ _ _ _ _ _ _ (c .before .before .before .before .before .before .before .before .before .before .before .before .before .before .before .before .before .before .before .before .before .before .before .before .before .before .before .before .free-at .ensures) (c .before .before .before .before .before .before .before .before .before .before .before .before .before .before .before .before .before .before .before .before .before .before .before .before .before .before .free-at2 .ensures) (c .before .before .before .before .before .before .before .before .before .before .before .before .before .before .before .before .before .before .before .before .before .before .before .before .free-at3 .ensures) (c .before .before .before .before .before .before .before .before .before .before .before .before .before .before .before .before .before .before .before .before .before .before .set-vertex .ensures) (c .before .before .before .before .before .before .before .before .before .before .before .before .before .before .before .before .before .before .set-vertex2 .ensures) (c .before .before .before .before .before .before .before .before .before .before .before .before .before .before .set-vertex3 .ensures) (c .before .before .before .before .before .before .before .before .before .before .store-edge .ensures) (c .before .before .before .before .before .before .store-edge2 .ensures) (c .before .before .store-edge3 .ensures)
+returns c = start-done _ _ _ _ _ _ _ _ _ _ _ _ _
+    (c .before .before .before .before .before .before .before .before .before .before .before .before .before .before .before .before
+    .before .before .before .before .before .before .before .before .before .before .before .before .free-at .ensures)
+    (c .before .before .before .before .before .before .before .before .before .before .before .before .before .before .before
+    .before .before .before .before .before .before .before .before .before .before .before .free-at2 .ensures)
+    (c .before .before .before .before .before .before .before .before .before .before .before .before .before .before
+    .before .before .before .before .before .before .before .before .before .before .free-at3 .ensures)
+    (c .before .before .before .before .before .before .before .before .before .before .before .before .before
+    .before .before .before .before .before .before .before .before .before .set-vertex .ensures)
+    (c .before .before .before .before .before .before .before .before .before .before .before .before
+    .before .before .before .before .before .before .set-vertex2 .ensures)
+    (c .before .before .before .before .before .before .before .before .before .before .before
+    .before .before .before .set-vertex3 .ensures)
+    (c .before .before .before .before .before .before .before .before .before .before
+    .store-edge .ensures) (c .before .before .before .before .before .before
+    .store-edge2 .ensures) (c .before .before .store-edge3 .ensures)
 
 pub start-loop-spec : {M : Type 1} → statement M
 start-loop-spec =

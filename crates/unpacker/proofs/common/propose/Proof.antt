@@ -27,10 +27,12 @@ propose-requires-2 : tie.Need-propose-requires-2
 propose-requires-2 c κs = search needs
 
 returns-2 : tie.Need-returns-2
-returns-2 c = proposed-edge _ _ _ _ _ _ (c .before .before .before .if1 .left) (edge-by _ _ _ _ _ _ _ (c .before .enum-told .given .1) (c .new-plan .ensures))
+returns-2 c = proposed-edge _ _ _ _ _ _ (c .before .before .before .if1 .left)
+    (edge-by _ _ _ _ _ _ _ (c .before .enum-told .given .1) (c .new-plan .ensures))
 
 returns-3 : tie.Need-returns-3
-returns-3 c = proposed-edge _ _ _ _ _ _ (c .before .before .before .if1 .left) (edge-by _ _ _ _ _ _ _ (c .before .enum-told2 .given .1) (c .forward-plan .ensures))
+returns-3 c = proposed-edge _ _ _ _ _ _ (c .before .before .before .if1 .left)
+    (edge-by _ _ _ _ _ _ _ (c .before .enum-told2 .given .1) (c .forward-plan .ensures))
 
 returns-4 : tie.Need-returns-4
 returns-4 c = search needs

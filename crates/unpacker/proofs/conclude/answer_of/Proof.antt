@@ -1,7 +1,7 @@
 -- `unpacker::conclude::answer_of` meets its contract: the run is taken apart.
 -- Assumes nothing.
 use borrow.Author.Needs.{needs}
-use Rattle.unpacking.proofs.Concluding.{ended-whole, answers-whole, answers-refused}
+use Rattle.unpack_theory.proofs.Concluding.{ended-whole, answers-whole, answers-refused}
 use Rattle.unpacker.proofs.conclude.answer_of.Statement.{statement}
 use Rattle.unpacker.proofs.conclude.answer_of.Tie as tie
 
@@ -18,7 +18,9 @@ returns : tie.Need-returns
 returns c = answers-refused _ _ _ _ _ _ _ (c .before .enum-told .given .1) (c .refusal-of .ensures)
 
 conclude-requires : tie.Need-conclude-requires
-conclude-requires c κs = ended-whole (c .before .before .before .before .before .args .e) _ _ _ _ _ (c .before .e .given .1) (c .before .before .before .before .before .pre)
+conclude-requires c κs =
+    ended-whole (c .before .before .before .before .before .args .e) _ _ _ _ _ (c .before .e .given .1)
+    (c .before .before .before .before .before .pre)
 
 returns-2 : tie.Need-returns-2
 returns-2 c = answers-whole _ _ _ _ _ _ _ _ (c .before .before .e .given .1) (c .conclude .ensures)

@@ -1,7 +1,7 @@
 -- `unpacker::conclude::euler` meets its contract: the sums fit 32 bits.
 -- Assumes nothing.
 use borrow.Author.Needs.{needs}
-use Rattle.unpacking.proofs.Euler.{sub-fits, add-fits, is}
+use Rattle.unpack_theory.proofs.Euler.{sub-fits, add-fits, is}
 use Rattle.unpacker.proofs.conclude.euler.Statement.{statement}
 use Rattle.unpacker.proofs.conclude.euler.Tie as tie
 

@@ -1,6 +1,6 @@
 -- `unpacker::conclude::is_complete` meets its contract: the two tests in their order.
 -- Assumes nothing.
-use Rattle.unpacking.proofs.Clearing.{incomplete, all-made}
+use Rattle.unpack_theory.proofs.Clearing.{incomplete, all-made}
 use Rattle.unpacker.proofs.conclude.is_complete.Statement.{statement}
 use Rattle.unpacker.proofs.conclude.is_complete.Tie as tie
 

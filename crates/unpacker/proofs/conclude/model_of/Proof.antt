@@ -1,7 +1,7 @@
 -- `unpacker::conclude::model_of` meets its contract: the Euler number is a field like the others.
 -- Assumes nothing.
 use borrow.Author.Needs.{needs}
-use Rattle.unpacking.proofs.Euler.{model-is}
+use Rattle.unpack_theory.proofs.Euler.{model-is}
 use Rattle.unpacker.proofs.conclude.model_of.Statement.{statement}
 use Rattle.unpacker.proofs.conclude.model_of.Tie as tie
 

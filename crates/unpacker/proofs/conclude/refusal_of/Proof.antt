@@ -1,7 +1,7 @@
 -- `unpacker::conclude::refusal_of` meets its contract: a refusal keeps its number.
 -- Assumes nothing.
 use borrow.Author.Needs.{needs}
-use Rattle.unpacking.proofs.Clearing.{same-refusal, no-refusal}
+use Rattle.unpack_theory.proofs.Clearing.{same-refusal, no-refusal}
 use Rattle.unpacker.proofs.conclude.refusal_of.Statement.{statement}
 use Rattle.unpacker.proofs.conclude.refusal_of.Tie as tie
 

@@ -1,7 +1,7 @@
 -- `unpacker::meet::meet` meets its contract.
 -- Assumes nothing.
 use borrow.Author.Needs.{needs}
-use Rattle.unpacking.proofs.Meeting.{meets-not, meets-it}
+use Rattle.unpack_theory.proofs.Meeting.{meets-not, meets-it}
 use Rattle.unpacker.proofs.meet.meet.Statement.{statement}
 use Rattle.unpacker.proofs.meet.meet.Tie as tie
 

@@ -1,7 +1,7 @@
 -- `unpacker::rule::is_plan` meets its contract: the vertices, then the three sides in their order.
 -- Assumes nothing.
 use borrow.Author.Needs.{needs}
-use Rattle.unpacking.proofs.Ruling.{plan-same, plan-pq, plan-qr, plan-rp}
+use Rattle.unpack_theory.proofs.Ruling.{plan-same, plan-pq, plan-qr, plan-rp}
 use Rattle.unpacker.proofs.rule.is_plan.Statement.{statement}
 use Rattle.unpacker.proofs.rule.is_plan.Tie as tie
 
@@ -17,7 +17,8 @@ is-side-requires c κs = search needs
 returns-2 : tie.Need-returns-2
 returns-2 c =
     let d = c .before .before in
-    plan-pq _ _ (c .before .before .before .before .before .before .args .p) _ (d .before .is-distinct .ensures) (d .if1 .left) _ (c .before .is-side .ensures) (c .if2 .taken)
+    plan-pq _ _ (c .before .before .before .before .before .before .args .p) _ (d .before .is-distinct .ensures) (d .if1 .left) _
+    (c .before .is-side .ensures) (c .if2 .taken)
 
 is-side-requires-2 : tie.Need-is-side-requires-2
 is-side-requires-2 c κs = search needs
@@ -26,7 +27,8 @@ returns-3 : tie.Need-returns-3
 returns-3 c =
     let s = c .before .before in
     let d = s .before .before in
-    plan-qr _ _ (c .before .before .before .before .before .before .before .before .args .p) _ (d .before .is-distinct .ensures) (d .if1 .left) _ (s .before .is-side .ensures) (s .if2 .left) _ (c .before .is-side2 .ensures)
+    plan-qr _ _ (c .before .before .before .before .before .before .before .before .args .p) _ (d .before .is-distinct .ensures)
+    (d .if1 .left) _ (s .before .is-side .ensures) (s .if2 .left) _ (c .before .is-side2 .ensures)
     (c .if3 .taken)
 
 is-side-requires-3 : tie.Need-is-side-requires-3
@@ -37,7 +39,8 @@ returns-4 c =
     let q = c .before in
     let s = q .before .before in
     let d = s .before .before in
-    plan-rp _ _ (c .before .before .before .before .before .before .before .before .before .args .p) _ (d .before .is-distinct .ensures) (d .if1 .left) _ (s .before .is-side .ensures) (s .if2 .left) _ _ (q .before .is-side2 .ensures)
+    plan-rp _ _ (c .before .before .before .before .before .before .before .before .before .args .p) _ (d .before .is-distinct .ensures)
+    (d .if1 .left) _ (s .before .is-side .ensures) (s .if2 .left) _ _ (q .before .is-side2 .ensures)
     (q .if3 .left) (c .is-side3 .ensures)
 
 pub is-plan-spec : {M : Type 1} → statement M

@@ -1,7 +1,7 @@
 -- `unpacker::rule::is_side` meets its contract: a side that glues passes, another is looked up.
 -- Assumes nothing.
 use borrow.Author.Needs.{needs}
-use Rattle.unpacking.proofs.Ruling.{side-glued, side-fresh}
+use Rattle.unpack_theory.proofs.Ruling.{side-glued, side-fresh}
 use Rattle.unpacker.proofs.rule.is_side.Statement.{statement}
 use Rattle.unpacker.proofs.rule.is_side.Tie as tie
 

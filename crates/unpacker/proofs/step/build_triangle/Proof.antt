@@ -3,9 +3,9 @@
 use mathlib.Core.Path.{refl}
 use borrow.Author.Needs.{needs}
 use Rattle.rules.specs.Limits.{maxPlaces}
-use Rattle.memory.proofs.Performed.{performs}
+use Rattle.border_theory.proofs.Memory.Performed.{performs}
 use Rattle.border.proofs.Performing.{built-counts, built-state}
-use Rattle.unpacking.proofs.Operating.{held-ready, operate-ruled, operate-room, operate-third, operate-beyond, operate-built}
+use Rattle.unpack_theory.proofs.Operating.{held-ready, operate-ruled, operate-room, operate-third, operate-beyond, operate-built}
 use Rattle.unpacker.proofs.step.build_triangle.Statement.{statement}
 use Rattle.unpacker.proofs.step.build_triangle.Tie as tie
 
@@ -17,8 +17,11 @@ same-length c = search needs
 
 returns : tie.Need-returns
 returns c =
-    let a = c .before .before .before .before .before .before in
-    (operate-ruled (a .args .o) (a .args .next) (a .args .s) (a .args .triangles .now) (a .args .m .now) (a .args .chains .now) (a .args .met .now) (a .args .p) (a .pre .1) _ (c .before .is-ruled .ensures) (c .if1 .taken), refl)
+    let a = c .before .before .before .before .before .before in (
+      operate-ruled (a .args .o) (a .args .next) (a .args .s) (a .args .triangles .now) (a .args .m .now) (a .args .chains .now)
+          (a .args .met .now) (a .args .p) (a .pre .1) _ (c .before .is-ruled .ensures) (c .if1 .taken),
+      refl,
+    )
 
 cast-n : tie.Need-cast-n
 cast-n c = search needs
@@ -27,7 +30,8 @@ put-triangle-requires : tie.Need-put-triangle-requires
 put-triangle-requires c κs =
     let e = c .before .before .before in
     let a = e .before .before .before .before .before .before in
-    operate-room (a .args .o) (a .args .next) (a .args .s) (a .args .triangles .now) (a .args .m .now) (a .args .chains .now) (a .args .met .now) (a .args .p) (a .pre .1) _ (e .before .is-ruled .ensures) (e .if1 .left) (a .pre .0)
+    operate-room (a .args .o) (a .args .next) (a .args .s) (a .args .triangles .now) (a .args .m .now) (a .args .chains .now)
+    (a .args .met .now) (a .args .p) (a .pre .1) _ (e .before .is-ruled .ensures) (e .if1 .left) (a .pre .0)
 
 link-requires : tie.Need-link-requires
 link-requires c κs = search needs
@@ -36,17 +40,25 @@ meet-requires : tie.Need-meet-requires
 meet-requires c κs =
     let e = c .before .before .before .before .before .before .before .before .before in
     let a = e .before .before .before .before .before .before in
-    operate-third (a .args .o) (a .args .next) (a .args .s) (a .args .triangles .now) (a .args .m .now) (a .args .chains .now) (a .args .met .now) (a .args .p) (a .pre .1) _ (e .before .is-ruled .ensures) (e .if1 .left) (a .pre .0)
+    operate-third (a .args .o) (a .args .next) (a .args .s) (a .args .triangles .now) (a .args .m .now) (a .args .chains .now)
+    (a .args .met .now) (a .args .p) (a .pre .1) _ (e .before .is-ruled .ensures) (e .if1 .left) (a .pre .0)
 
 alter-requires : tie.Need-alter-requires
 alter-requires c κs =
-    let a = c .before .before .before .before .before .before .before .before .before .before .before .before .before .before .before .before .before in
-    performs _ _ _ _ _ (held-ready (a .args .s) (a .args .triangles .now) (a .args .m .now) (a .args .chains .now) (a .args .met .now) (a .pre .0)) (a .pre .1)
+    let a = c .before .before .before .before .before .before .before .before .before .before .before .before .before .before .before
+    .before .before in
+    performs _ _ _ _ _ (held-ready (a .args .s) (a .args .triangles .now) (a .args .m .now) (a .args .chains .now) (a .args .met .now)
+    (a .pre .0)) (a .pre .1)
 
 count-built-requires : tie.Need-count-built-requires
 count-built-requires c κs =
-    let a = c .before .before .before .before .before .before .before .before .before .before .before .before .before .before .before .before .before .before .before .before in
-    built-counts _ _ _ _ _ _ (held-ready (a .args .s) (a .args .triangles .now) (a .args .m .now) (a .args .chains .now) (a .args .met .now) (a .pre .0), a .pre .1) (c .before .before .alter .ensures .0)
+    let a = c .before .before .before .before .before .before .before .before .before .before .before .before .before .before .before
+    .before .before .before .before .before in
+    built-counts _ _ _ _ _ _ (
+      held-ready (a .args .s) (a .args .triangles .now) (a .args .m .now) (a .args .chains .now) (a .args .met .now) (a .pre .0),
+      a .pre
+          .1,
+    ) (c .before .before .alter .ensures .0)
 
 same-length-2 : tie.Need-same-length-2
 same-length-2 c = search needs
@@ -59,10 +71,14 @@ returns-2 c =
     let e = c .before .before .before .before .before .before .before .before .before .before .before .before .before .before .before in
     let a = e .before .before .before .before .before .before in
     let t = c .before .before .before .before .before .before .before .before .before .before .before .put-triangle .ensures in
-    let b = built-state maxPlaces (a .args .s) (a .args .m .now) (a .args .o) (a .args .p) _ _ _ (c .before .before .before .alter .ensures) (c .count-built .ensures) in (
-      operate-built (a .args .o) (a .args .next) (a .args .s) (a .args .triangles .now) (a .args .m .now) (a .args .chains .now) (a .args .met .now) (a .args .p) (a .pre .1) _ (e .before .is-ruled .ensures) (e .if1 .left) _ (b .0) _ t _ (b .1) _
-          (c .before .before .before .before .before .before .before .link .ensures) _ (c .before .before .before .before .before .meet .ensures),
-      operate-beyond (a .args .o) (a .args .next) (a .args .s) (a .args .triangles .now) (a .args .m .now) (a .args .chains .now) (a .args .met .now) (a .args .p) (a .pre .1) _ (e .before .is-ruled .ensures) (e .if1 .left) (a .pre .0) _ t,
+    let b = built-state maxPlaces (a .args .s) (a .args .m .now) (a .args .o) (a .args .p) _ _ _ (c .before .before .before .alter .ensures)
+    (c .count-built .ensures) in (
+      operate-built (a .args .o) (a .args .next) (a .args .s) (a .args .triangles .now) (a .args .m .now) (a .args .chains .now)
+          (a .args .met .now) (a .args .p) (a .pre .1) _ (e .before .is-ruled .ensures) (e .if1 .left) _ (b .0) _ t _ (b .1) _
+          (c .before .before .before .before .before .before .before .link .ensures) _
+          (c .before .before .before .before .before .meet .ensures),
+      operate-beyond (a .args .o) (a .args .next) (a .args .s) (a .args .triangles .now) (a .args .m .now) (a .args .chains .now)
+          (a .args .met .now) (a .args .p) (a .pre .1) _ (e .before .is-ruled .ensures) (e .if1 .left) (a .pre .0) _ t,
     )
 
 pub build-triangle-spec : {M : Type 1} → statement M

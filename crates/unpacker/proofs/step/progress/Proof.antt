@@ -1,7 +1,7 @@
 -- `unpacker::step::progress` meets its contract.
 -- Assumes nothing.
 use borrow.Author.Needs.{needs}
-use Rattle.unpacking.proofs.Leading.{progress-refused, progress-none, progress-some}
+use Rattle.unpack_theory.proofs.Leading.{progress-refused, progress-none, progress-some}
 use Rattle.unpacker.proofs.step.progress.Statement.{statement}
 use Rattle.unpacker.proofs.step.progress.Tie as tie
 

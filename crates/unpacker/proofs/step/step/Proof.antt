@@ -14,8 +14,11 @@ enum-told c = search needs
 
 returns : tie.Need-returns
 returns c =
-    let a = c .before .before .before .before in
-    (broken-step (a .args .read) (a .args .s) (a .args .triangles .now) (a .args .m .now) (a .args .chains .now) (a .args .met .now) (c .enum-told .given .1), refl)
+    let a = c .before .before .before .before in (
+      broken-step (a .args .read) (a .args .s) (a .args .triangles .now) (a .args .m .now) (a .args .chains .now) (a .args .met .now)
+          (c .enum-told .given .1),
+      refl,
+    )
 
 operate-requires : tie.Need-operate-requires
 operate-requires c κs = search needs
@@ -30,8 +33,11 @@ returns-2 : tie.Need-returns-2
 returns-2 c =
     let k = c .before .before .before .before .operate in
     let r = c .before .before .before .before .before .before .before .before .before .before in
-    let a = r .before .before .before .before in
-    (read-step (a .args .read) (a .args .s) (a .args .triangles .now) (a .args .m .now) (a .args .chains .now) (a .args .met .now) (r .read .given .0 .0) (r .read .given .0 .1 .0) (k .result) _ _ _ _ (r .read .given .1) (k .ensures .0), k .ensures .1)
+    let a = r .before .before .before .before in (
+      read-step (a .args .read) (a .args .s) (a .args .triangles .now) (a .args .m .now) (a .args .chains .now) (a .args .met .now)
+          (r .read .given .0 .0) (r .read .given .0 .1 .0) (k .result) _ _ _ _ (r .read .given .1) (k .ensures .0),
+      k .ensures .1,
+    )
 
 pub step-spec : {M : Type 1} → statement M
 step-spec =

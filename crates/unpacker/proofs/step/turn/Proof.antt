@@ -2,7 +2,7 @@
 -- Assumes nothing.
 use native.Mathlib.Omega.{arith}
 use borrow.Author.Needs.{needs}
-use Rattle.unpacking.proofs.Leading.{going-held}
+use Rattle.unpack_theory.proofs.Leading.{going-held}
 use Rattle.unpacker.proofs.Reading.{over-turn, complete-turn, step-turn}
 use Rattle.unpacker.proofs.step.turn.Statement.{statement}
 use Rattle.unpacker.proofs.step.turn.Tie as tie
@@ -20,7 +20,8 @@ returns : tie.Need-returns
 returns c =
     let t = c .before in
     let a = t .before .before .before .before in
-    over-turn (a .args .read) (a .args .p) (a .args .triangles .now) (a .args .m .now) (a .args .chains .now) (a .args .met .now) (a .pre .1) _ (t .enum-told .given .1) _ (c .finished .ensures)
+    over-turn (a .args .read) (a .args .p) (a .args .triangles .now) (a .args .m .now) (a .args .chains .now) (a .args .met .now)
+    (a .pre .1) _ (t .enum-told .given .1) _ (c .finished .ensures)
 
 is-complete-requires : tie.Need-is-complete-requires
 is-complete-requires c κs = search needs
@@ -33,13 +34,15 @@ returns-2 c =
     let i = c .before in
     let g = i .before .before .before in
     let a = g .before .before .before .before in
-    complete-turn (a .args .read) (a .args .p) (a .args .triangles .now) (a .args .m .now) (a .args .chains .now) (a .args .met .now) (a .pre .1) _ _ (g .stepped .given .1) _ (i .before .is-complete .ensures) (i .if1 .taken) _ (c .finished2 .ensures)
+    complete-turn (a .args .read) (a .args .p) (a .args .triangles .now) (a .args .m .now) (a .args .chains .now) (a .args .met .now)
+    (a .pre .1) _ _ (g .stepped .given .1) _ (i .before .is-complete .ensures) (i .if1 .taken) _ (c .finished2 .ensures)
 
 step-requires : tie.Need-step-requires
 step-requires c κs =
     let g = c .before .before .before .before .before .before .before in
     let a = g .before .before .before .before in
-    going-held (a .args .p) (a .args .triangles .now) (a .args .m .now) (a .args .chains .now) (a .args .met .now) (a .pre .1) (a .pre .0) _ _ (g .stepped .given .1)
+    going-held (a .args .p) (a .args .triangles .now) (a .args .m .now) (a .args .chains .now) (a .args .met .now) (a .pre .1) (a .pre .0) _
+    _ (g .stepped .given .1)
 
 sub-progress : tie.Need-sub-progress
 sub-progress c = search needs
@@ -59,7 +62,9 @@ returns-3 c =
     let i = c .before .before .before .before .before .before .before .before .before .before .before in
     let g = i .before .before .before in
     let a = g .before .before .before .before in
-    step-turn (a .args .read) (a .args .p) (a .args .triangles .now) (a .args .m .now) (a .args .chains .now) (a .args .met .now) (a .pre .1) (a .pre .0) _ _ (g .stepped .given .1) _ (i .before .is-complete .ensures) (i .if1 .left) (k .result) _ _ _ _ (k .ensures .0) (k .ensures .1) _ (c .progress .ensures)
+    step-turn (a .args .read) (a .args .p) (a .args .triangles .now) (a .args .m .now) (a .args .chains .now) (a .args .met .now)
+    (a .pre .1) (a .pre .0) _ _ (g .stepped .given .1) _ (i .before .is-complete .ensures) (i .if1 .left) (k .result) _ _ _ _
+    (k .ensures .0) (k .ensures .1) _ (c .progress .ensures)
 
 pub turn-spec : {M : Type 1} → statement M
 turn-spec =

@@ -1,7 +1,7 @@
 -- `unpacker::tidy::tidy` meets its contract: a refusal clears, an answer does not.
 -- Assumes nothing.
 use borrow.Author.Needs.{needs}
-use Rattle.unpacking.proofs.Clearing.{tidied-refusal}
+use Rattle.unpack_theory.proofs.Clearing.{tidied-refusal}
 use Rattle.unpacker.proofs.tidy.tidy.Statement.{statement}
 use Rattle.unpacker.proofs.tidy.tidy.Tie as tie
 
@@ -18,7 +18,9 @@ same-length : tie.Need-same-length
 same-length c = search needs
 
 returns : tie.Need-returns
-returns c = let a = c .before .before .before .before .before .before .before in tidied-refusal (a .args .r) (a .args .n) _ (a .args .triangles .now) _ (c .before .before .before .before .enum-told2 .given .1) (c .before .before .clear .ensures)
+returns c = let a = c .before .before .before .before .before .before .before in
+    tidied-refusal (a .args .r) (a .args .n) _ (a .args .triangles .now) _ (c .before .before .before .before .enum-told2 .given .1)
+    (c .before .before .clear .ensures)
 
 returns-2 : tie.Need-returns-2
 returns-2 c = search needs

@@ -20,7 +20,8 @@ word-at-requires-4 c κs = search needs
 returns : tie.Need-returns
 returns c =
     let k = c .before .before .before in
-    counts-read (k .before .before .args .pack .now) _ _ _ _ (k .word-at .ensures) (c .before .before .word-at2 .ensures) (c .before .word-at3 .ensures) (c .word-at4 .ensures)
+    counts-read (k .before .before .args .pack .now) _ _ _ _ (k .word-at .ensures) (c .before .before .word-at2 .ensures)
+    (c .before .word-at3 .ensures) (c .word-at4 .ensures)
 
 pub counts-of-spec : {M : Type 1} → statement M
 counts-of-spec =

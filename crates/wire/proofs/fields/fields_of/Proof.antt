@@ -24,7 +24,8 @@ returns-2 : tie.Need-returns-2
 returns-2 c =
     let f = c .before .before in
     let k = f .before .before in
-    answered _ (k .before .shared-slice-known .given) _ (other-counts _ _ _ (sym (k .field-at .ensures) ∙ f .first .given .1) (c .if1 .taken))
+    answered _ (k .before .shared-slice-known .given) _
+    (other-counts _ _ _ (sym (k .field-at .ensures) ∙ f .first .given .1) (c .if1 .taken))
 
 field-at-requires-2 : tie.Need-field-at-requires-2
 field-at-requires-2 c κs = tt
@@ -42,7 +43,8 @@ returns-3 c =
     let f = e .before .before in
     let k = f .before .before in
     answered _ (k .before .shared-slice-known .given) _
-    (none-second _ _ _ (sym (k .field-at .ensures) ∙ f .first .given .1) (e .if1 .left) (sym (g .field-at2 .ensures) ∙ c .enum-told2 .given .1))
+    (none-second _ _ _ (sym (k .field-at .ensures) ∙ f .first .given .1) (e .if1 .left)
+    (sym (g .field-at2 .ensures) ∙ c .enum-told2 .given .1))
 
 returns-4 : tie.Need-returns-4
 returns-4 c =
@@ -52,7 +54,8 @@ returns-4 c =
     let f = e .before .before in
     let k = f .before .before in
     answered _ (k .before .shared-slice-known .given) _
-    (more-follows _ _ _ (sym (k .field-at .ensures) ∙ f .first .given .1) (e .if1 .left) _ _ (sym (g .field-at2 .ensures) ∙ s .second .given .1) (c .if2 .taken))
+    (more-follows _ _ _ (sym (k .field-at .ensures) ∙ f .first .given .1) (e .if1 .left) _ _
+    (sym (g .field-at2 .ensures) ∙ s .second .given .1) (c .if2 .taken))
 
 counts-of-requires : tie.Need-counts-of-requires
 counts-of-requires c κs =
@@ -76,7 +79,8 @@ returns-5 c =
     let f = e .before .before in
     let k = f .before .before in
     answered _ (k .before .shared-slice-known .given) _
-    (all-found _ _ _ (sym (k .field-at .ensures) ∙ f .first .given .1) (e .if1 .left) _ _ (sym (g .field-at2 .ensures) ∙ s .second .given .1) (w .if2 .left) _
+    (all-found _ _ _ (sym (k .field-at .ensures) ∙ f .first .given .1) (e .if1 .left) _ _
+    (sym (g .field-at2 .ensures) ∙ s .second .given .1) (w .if2 .left) _
     (n .counts-of .ensures) (sym (c .before .is-in-range .ensures) ∙ c .if3 .taken))
 
 returns-6 : tie.Need-returns-6
@@ -89,7 +93,8 @@ returns-6 c =
     let f = e .before .before in
     let k = f .before .before in
     answered _ (k .before .shared-slice-known .given) _
-    (out-of-range _ _ _ (sym (k .field-at .ensures) ∙ f .first .given .1) (e .if1 .left) _ _ (sym (g .field-at2 .ensures) ∙ s .second .given .1) (w .if2 .left) _
+    (out-of-range _ _ _ (sym (k .field-at .ensures) ∙ f .first .given .1) (e .if1 .left) _ _
+    (sym (g .field-at2 .ensures) ∙ s .second .given .1) (w .if2 .left) _
     (n .counts-of .ensures) (sym (c .before .is-in-range .ensures) ∙ c .if3 .left))
 
 pub fields-of-spec : {M : Type 1} → statement M

@@ -50,7 +50,13 @@ low-requires-5 c κs = tt
 returns : tie.Need-returns
 returns c =
     header-made _ _ _ _ _ _ _ _ _ _ _ _
-    (c .before .before .before .before .before .before .before .before .before .high .ensures) (c .before .before .before .before .before .before .before .before .low .ensures) (c .before .before .before .before .before .before .before .high2 .ensures) (c .before .before .before .before .before .before .low2 .ensures) (c .before .before .before .before .before .high3 .ensures) (c .before .before .before .before .low3 .ensures) (c .before .before .before .high4 .ensures) (c .before .before .low4 .ensures) (c .before .high5 .ensures) (c .low5 .ensures)
+    (c .before .before .before .before .before .before .before .before .before .high .ensures)
+    (c .before .before .before .before .before .before .before .before .low .ensures)
+    (c .before .before .before .before .before .before .before .high2 .ensures)
+    (c .before .before .before .before .before .before .low2 .ensures)
+    (c .before .before .before .before .before .high3 .ensures) (c .before .before .before .before .low3 .ensures)
+    (c .before .before .before .high4 .ensures) (c .before .before .low4 .ensures) (c .before .high5 .ensures)
+    (c .low5 .ensures)
 
 pub header-of-spec : {M : Type 1} → statement M
 header-of-spec =

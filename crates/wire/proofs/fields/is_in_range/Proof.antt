@@ -19,7 +19,8 @@ is-between-requires-2 c κs = tt
 returns-2 : tie.Need-returns-2
 returns-2 c =
     let k = c .before .before in
-    out-second _ _ _ _ (sym (k .before .is-between .ensures) ∙ not-false _ (k .if1 .left)) (sym (c .before .is-between2 .ensures) ∙ not-true _ (c .if2 .taken))
+    out-second _ _ _ _ (sym (k .before .is-between .ensures) ∙ not-false _ (k .if1 .left))
+    (sym (c .before .is-between2 .ensures) ∙ not-true _ (c .if2 .taken))
 
 cast-is-between : tie.Need-cast-is-between
 cast-is-between c = search needs
@@ -31,7 +32,8 @@ returns-3 : tie.Need-returns-3
 returns-3 c =
     let k = c .before .before in
     let l = k .before .before in
-    out-third _ _ _ _ (sym (l .before .is-between .ensures) ∙ not-false _ (l .if1 .left)) (sym (k .before .is-between2 .ensures) ∙ not-false _ (k .if2 .left))
+    out-third _ _ _ _ (sym (l .before .is-between .ensures) ∙ not-false _ (l .if1 .left))
+    (sym (k .before .is-between2 .ensures) ∙ not-false _ (k .if2 .left))
     (sym (c .before .is-between3 .ensures) ∙ not-true _ (c .if3 .taken))
 
 cast-is-between-2 : tie.Need-cast-is-between-2
@@ -46,7 +48,8 @@ returns-4 c =
     let k = j .before .before in
     let l = k .before .before in
     c .is-between4 .ensures
-    ∙ by-fourth _ _ _ _ (sym (l .before .is-between .ensures) ∙ not-false _ (l .if1 .left)) (sym (k .before .is-between2 .ensures) ∙ not-false _ (k .if2 .left))
+    ∙ by-fourth _ _ _ _ (sym (l .before .is-between .ensures) ∙ not-false _ (l .if1 .left))
+    (sym (k .before .is-between2 .ensures) ∙ not-false _ (k .if2 .left))
     (sym (j .before .is-between3 .ensures) ∙ not-false _ (j .if3 .left))
 
 pub is-in-range-spec : {M : Type 1} → statement M

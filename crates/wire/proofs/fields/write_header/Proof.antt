@@ -1,7 +1,7 @@
 -- `wire::fields::write_header` meets its contract: the loop's invariant is a copy of the first i bytes (Copies).
 -- Assumes nothing.
 use Rattle.wire.proofs.Copies.{Copied, copy-none, copy-more, header-refused, header-written}
-use Rattle.codes.proofs.Fields.{length-header}
+use Rattle.wire_theory.proofs.Fields.{length-header}
 use lib.ListN.{length}
 use native.Mathlib.Nat.{zero-add}
 use mathlib.Core.Path.{refl, sym, ap, _∙_}

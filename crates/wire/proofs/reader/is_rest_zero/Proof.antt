@@ -1,7 +1,7 @@
 -- `wire::reader::is_rest_zero` meets its contract: each answer is a law of what is left.
 -- Assumes nothing.
 use Rattle.wire.proofs.Windows.{shifted-pos, rest-read}
-use Rattle.codes.proofs.Rest.{rest-none, rest-whole}
+use Rattle.wire_theory.proofs.Rest.{rest-none, rest-whole}
 use native.Mathlib.Omega.{arith}
 use Rattle.wire.proofs.reader.is_rest_zero.Statement.{statement}
 use Rattle.wire.proofs.reader.is_rest_zero.Tie as tie

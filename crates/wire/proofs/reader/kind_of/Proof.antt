@@ -36,7 +36,8 @@ unfolding kindIn
 returns-7 c = ap (λ (k : ℕ). kindIn k kinds) (sym (c .match .keys7))
 
 returns-8 : tie.Need-returns-8
-returns-8 c = kind-rest _ (c .match .rest .0 .0 .0 .0 .0 .0 .1) (c .match .rest .0 .0 .0 .0 .0 .1) (c .match .rest .0 .0 .0 .0 .1) (c .match .rest .0 .0 .0 .1) (c .match .rest .0 .0 .1) (c .match .rest .0 .1) (c .match .rest .1)
+returns-8 c = kind-rest _ (c .match .rest .0 .0 .0 .0 .0 .0 .1) (c .match .rest .0 .0 .0 .0 .0 .1) (c .match .rest .0 .0 .0 .0 .1)
+    (c .match .rest .0 .0 .0 .1) (c .match .rest .0 .0 .1) (c .match .rest .0 .1) (c .match .rest .1)
 
 pub kind-of-spec : {M : Type 1} → statement M
 kind-of-spec =

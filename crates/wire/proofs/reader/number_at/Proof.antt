@@ -94,7 +94,8 @@ returns-3 : tie.Need-returns-3
 returns-3 c =
     let e = c .before .before .before in
     let k = e .before .before in
-    number-read _ _ _ _ _ _ (k .shared-slice-known .given) (k .before .pre .1) (e .before .if1 .left) (e .if2 .left) (c .before .before .byte-at .ensures .0) (c .before .byte-at2 .ensures .0)
+    number-read _ _ _ _ _ _ (k .shared-slice-known .given) (k .before .pre .1) (e .before .if1 .left) (e .if2 .left)
+    (c .before .before .byte-at .ensures .0) (c .before .byte-at2 .ensures .0)
     (c .byte-at3 .ensures .0)
 
 pub number-at-spec : {M : Type 1} → statement M

@@ -2,7 +2,7 @@
 -- Assumes nothing.
 use Rattle.wire.proofs.Words.{four-at}
 use Rattle.wire.proofs.Copies.{Copied, copy-none, copy-more, copy-all}
-use Rattle.codes.specs.Buffer.{fourBytes}
+use Rattle.wire_theory.specs.Buffer.{fourBytes}
 use mathlib.Core.Path.{refl}
 use Prim.Native.Nat.{_-_}
 use native.Mathlib.Omega.{arith}

@@ -49,7 +49,8 @@ returns-2 c =
     let e = g .before .before in
     let k = e .before in
     let q = k .before .piece-of .ensures in
-    buffer-written _ _ _ _ _ (q .width) (k .after .ensures) _ _ _ _ (k .before .before .slice-known .given) (e .if1 .left) (g .wide .ensures .0) (q .value) (w .word-of .ensures) (p .put-word .ensures)
+    buffer-written _ _ _ _ _ (q .width) (k .after .ensures) _ _ _ _ (k .before .before .slice-known .given) (e .if1 .left)
+    (g .wide .ensures .0) (q .value) (w .word-of .ensures) (p .put-word .ensures)
 
 pub write-operation-spec : {M : Type 1} → statement M
 write-operation-spec =

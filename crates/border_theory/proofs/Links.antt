@@ -1,0 +1,9 @@
+pub mod After
+pub mod Cut
+pub mod Free
+pub mod Loops
+pub mod Named
+pub mod Read
+pub mod Relink
+pub mod Stored
+pub mod Surgery

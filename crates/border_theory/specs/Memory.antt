@@ -1,0 +1,9 @@
+pub mod Decision
+pub mod Fresh
+pub mod Keeps
+pub mod Layout
+pub mod Moves
+pub mod Near
+pub mod Performs
+pub mod Stands
+pub mod Touched

@@ -1,0 +1,15 @@
+-- `calls::finish::totals_of` meets its contract: the Euler number is a field like the others.
+-- Assumes nothing.
+use borrow.Author.Needs.{needs}
+use Rattle.state_theory.proofs.Finishing.Finish.{totals-is}
+use Rattle.builder.proofs.finish.totals_of.Statement.{statement}
+use Rattle.builder.proofs.finish.totals_of.Tie as tie
+
+euler-requires : tie.Need-euler-requires
+euler-requires c κs = search needs
+
+returns : tie.Need-returns
+returns c = totals-is (c .before .args .f) (c .euler .result) (record { sfits = c .euler .ok }) (c .euler .ensures)
+
+pub totals-of-spec : {M : Type 1} → statement M
+totals-of-spec = tie.close (tie.spec euler-requires returns)

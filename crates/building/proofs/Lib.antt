@@ -1,3 +1,0 @@
-pub mod OpenEdges
-pub mod Kept
-pub mod Building

@@ -1,4 +1,0 @@
-pub mod Corner
-pub mod Chains
-pub mod Turn
-pub mod Checks

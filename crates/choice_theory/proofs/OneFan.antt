@@ -1,0 +1,7 @@
+pub mod Corner
+pub mod Elsewhere
+pub mod Leading
+pub mod Meeting
+pub mod Places
+pub mod Steps
+pub mod Unmet

@@ -1,0 +1,9 @@
+pub mod Choice
+pub mod Core
+pub mod Cuts
+pub mod Dropping
+pub mod Fans
+pub mod Links
+pub mod Spotting
+pub mod Taking
+pub mod Ways

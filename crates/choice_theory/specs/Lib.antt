@@ -1,0 +1,12 @@
+pub mod Building
+pub mod Corners
+pub mod Fanned
+pub mod Full
+pub mod Met
+pub mod OneFan
+pub mod Spots
+pub mod Surgery
+pub mod Tally
+pub mod Trace
+pub mod Turn
+pub mod Works

@@ -1,4 +1,0 @@
-pub mod Choosable
-pub mod Seeking
-pub mod Turning
-pub mod Places

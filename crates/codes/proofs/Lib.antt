@@ -1,9 +1,0 @@
-pub mod Lists
-pub mod Numbers
-pub mod Bytes
-pub mod Operations
-pub mod Whole
-pub mod Fields
-pub mod Window
-pub mod Buffer
-pub mod Rest

@@ -1,4 +1,0 @@
-pub mod Shape
-pub mod Whole
-pub mod Header
-pub mod Buffer

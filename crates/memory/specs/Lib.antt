@@ -1,9 +1,0 @@
-pub mod Layout
-pub mod Stands
-pub mod Moves
-pub mod Touched
-pub mod Decision
-pub mod Keeps
-pub mod Near
-pub mod Performs
-pub mod Fresh

@@ -1,0 +1,10 @@
+pub mod Checking
+pub mod Fans
+pub mod Finding
+pub mod Linking
+pub mod Listing
+pub mod Once
+pub mod Prefix
+pub mod Turning
+pub mod Used
+pub mod Walking

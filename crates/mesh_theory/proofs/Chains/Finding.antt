@@ -1,0 +1,156 @@
+-- What the walk down a chain finds is what `across` finds among the first triangles.
+-- Assumes nothing.
+use Prim.Native.Nat.{ℕ, zero, suc, _+_, _*_, _-_, _≤_, _<_, _/_, _%_}
+use native.Mathlib.Omega.{arith}
+use mathlib.Core.Bool.{Bool, true, false, _&&_}
+use mathlib.Core.List.{List, [], _∷_, _++_}
+use mathlib.Core.Path.{_≡_, refl, sym, ap, _∙_, subst}
+use lib.ListN.{length, getD}
+use lib.Dec.{eqb}
+use borrow.Author.Tests.{eqb-true}
+use Rattle.rules.specs.declared.Triangle.{Triangle}
+use Rattle.rules.specs.declared.Across.{Across}
+use Rattle.rules.specs.declared.Across.the-variants.{Found, Nothing}
+use Rattle.rules.specs.Triangle.{trianglesOf}
+use Rattle.rules.specs.Across.{inTriangle, across}
+use Rattle.mesh_theory.specs.Chains.Corner.{cornerAfter, firstTriangles, triangleAt, seenFrom, lastWith}
+use Rattle.mesh_theory.specs.Chains.Linked.{Chains, Newest, Older, Finds, Linked}
+use Rattle.mesh_theory.proofs.Chains.Prefix.{first-more, first-all, length-first}
+use Rattle.mesh_theory.proofs.Chains.Walking.{after-first, after-second, after-third, before-first, before-second, before-third}
+use Rattle.mesh_theory.proofs.Chains.Walking.{At, at-latest, at-found, at-more, at-none}
+use Rattle.counting.proofs.Bools.{and-left, and-right}
+use Rattle.mesh_theory.proofs.Fans.Finding.{pair}
+
+-- a triangle added at the end is looked at first
+abbrev later : ℕ → Across → Across → Across
+later n (Found m k z) a = Found n k z
+later n Nothing a = a
+
+across-last : (x y : ℕ) (ts : List Triangle) (t : Triangle)
+    → across x y (ts ++ (t ∷ [])) ≡ later (length ts) (inTriangle x y t) (across x y ts)
+unfolding across inTriangle
+across-last x y [] t =
+    go (eqb (t .p) x && eqb (t .q) y) refl (eqb (t .q) x && eqb (t .r) y) refl (eqb (t .r) x && eqb (t .p) y) refl
+  where
+    go : (a : Bool) → eqb (t .p) x && eqb (t .q) y ≡ a → (b : Bool) → eqb (t .q) x && eqb (t .r) y ≡ b → (c : Bool)
+        → eqb (t .r) x && eqb (t .p) y ≡ c → inTriangle x y t ≡ later 0 (inTriangle x y t) Nothing
+    go true e b f c g = rw (inTriangle, e)
+    go false e true f c g = rw (inTriangle, e, f)
+    go false e false f true g = rw (inTriangle, e, f, g)
+    go false e false f false g = rw (inTriangle, e, f, g)
+across-last x y (u ∷ ts) t = go (inTriangle x y t) refl (across x y ts) refl (across-last x y ts t)
+  where
+    go : (i : Across) → inTriangle x y t ≡ i → (a : Across) → across x y ts ≡ a
+        → across x y (ts ++ (t ∷ [])) ≡ later (length ts) (inTriangle x y t) (across x y ts)
+        → across x y (u ∷ (ts ++ (t ∷ []))) ≡ later (suc (length ts)) (inTriangle x y t) (across x y (u ∷ ts))
+    go (Found m k z) e a f h = rw (e, across, h, e)
+    go Nothing e (Found m k z) f h = rw (e, across, h, e, f)
+    go Nothing e Nothing f h = rw (e, across, h, e, f)
+
+-- the three corners of a triangle, from the last one down
+with-yes : (x y : ℕ) (xs : List ℕ) (c : ℕ) → eqb (getD xs c 0) x && eqb (getD xs (cornerAfter c) 0) y ≡ true
+    → lastWith x y xs (suc c) ≡ seenFrom xs c
+unfolding lastWith
+with-yes x y xs c e = rw (lastWith, e)
+
+with-no : (x y : ℕ) (xs : List ℕ) (c : ℕ) → eqb (getD xs c 0) x && eqb (getD xs (cornerAfter c) 0) y ≡ false
+    → lastWith x y xs (suc c) ≡ lastWith x y xs c
+unfolding lastWith
+with-no x y xs c e = rw (lastWith, e)
+
+module _ (x y : ℕ) (differ : x ≡ y → ⊥) (xs : List ℕ) (n : ℕ) where
+  p : ℕ
+  p = getD xs (3 * n) 0
+
+  q : ℕ
+  q = getD xs (3 * n + 1) 0
+
+  r : ℕ
+  r = getD xs (3 * n + 2) 0
+
+  three : (a : Across) → lastWith x y xs (3 * n) ≡ a
+      → lastWith x y xs (suc (3 * n + 2)) ≡ later n (inTriangle x y (triangleAt xs n)) a
+  unfolding inTriangle seenFrom p q r
+  three a h = go (eqb p x && eqb q y) refl (eqb q x && eqb r y) refl (eqb r x && eqb p y) refl
+    where
+      third-no : eqb r x && eqb p y ≡ false → lastWith x y xs (suc (3 * n + 2)) ≡ lastWith x y xs (suc (3 * n + 1))
+      third-no e =
+          let s : 3 * n + 2 ≡ suc (3 * n + 1) = omega arith in
+          with-no x y xs (3 * n + 2) (rw (after-third n) e) ∙ ap (lastWith x y xs) s
+
+      second-no : eqb q x && eqb r y ≡ false → lastWith x y xs (suc (3 * n + 1)) ≡ lastWith x y xs (suc (3 * n))
+      second-no e =
+          let s : 3 * n + 1 ≡ suc (3 * n) = omega arith in
+          with-no x y xs (3 * n + 1) (rw (after-second n) e) ∙ ap (lastWith x y xs) s
+
+      go : (i : Bool) → eqb p x && eqb q y ≡ i → (j : Bool) → eqb q x && eqb r y ≡ j → (k : Bool) → eqb r x && eqb p y ≡ k
+          → lastWith x y xs (suc (3 * n + 2)) ≡ later n (inTriangle x y (triangleAt xs n)) a
+      go true e true f k g = absurd (differ (sym (pair q r x y f .0) ∙ pair p q x y e .1))
+      go true e false f true g = absurd (differ (sym (pair p q x y e .0) ∙ pair r p x y g .1))
+      go true e false f false g =
+          let d : 3 * n / 3 ≡ n = omega arith in
+          let m : (3 * n + 2) % 3 ≡ 2 = omega arith in
+          third-no g ∙ second-no f ∙ with-yes x y xs (3 * n) (rw (after-first n) e) ∙ rw (inTriangle, e, before-first n, d, m)
+      go false e true f true g = absurd (differ (sym (pair r p x y g .0) ∙ pair q r x y f .1))
+      go false e true f false g =
+          let d : (3 * n + 1) / 3 ≡ n = omega arith in
+          let m : 3 * n % 3 ≡ 0 = omega arith in
+          third-no g ∙ with-yes x y xs (3 * n + 1) (rw (after-second n) f) ∙ rw (inTriangle, e, f, before-second n, d, m)
+      go false e false f true g =
+          let d : (3 * n + 2) / 3 ≡ n = omega arith in
+          let m : (3 * n + 1) % 3 ≡ 1 = omega arith in
+          with-yes x y xs (3 * n + 2) (rw (after-third n) g) ∙ rw (inTriangle, e, f, g, before-third n, d, m)
+      go false e false f false g =
+          third-no g ∙ second-no f ∙ with-no x y xs (3 * n) (rw (after-first n) e) ∙ h ∙ rw (inTriangle, e, f, g)
+
+pub with-across : (x y : ℕ) → (x ≡ y → ⊥) → (xs : List ℕ) (n : ℕ) → 3 * n ≤ length xs
+    → lastWith x y xs (3 * n) ≡ across x y (firstTriangles n xs)
+unfolding lastWith across trianglesOf
+with-across x y d xs zero h = refl
+with-across x y d xs (suc n) h =
+    let s : 3 * suc n ≡ suc (3 * n + 2) = omega arith in
+    ap (lastWith x y xs) s ∙ three x y d xs n (across x y (firstTriangles n xs)) (with-across x y d xs n (omega arith))
+    ∙ ap (λ (k : ℕ). later k (inTriangle x y (triangleAt xs n)) (across x y (firstTriangles n xs)))
+    (sym (length-first n xs (omega arith)))
+    ∙ sym (across-last x y (firstTriangles n xs) (triangleAt xs n)) ∙ ap (across x y) (sym (first-more n xs (omega arith)))
+
+-- the walk for x→y, whatever number of triangles the chains hold
+abbrev pub Walks : List ℕ → List ℕ → ℕ → ℕ → ℕ → Type 0
+Walks xs cs x y c = (n : ℕ) → Chains xs (3 * n) cs → At xs (3 * n) x y c
+
+module _ {xs cs : List ℕ} {x y : ℕ} where
+  pub walk-start : (c : ℕ) → Newest xs cs x c → Walks xs cs x y c
+  walk-start c h n k = subst (At xs (3 * n) x y) (sym (h .newest n k)) (at-latest xs (3 * n) (3 * n) x y (omega arith) refl)
+
+  pub walk-more : (c k d : ℕ) → Walks xs cs x y c → 0 < c → k ≡ cornerAfter (c - 1) → (getD xs k 0 ≡ y → ⊥) → Older cs (c - 1) d
+      → Walks xs cs x y d
+  walk-more c k d w l e f o n h =
+      let a = w n h in
+      at-more c d a l (λ q. f (ap (λ (i : ℕ). getD xs i 0) e ∙ q)) (o .older xs (3 * n) h (omega (arith, a .bound)))
+
+  pub walk-found : (c k : ℕ) (r : Across) → (x ≡ y → ⊥) → Walks xs cs x y c → 0 < c → k ≡ cornerAfter (c - 1) → getD xs k 0 ≡ y
+      → r ≡ seenFrom xs (c - 1)
+      → Finds xs cs x y r
+  walk-found c k r differ w l e f g = record {
+    itself = λ s. absurd (differ s);
+    found =
+        λ n h d.
+        g ∙ at-found c (w n h) l (ap (λ (i : ℕ). getD xs i 0) (sym e) ∙ f) ∙ with-across x y d xs n (h .within);
+  }
+
+  pub walk-none : (c : ℕ) → Walks xs cs x y c → c ≤ 0 → Finds xs cs x y Nothing
+  walk-none c w l = record {
+    itself = λ s. refl;
+    found = λ n h d. at-none c (w n h) l ∙ with-across x y d xs n (h .within);
+  }
+
+  pub finds-itself : x ≡ y → Finds xs cs x y Nothing
+  finds-itself s = record { itself = λ t. refl; found = λ n h d. absurd (d s) }
+
+-- the chains of a whole list
+pub linked-first : (xs cs : List ℕ) → Linked xs cs → firstTriangles (length xs / 3) xs ≡ trianglesOf xs
+linked-first xs cs k = first-all (length xs / 3) xs (k .sound .long)
+
+pub linked-found : (xs cs : List ℕ) → Linked xs cs → (x y : ℕ) (r : Across) → Finds xs cs x y r → (x ≡ y → ⊥)
+    → r ≡ across x y (trianglesOf xs)
+linked-found xs cs k x y r f d = f .found (length xs / 3) (k .chains) d ∙ ap (across x y) (linked-first xs cs k)

@@ -1,0 +1,13 @@
+pub mod About
+pub mod Accepted
+pub mod Checks
+pub mod Corners
+pub mod Counting
+pub mod Finding
+pub mod Neighbours
+pub mod Once
+pub mod OneFan
+pub mod OneRun
+pub mod Only
+pub mod Tests
+pub mod Turning

@@ -1,0 +1,4 @@
+pub mod Checks
+pub mod Corner
+pub mod Linked
+pub mod Turn

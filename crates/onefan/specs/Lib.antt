@@ -1,3 +1,0 @@
-pub mod Met
-pub mod Fanned
-pub mod OneFan

@@ -1,6 +1,0 @@
-pub mod Tests
-pub mod Walking
-pub mod Writing
-pub mod Marking
-pub mod Rings
-pub mod Opening

@@ -1,1 +1,0 @@
-// The way from a builder's state to the core's: definitions and theorems.

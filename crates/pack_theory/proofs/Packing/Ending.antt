@@ -1,0 +1,373 @@
+-- The whole packing of an accepted list: where it begins, and what its end says of the pack of the rules.
+-- Assumes nothing.
+use Prim.Native.Nat.{ℕ, zero, suc, _+_, _-_, _*_, _/_, _≤_, _<_}
+use native.Mathlib.Omega.{arith}
+use mathlib.Core.Bool.{Bool, true, false, _&&_}
+use mathlib.Core.List.{List, [], _++_}
+use mathlib.Core.Path.{_≡_, refl, sym, ap, ap₂, _∙_, subst}
+use lib.ListN.{length, drop, replicate, length-replicate, drop-of-length-le}
+use lib.Dec.{leb}
+use borrow.Author.Tests.{leb-true, le-leb, lt-leb}
+use Rattle.rules.specs.declared.Counts.{Counts}
+use Rattle.rules.specs.declared.Packed.{Packed}
+use Rattle.rules.specs.declared.Checked.{Checked}
+use Rattle.rules.specs.declared.Checked.the-variants as C
+use Rattle.rules.specs.declared.Packed.the-variants as P
+use Rattle.rules.specs.declared.Operation.{Operation}
+use Rattle.rules.specs.Limits.{maxPlaces, maxTriangles}
+use Rattle.rules.specs.Triangle.{trianglesOf}
+use Rattle.rules.specs.Check.{check}
+use Rattle.rules.specs.Answer.{refusal, packed, packedAnswer}
+use Rattle.rules.specs.Buffer.{zeroed}
+use Rattle.rules.specs.Choice.{Packing, has}
+use Rattle.rules.specs.Pack.{Chosen, stopped, chosen, chooseAll, most, nothingBuilt, chosenFor, packOf, newNumbers, PackResult, packRefused}
+use Rattle.rules.specs.Pack.{packDone, packChosen, packLongEnough, turnedDown, packChecked}
+use Rattle.mesh_theory.proofs.Fans.Checks.{check-accepted}
+use Rattle.wire_theory.specs.Buffer.{bytesFor}
+use Rattle.mesh_theory.specs.Chains.Linked.{Linked}
+use Rattle.choice_theory.proofs.Runs.Whole as whole
+use Rattle.choice_theory.proofs.Runs.Whole.{Complete, fits-begin, complete-all}
+use Rattle.choice_theory.proofs.Runs.Accepted.{accepted-packable, accepted-packs}
+use Rattle.roundtrip.proofs.Fitting.{accepted-count, between-of}
+use Rattle.cutborder.specs.declared.Front.{Front}
+use Rattle.border_theory.specs.Memory.Fresh.{allFree, freshFront}
+use Rattle.border_theory.specs.Memory.Keeps.{Roomy}
+use Rattle.border_theory.proofs.Memory.Fresh.{free-length, fresh-keeps}
+use Rattle.pack_theory.specs.Choosing.Choosable.{flagOf}
+use Rattle.cutborder.specs.declared.Course.{Course}
+use Rattle.cutborder.specs.declared.Ran.{Ran}
+use Rattle.cutborder.specs.declared.Ran.the-variants.{Refused, Ended}
+use Rattle.pack_theory.specs.Packing.Numbers.{entries}
+use Rattle.pack_theory.specs.Packing.Doing.{statedFor, Standing}
+use Rattle.pack_theory.specs.Packing.Course.{Holds, Held}
+use Rattle.pack_theory.specs.Packing.Writing.{Writes}
+use Rattle.pack_theory.specs.Packing.Steps.{Beyond, Ends, RunOf}
+use Rattle.pack_theory.specs.Packing.Finish.{countsAt, answerIf, finishAnswer, numbersIf, finishNumbers, packIf, finishPack, Sized}
+use Rattle.pack_theory.specs.Packing.Lent.{lent, packOn, PackedOn, Fitting, RunGives}
+use Rattle.pack_theory.proofs.Packing.Numbers.{entries-length, entries-none, entries-all}
+use Rattle.pack_theory.proofs.Packing.Flags.{unbuilt-all}
+use Rattle.pack_theory.proofs.Packing.Writing.{pack-length, pack-written}
+use Rattle.pack_theory.proofs.Packing.Stepping.{holds-beyond}
+use Rattle.counting.proofs.Bools.{and-true}
+
+-- ---- the beginning
+
+flags-none : (n i : ℕ) → flagOf (replicate n 0) i ≡ 0
+flags-none zero i = refl
+flags-none (suc n) zero = refl
+flags-none (suc n) (suc i) = flags-none n i
+
+module _ (v : ℕ) (xs cs ns m : List ℕ) (h : Fitting v xs cs ns m) (k : ℕ) (ek : k ≡ length xs / 3) where
+  triangles : (3 * length (trianglesOf xs) ≡ length xs) × (1 ≤ length (trianglesOf xs)) × (length (trianglesOf xs) ≤ maxTriangles)
+  triangles = accepted-count v xs (h .accepted)
+
+  pub count-is : k ≡ length (trianglesOf xs)
+  count-is = omega (arith, ek, triangles .0)
+
+  vertices : (3 ≤ v) × (v ≤ 4096)
+  vertices =
+      let p = check-accepted v xs .0 (h .accepted) .range in
+      let r = and-true (leb 3 v) (leb v 4096) p in
+      (leb-true 3 v (r .0), leb-true v 4096 (r .1))
+
+  pub few-counts : (v ≤ 4096) × (k ≤ 8192)
+  few-counts = (vertices .1, omega (arith, count-is, triangles .2))
+
+  module _ (c : Counts) (ec : c ≡ statedFor v k) (f : Front) (ef : f ≡ freshFront maxPlaces c) (m′ : List ℕ)
+      (em : m′ ≡ allFree maxPlaces m maxPlaces)
+      (ns′ : List ℕ) (en : ns′ ≡ replicate v 65535 ++ drop v ns) where
+    start : Course
+    start = record { front = f; given = 0; lowest = 0 }
+
+    roomy : Roomy maxPlaces (freshFront maxPlaces c) m
+    roomy = record {
+      few = omega arith;
+      enough = omega (arith, ap (λ (x : Counts). x .places) ec);
+      long = omega (arith, h .whole, ap (λ (x : Counts). x .loops) ec);
+    }
+
+    standing-fresh : Standing v (length (trianglesOf xs)) (freshFront maxPlaces c) (allFree maxPlaces m maxPlaces) [] 0 0
+    standing-fresh =
+        let kp = fresh-keeps maxPlaces c m roomy in
+        record {
+          vertices = between-of 3 v 4096 (vertices .0) (vertices .1);
+          triangles = between-of 1 (length (trianglesOf xs)) maxTriangles (triangles .1) (triangles .2);
+          stated = ec ∙ ap (statedFor v) count-is;
+          built = omega arith;
+          whole = free-length maxPlaces m maxPlaces ∙ h .whole;
+          stands = kp .stands;
+          loops = kp .loops;
+          few = omega arith;
+          places = refl;
+          most = refl;
+          few-places = omega arith;
+          few-loops = omega arith;
+        }
+
+    pub begin-holds : Holds v xs (nothingBuilt most (trianglesOf xs)) (record { front = f; given = 0; lowest = 0 })
+        (replicate maxTriangles 0) ns′ (drop v ns) m′
+    begin-holds = record {
+      accepted = h .accepted;
+      built = [];
+      rims = [];
+      fits = fits-begin most (trianglesOf xs) (accepted-packable v xs (h .accepted) .once);
+      mesh = refl;
+      limit-places = refl;
+      limit-loops = refl;
+      left = sym (unbuilt-all (replicate maxTriangles 0) 0 (trianglesOf xs) (flags-none maxTriangles));
+      lowest = λ i l e. omega (arith, l);
+      before = omega arith;
+      flags = length-replicate {A = ℕ} maxTriangles 0;
+      numbers = en ∙ ap (λ (l : List ℕ). l ++ drop v ns) (sym (entries-none v));
+      given = refl;
+      few = omega arith;
+      count = omega (arith, ap (λ (x : Front). x .built) ef);
+      standing =
+          subst (λ (x : Front). Standing v (length (trianglesOf xs)) x m′ [] 0 0) (sym ef)
+          (subst (λ (w : List ℕ). Standing v (length (trianglesOf xs)) (freshFront maxPlaces c) w [] 0 0) (sym em) standing-fresh);
+    }
+
+    pub begin-held : Held xs cs (record { front = f; given = 0; lowest = 0 }) (replicate maxTriangles 0) ns′ m′
+    begin-held = record {
+      linked = h .linked;
+      vertices = v;
+      packing = nothingBuilt most (trianglesOf xs);
+      rest = drop v ns;
+      holds = begin-holds;
+    }
+
+-- ---- the end
+
+ends-sized : (v : ℕ) (xs : List ℕ) (c : Chosen) (budget : ℕ) (buffer : List ℕ) (end : Ran) (fs ns rest buffer′ m : List ℕ)
+    → Ends v xs c budget buffer end fs ns rest buffer′ m → budget ≤ 32769 → Sized end
+ends-sized v xs c budget buffer (Refused k) fs ns rest buffer′ m e b = tt
+ends-sized v xs c budget buffer (Ended t at) fs ns rest buffer′ m e b = (omega (arith, e .writes .position), omega (arith, e .near, b))
+
+zeroed-all : (bs bs′ : List ℕ) → length bs′ ≡ length bs → zeroed (length bs′) bs′ ≡ zeroed (length bs) bs
+zeroed-all bs bs′ e =
+    ap (λ (l : List ℕ). replicate (length bs′) 0 ++ l) (drop-of-length-le bs′ {i = length bs′} (omega arith))
+    ∙ ap (λ (n : ℕ). replicate n 0 ++ []) e
+    ∙ sym (ap (λ (l : List ℕ). replicate (length bs) 0 ++ l) (drop-of-length-le bs {i = length bs} (omega arith)))
+
+zeroed-front : (v : ℕ) (ns ns′ rest : List ℕ) → rest ≡ drop v ns → Beyond v ns′ rest → zeroed v ns′ ≡ zeroed v ns
+zeroed-front v ns ns′ rest e b = ap (λ (l : List ℕ). replicate v 0 ++ l) (b .past ∙ e)
+
+new-length : (v : ℕ) (vs : List ℕ) → entries v vs ≡ newNumbers v vs → length (newNumbers v vs) ≡ v
+new-length v vs e = ap length (sym e) ∙ entries-length v vs
+
+-- every vertex of a complete packing has a number
+all-numbered : (v : ℕ) (xs : List ℕ) (os : List Operation) (s : Packing) → check v xs ≡ C.Accepted
+    → chosenFor most (trianglesOf xs) ≡ chosen os s
+    → (x : ℕ) → x < v → has x (s .numbered) ≡ true
+unfolding whole.Ends
+all-numbered v xs os s a e x l =
+    let c : Complete (nothingBuilt most (trianglesOf xs)) [] [] [] os s =
+    subst (whole.Ends (nothingBuilt most (trianglesOf xs)) [] [] []) e (accepted-packs most v xs a) in
+    let q = accepted-packable v xs a .met x l in
+    c .fits .numbers .numbered x (q .0, q .1, complete-all most (trianglesOf xs) os s c x (q .0) (q .1) (q .2))
+
+module _ (v : ℕ) (xs ns bs : List ℕ) (a : check v xs ≡ C.Accepted) (n : ℕ) where
+  result : Chosen → PackResult
+  result c = packChosen v (trianglesOf xs) (lent n ns bs) c
+
+  -- refused by 9 or 10
+  module _ (j : ℕ) (ns′ bs′ : List ℕ) (b : Beyond v ns′ (drop v ns)) (l : length bs′ ≡ length bs) where
+    stop-answer : refusal j ≡ result (stopped j) .answer
+    unfolding result packChosen
+    stop-answer = refl
+
+    stop-numbers : zeroed v ns′ ≡ result (stopped j) .buffers .numbering
+    unfolding result packChosen
+    stop-numbers = zeroed-front v ns ns′ (drop v ns) refl b
+
+    stop-pack : zeroed (length bs′) bs′ ≡ result (stopped j) .buffers .pack
+    unfolding result packChosen
+    stop-pack = zeroed-all bs bs′ l
+
+  -- ended, with 11 to be tested
+  module _ (os : List Operation) (s : Packing) (e : chosenFor most (trianglesOf xs) ≡ chosen os s) (t : Course) (at : ℕ)
+      (fs ns′ bs′ m′ : List ℕ)
+      (h : Holds v xs s t fs ns′ (drop v ns) m′) (w : Writes os bs bs′ at) where
+    counts : Counts
+    counts = record { vertices = v; triangles = length (trianglesOf xs); places = s .mostPlaces; loops = s .mostLoops }
+
+    same-counts : countsAt v (length (trianglesOf xs)) t ≡ counts
+    unfolding counts
+    same-counts =
+        ap₂ (λ (p q : ℕ). record { vertices = v; triangles = length (trianglesOf xs); places = p; loops = q }) (sym (h .standing .places))
+        (sym (h .standing .most))
+
+    bytes : List ℕ
+    bytes = packOf v (trianglesOf xs) os s
+
+    long : length bytes ≡ bytesFor at
+    unfolding bytes
+    long = pack-length os bs bs′ at _ w
+
+    numbers-are : entries v (s .numbered) ≡ newNumbers v (s .numbered)
+    numbers-are = entries-all v (s .numbered) (all-numbered v xs os s a e)
+
+    by : (b : Bool) → leb (bytesFor at) (length bs′) ≡ b
+        → (packedAnswer (answerIf b (bytesFor at)) ≡ result (chosen os s) .answer)
+        × ((numbersIf b v ns′ ≡ result (chosen os s) .buffers .numbering)
+        × (packIf b (countsAt v (length (trianglesOf xs)) t) (bytesFor at - 14) bs′ ≡ result (chosen os s) .buffers .pack))
+    unfolding result packChosen bytes counts
+    by true q =
+        let z : leb (length bytes) (length bs) ≡ true = ap₂ leb long (sym (w .lengths)) ∙ q in
+        let eq : result (chosen os s) ≡ packDone (newNumbers v (s .numbered)) bytes (lent n ns bs) =
+        ap (λ (x : Bool). elim x
+        [ true ↦ packDone (newNumbers v (s .numbered)) bytes (lent n ns bs) | false ↦ packRefused 11 v (lent n ns bs) ]) z in (
+          ap packed (sym long) ∙ sym (ap (λ (p : PackResult). p .answer) eq),
+          (
+            h .numbers ∙ ap₂ (λ (l : List ℕ) (k : ℕ). l ++ drop k ns) numbers-are (sym (new-length v (s .numbered) numbers-are))
+                ∙ sym (ap (λ (p : PackResult). p .buffers .numbering) eq),
+            ap (λ (c : Counts). packIf true c (bytesFor at - 14) bs′) same-counts
+                ∙ pack-written os bs bs′ at (bytesFor at - 14) counts w (leb-true (bytesFor at) (length bs′) q) refl
+                ∙ sym (ap (λ (p : PackResult). p .buffers .pack) eq),
+          ),
+        )
+    by false q =
+        let z : leb (length bytes) (length bs) ≡ false = ap₂ leb long (sym (w .lengths)) ∙ q in
+        let eq : result (chosen os s) ≡ packRefused 11 v (lent n ns bs) =
+        ap (λ (x : Bool). elim x
+        [ true ↦ packDone (newNumbers v (s .numbered)) bytes (lent n ns bs) | false ↦ packRefused 11 v (lent n ns bs) ]) z in (
+          sym (ap (λ (p : PackResult). p .answer) eq),
+          (
+            zeroed-front v ns ns′ (drop v ns) refl (holds-beyond v xs s t fs ns′ (drop v ns) m′ h)
+                ∙ sym (ap (λ (p : PackResult). p .buffers .numbering) eq),
+            zeroed-all bs bs′ (w .lengths) ∙ sym (ap (λ (p : PackResult). p .buffers .pack) eq),
+          ),
+        )
+
+  -- what the end of the run says
+  ending : (end : Ran) (budget : ℕ) (fs ns′ bs′ m′ : List ℕ)
+      → Ends v xs (chosenFor most (trianglesOf xs)) budget bs end fs ns′ (drop v ns) bs′ m′
+      → length bs′ ≡ length bs
+      → (packedAnswer (finishAnswer end (length bs′)) ≡ result (chosenFor most (trianglesOf xs)) .answer)
+      × ((finishNumbers end v (length bs′) ns′ ≡ result (chosenFor most (trianglesOf xs)) .buffers .numbering)
+      × (finishPack end v (length (trianglesOf xs)) bs′ ≡ result (chosenFor most (trianglesOf xs)) .buffers .pack))
+  ending (Refused j) budget fs ns′ bs′ m′ (q, b) l = (
+    stop-answer j ns′ bs′ b l ∙ sym (ap (λ (c : Chosen). result c .answer) q),
+    (
+      stop-numbers j ns′ bs′ b l ∙ sym (ap (λ (c : Chosen). result c .buffers .numbering) q),
+      stop-pack j ns′ bs′ b l ∙ sym (ap (λ (c : Chosen). result c .buffers .pack) q),
+    ),
+  )
+  ending (Ended t at) budget fs ns′ bs′ m′ e l =
+      let r = by (e .operations) (e .last) (e .ran) t at fs ns′ bs′ m′ (e .holds) (e .writes) (leb (bytesFor at) (length bs′)) refl in (
+        r .0 ∙ sym (ap (λ (c : Chosen). result c .answer) (e .ran)),
+        (
+          r .1 .0 ∙ sym (ap (λ (c : Chosen). result c .buffers .numbering) (e .ran)),
+          r .1 .1 ∙ sym (ap (λ (c : Chosen). result c .buffers .pack) (e .ran)),
+        ),
+      )
+
+-- ---- the run and its end, as the code has them
+
+module _ (v : ℕ) (xs cs ns m : List ℕ) (h : Fitting v xs cs ns m) (k : ℕ) (ek : k ≡ length xs / 3) (c : Counts) (ec : c ≡ statedFor v k)
+    (f : Front)
+    (ef : f ≡ freshFront maxPlaces c) (m′ : List ℕ) (em : m′ ≡ allFree maxPlaces m maxPlaces) (ns′ : List ℕ)
+    (en : ns′ ≡ replicate v 65535 ++ drop v ns)
+    (bs : List ℕ) (end : Ran) (fs″ ns″ bs″ m″ : List ℕ)
+    (run : RunOf xs (4 * k + 1) (record { front = f; given = 0; lowest = 0 }) (replicate maxTriangles 0) ns′ bs m′ end fs″ ns″ bs″ m″) where
+  is : k ≡ length (trianglesOf xs)
+  is = count-is v xs cs ns m h k ek
+
+  ends : Ends v xs (chosenFor most (trianglesOf xs)) (4 * k + 1) bs end fs″ ns″ (drop v ns) bs″ m″
+  ends =
+      subst (λ (i : ℕ). Ends v xs (chooseAll (4 * i + 1) (nothingBuilt most (trianglesOf xs))) (4 * k + 1) bs end fs″ ns″ (drop v ns) bs″
+      m″) is
+      (run v (nothingBuilt most (trianglesOf xs)) (drop v ns) (begin-holds v xs cs ns m h k ek c ec f ef m′ em ns′ en))
+
+  pub run-sized : Sized end
+  run-sized = ends-sized v xs (chosenFor most (trianglesOf xs)) (4 * k + 1) bs end fs″ ns″ (drop v ns) bs″ m″ ends
+      (omega (arith, few-counts v xs cs ns m h k ek .1))
+
+  pub run-enough : v ≤ length ns″
+  run-enough = go end ends
+    where
+      go : (e : Ran) → Ends v xs (chosenFor most (trianglesOf xs)) (4 * k + 1) bs e fs″ ns″ (drop v ns) bs″ m″ → v ≤ length ns″
+      go (Refused j) (q, b) = b .enough
+      go (Ended t at) e = holds-beyond v xs (e .last) t fs″ ns″ (drop v ns) m″ (e .holds) .enough
+
+  pub run-gives : length bs″ ≡ length bs → (r : Packed) → r ≡ finishAnswer end (length bs″) → (ns‴ : List ℕ)
+      → ns‴ ≡ finishNumbers end v (length bs″) ns″
+      → (bs‴ : List ℕ) → bs‴ ≡ finishPack end v k bs″ → RunGives v xs ns bs r ns‴ bs‴
+  unfolding result
+  run-gives l r er ns‴ en‴ bs‴ eb = record {
+    answer = λ n. ap packedAnswer er ∙ ending v xs ns bs (h .accepted) n end (4 * k + 1) fs″ ns″ bs″ m″ ends l .0;
+    numbering = λ n. en‴ ∙ ending v xs ns bs (h .accepted) n end (4 * k + 1) fs″ ns″ bs″ m″ ends l .1 .0;
+    bytes = λ n. eb ∙ ap (λ (i : ℕ). finishPack end v i bs″) is
+        ∙ ending v xs ns bs (h .accepted) n end (4 * k + 1) fs″ ns″ bs″ m″ ends l .1 .1;
+  }
+
+-- ---- any list, in any buffers
+
+module _ (v : ℕ) (xs ns bs : List ℕ) (n : ℕ) (r : Checked) (e : r ≡ check v xs) where
+  -- 1 to 7
+  pub packed-unfit : (k : ℕ) → r ≡ C.Refused k → (p : Packed) → p ≡ P.Refused k → PackedOn v xs ns bs n p ns bs
+  unfolding packChecked
+  packed-unfit k q p ep =
+      let z : check v xs ≡ C.Refused k = sym e ∙ q in
+      record {
+        answer = ap packedAnswer ep ∙ sym (ap (λ (c : Checked). packChecked most v (trianglesOf xs) (lent n ns bs) c .answer) z);
+        numbering = sym (ap (λ (c : Checked). packChecked most v (trianglesOf xs) (lent n ns bs) c .buffers .numbering) z);
+        bytes = sym (ap (λ (c : Checked). packChecked most v (trianglesOf xs) (lent n ns bs) c .buffers .pack) z);
+      }
+
+  module _ (q : r ≡ C.Accepted) where
+    accepted : check v xs ≡ C.Accepted
+    accepted = sym e ∙ q
+
+    -- 8
+    packed-short : leb v (length ns) && leb maxPlaces n ≡ false → PackedOn v xs ns bs n (P.Refused 8) ns bs
+    unfolding packChecked
+    packed-short z =
+        let z′ : packLongEnough v (lent n ns bs) ≡ false =
+        ap (λ (i : ℕ). leb v (length ns) && leb maxPlaces i) (length-replicate n _) ∙ z in
+        let w : packOn v xs n ns bs ≡ turnedDown 8 (lent n ns bs) =
+        ap (packChecked most v (trianglesOf xs) (lent n ns bs)) accepted
+        ∙ ap (λ (b : Bool). elim b
+        [ true ↦ packChosen v (trianglesOf xs) (lent n ns bs) (chosenFor most (trianglesOf xs)) | false ↦ turnedDown 8 (lent n ns bs) ])
+        z′ in
+        record {
+          answer = sym (ap (λ (p : PackResult). p .answer) w);
+          numbering = sym (ap (λ (p : PackResult). p .buffers .numbering) w);
+          bytes = sym (ap (λ (p : PackResult). p .buffers .pack) w);
+        }
+
+    pub packed-few : length ns < v → PackedOn v xs ns bs n (P.Refused 8) ns bs
+    packed-few l = packed-short (ap (λ (b : Bool). b && leb maxPlaces n) (lt-leb v (length ns) l))
+
+    pub packed-list : v ≤ length ns → n < 1024 → PackedOn v xs ns bs n (P.Refused 8) ns bs
+    packed-list l k = packed-short (ap₂ _&&_ (le-leb v (length ns) l) (lt-leb maxPlaces n k))
+
+    module _ (enough : v ≤ length ns) (many : 1024 ≤ n) where
+      pub packed-fitting : (cs m : List ℕ) → Linked xs cs → length m ≡ 5320 → Fitting v xs cs ns m
+      packed-fitting cs m l w = record { accepted = accepted; linked = l; enough = enough; whole = w }
+
+      pub packed-ran : (p : Packed) (ns′ bs′ : List ℕ) → RunGives v xs ns bs p ns′ bs′ → PackedOn v xs ns bs n p ns′ bs′
+      unfolding packChecked
+      packed-ran p ns′ bs′ g =
+          let z : leb v (length ns) && leb maxPlaces n ≡ true = ap₂ _&&_ (le-leb v (length ns) enough) (le-leb maxPlaces n many) in
+          let z′ : packLongEnough v (lent n ns bs) ≡ true =
+          ap (λ (i : ℕ). leb v (length ns) && leb maxPlaces i) (length-replicate n _) ∙ z in
+          let w : packOn v xs n ns bs ≡ packChosen v (trianglesOf xs) (lent n ns bs) (chosenFor most (trianglesOf xs)) =
+          ap (packChecked most v (trianglesOf xs) (lent n ns bs)) accepted
+          ∙ ap (λ (b : Bool). elim b [
+            | true ↦ packChosen v (trianglesOf xs) (lent n ns bs) (chosenFor most (trianglesOf xs))
+            | false ↦
+                turnedDown 8 (lent n ns bs)
+          ]) z′ in
+          record {
+            answer = g .answer n ∙ sym (ap (λ (x : PackResult). x .answer) w);
+            numbering = g .numbering n ∙ sym (ap (λ (x : PackResult). x .buffers .numbering) w);
+            bytes = g .bytes n ∙ sym (ap (λ (x : PackResult). x .buffers .pack) w);
+          }
+
+-- a list's refusal is passed up
+pub checked-same : (c : Checked) (j k : ℕ) → c ≡ C.Refused j → c ≡ C.Refused k → P.Refused j ≡ P.Refused k
+checked-same c j k p q = cc
+
+pub checked-other : (c : Checked) (r : Packed) (k : ℕ) → c ≡ C.Accepted → c ≡ C.Refused k → r ≡ P.Refused k
+checked-other c r k p q = let z : _≡_ {A = ℕ} 0 1 = cc in absurd (omega arith)

@@ -1,0 +1,4 @@
+pub mod Choosable
+pub mod Places
+pub mod Seeking
+pub mod Turning

@@ -1,0 +1,7 @@
+pub mod Course
+pub mod Doing
+pub mod Finish
+pub mod Lent
+pub mod Numbers
+pub mod Steps
+pub mod Writing

@@ -1,1 +1,0 @@
-// A building operation on the plain memory: no code. What its core promises, and the laws of each way through it.

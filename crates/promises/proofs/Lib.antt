@@ -1,0 +1,3 @@
+pub mod BuildersBook
+pub mod Kept
+pub mod OpenEdges

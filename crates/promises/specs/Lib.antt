@@ -1,0 +1,2 @@
+pub mod BuildersBook
+pub mod Promises

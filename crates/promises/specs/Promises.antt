@@ -1,0 +1,63 @@
+-- What the service's six calls promise, on one page: the functions of the crate service cite these, and demand 3 rests on the last
+-- three. Each says the answer, and what every lent buffer holds afterwards, accepted and refused alike.
+-- Assumes nothing.
+use Prim.Native.Nat.{ℕ}
+use mathlib.Core.List.{List}
+use mathlib.Core.Path.{_≡_}
+use Rattle.rules.specs.declared.Counts.{Counts}
+use Rattle.rules.specs.declared.Operation.{Operation}
+use Rattle.rules.specs.declared.Place.{Place}
+use Rattle.rules.specs.declared.Builder.{Builder}
+use Rattle.rules.specs.declared.Checked.{Checked}
+use Rattle.rules.specs.declared.Packed.{Packed}
+use Rattle.rules.specs.declared.Unpacked.{Unpacked}
+use Rattle.rules.specs.declared.Begun.{Begun}
+use Rattle.rules.specs.declared.Performed.{Performed}
+use Rattle.rules.specs.declared.Finished.{Finished}
+use Rattle.rules.specs.Answer.{checkedAnswer, packedAnswer, unpackedAnswer, begunAnswer, operatedAnswer, finishedAnswer}
+use Rattle.rules.specs.Book.{answerOf}
+use Rattle.rules.specs.Buffer.{Buffers}
+use Rattle.rules.specs.Check.{checks}
+use Rattle.rules.specs.Pack.{PackBuffers, pack}
+use Rattle.rules.specs.Unpack.{unpack}
+use Rattle.rules.specs.Build.{begins, operates, finishes, Begins, OperatedBy}
+
+-- the triangle buffer and the place list that a call is lent
+abbrev pub lentTo : List ℕ → List Place → Buffers
+lentTo ts ps = record { triangles = ts; places = ps }
+
+-- the numbering buffer, the pack buffer and the place list that a packing is lent
+abbrev pub packingBuffers : List ℕ → List ℕ → List Place → PackBuffers
+packingBuffers ns bs ps = record { numbering = ns; places = ps; pack = bs }
+
+-- a check of the list xs for a model of v vertices: its answer; the list is only read
+pub record Checking (v : ℕ) (xs : List ℕ) (r : Checked) : Type 0 where
+  pub answer : checkedAnswer r ≡ checks v xs
+
+-- a packing: its answer, and the three buffers afterwards
+pub record Packs (v : ℕ) (xs ns bs : List ℕ) (ps : List Place) (r : Packed) (ns′ bs′ : List ℕ) (ps′ : List Place) : Type 0 where
+  pub answer : packedAnswer r ≡ pack v xs (packingBuffers ns bs ps) .answer
+  pub numbering : ns′ ≡ pack v xs (packingBuffers ns bs ps) .buffers .numbering
+  pub bytes : bs′ ≡ pack v xs (packingBuffers ns bs ps) .buffers .pack
+  pub places : ps′ ≡ pack v xs (packingBuffers ns bs ps) .buffers .places
+
+-- an unpacking: its answer, and both buffers afterwards
+pub record Unpacks (bytes ts : List ℕ) (ps : List Place) (r : Unpacked) (ts′ : List ℕ) (ps′ : List Place) : Type 0 where
+  pub answer : unpackedAnswer r ≡ unpack bytes (lentTo ts ps) .answer
+  pub triangles : ts′ ≡ unpack bytes (lentTo ts ps) .buffers .triangles
+  pub places : ps′ ≡ unpack bytes (lentTo ts ps) .buffers .places
+
+-- a beginning with the counts s: its answer, and the state and both buffers afterwards
+pub record Beginning (s : Counts) (ts : List ℕ) (ps : List Place) (r : Begun) (ts′ : List ℕ) (ps′ : List Place) : Type 0 where
+  pub answer : begunAnswer r ≡ answerOf (begins (lentTo ts ps) s)
+  pub after : Begins (lentTo ts ps) s r (lentTo ts′ ps′)
+
+-- an operation on the state b: the same
+pub record Operating (b : Builder) (o : Operation) (ts : List ℕ) (ps : List Place) (r : Performed) (ts′ : List ℕ) (ps′ : List Place) : Type
+    0 where
+  pub answer : operatedAnswer (r .answer) ≡ answerOf (operates b (lentTo ts ps) o)
+  pub after : OperatedBy b (lentTo ts ps) o (operates b (lentTo ts ps) o) (r .state) (lentTo ts′ ps′)
+
+-- a finish: its answer; it changes nothing, for both buffers are only read
+pub record Finishing (b : Builder) (ts : List ℕ) (ps : List Place) (r : Finished) : Type 0 where
+  pub answer : finishedAnswer r ≡ answerOf (finishes b (lentTo ts ps))

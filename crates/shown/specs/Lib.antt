@@ -1,3 +1,0 @@
-pub mod Shown
-pub mod Spaced
-pub mod Effects

@@ -1,1 +1,0 @@
-// Loops without the places that nobody can reach: definitions and laws only.

@@ -1,0 +1,5 @@
+pub mod Beginning
+pub mod Fans
+pub mod Finish
+pub mod Lifting
+pub mod Turning

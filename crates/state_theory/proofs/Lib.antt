@@ -1,0 +1,4 @@
+pub mod Finishing
+pub mod Opening
+pub mod Performing
+pub mod Reading

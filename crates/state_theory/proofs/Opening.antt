@@ -1,0 +1,6 @@
+pub mod Marking
+pub mod Passed
+pub mod Rings
+pub mod Tests
+pub mod Walking
+pub mod Writing

@@ -1,0 +1,10 @@
+pub mod Alike
+pub mod Closing
+pub mod Current
+pub mod Flags
+pub mod Lifting
+pub mod Records
+pub mod Rings
+pub mod Sound
+pub mod Trails
+pub mod Walks

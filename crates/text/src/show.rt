@@ -1,0 +1,51 @@
+// What the programs print.
+use crate::streams::Output;
+use rules::Model;
+use rules::Unpacked;
+
+// Prints a refusal by its number.
+pub fn print_refusal(out: Output, n: u8) -> Output {
+    out.bytes(b"refused ").number(n as u16, b'\n')
+}
+
+// Writes the triangles of a buffer, a line for each.
+fn print_triangles(start: Output, triangles: &[u16]) -> Output {
+    let mut out = start;
+    let mut i = 0;
+    while i < triangles.len() {
+        let end = if i % 3 == 2 { b'\n' } else { b' ' };
+        out = out.number(triangles[i], end);
+        i += 1;
+    }
+    out
+}
+
+fn print_counts(start: Output, m: Model) -> Output {
+    let t = m.totals;
+    let out = start
+        .bytes(b"model ")
+        .number(m.vertices, b' ')
+        .number(m.triangles, b' ');
+    out.number(t.edges, b' ')
+        .number(t.rims, b' ')
+        .number(t.unions, b'\n')
+}
+
+// Prints what an unpacking answered, with the triangles that it wrote.
+pub fn print_unpacked(out: Output, r: Unpacked, triangles: &[u16]) -> Output {
+    let Unpacked::Model(m) = r else {
+        return print_refused(out, r);
+    };
+    let n = 3 * (m.triangles as usize);
+    if triangles.len() < n {
+        return out;
+    }
+    print_triangles(print_counts(out, m), &triangles[..n])
+}
+
+fn print_refused(out: Output, r: Unpacked) -> Output {
+    match r {
+        Unpacked::Model(_) => out,
+        Unpacked::Refused(n) => print_refusal(out, n),
+    }
+}

@@ -1,0 +1,99 @@
+// Reading and writing whose failures are noticed: each gets a line on standard error.
+use libc::STDERR_FILENO;
+use libc::STDOUT_FILENO;
+ghost use Prim.Native.Nat.{_≤_};
+ghost use lib.ListN.{length};
+ghost use Rattle.text.specs.Reads.{Fills};
+
+// Up to where a buffer is filled; or a read failed, which is not the end of the input.
+pub enum Read {
+    To(usize),
+    Failed,
+}
+
+// Reads once, into a buffer that is filled up to some position. Where it is filled no further the input has ended, or the buffer is
+// full.
+pub fn read_more(fd: i32, buffer: &mut [u8], from: usize) -> Read
+    requires { ⌜ from ≤ length (now buffer) ⌝ }
+    ensures { λ r. ⌜ Fills r from (now (buffer .exit)) ⌝ }
+{
+    let got = libc::read(fd, &mut buffer[from..]);
+    if got < 0 {
+        return Read::Failed;
+    }
+    let n = io::count(got, &buffer[from..]);
+    Read::To(from + n)
+}
+
+// Reads until the buffer is full or the input ends.
+pub fn read_full(fd: i32, buffer: &mut [u8]) -> Read
+    ensures { λ r. ⌜ Fills r 0 (now (buffer .exit)) ⌝ }
+{
+    let mut done = 0;
+    while done < buffer.len() {
+        let r = read_more(fd, buffer, done);
+        let Read::To(n) = r else {
+            return Read::Failed;
+        };
+        if n == done {
+            return Read::To(n);
+        }
+        done = n;
+    }
+    Read::To(done)
+}
+
+// Says on standard error what a program cannot do; the system tells why, of the call that failed last.
+pub fn say_failed(program: &[u8], what: &[u8]) {
+    io::write_all(STDERR_FILENO, program);
+    io::write_all(STDERR_FILENO, b": ");
+    os::fail(what);
+}
+
+// Says on standard error why a program stops, or what it leaves out.
+pub fn say(program: &[u8], line: &[u8]) {
+    io::write_all(STDERR_FILENO, program);
+    io::write_all(STDERR_FILENO, b": ");
+    io::write_all(STDERR_FILENO, line);
+    io::write_all(STDERR_FILENO, b"\n");
+}
+
+// Standard output: whether a write has failed, after which nothing more is written.
+pub struct Output {
+    pub failed: bool,
+}
+
+impl Output {
+    pub fn fresh() -> Output {
+        Output { failed: false }
+    }
+
+    pub fn bytes(self, text: &[u8]) -> Output {
+        if self.failed {
+            return self;
+        }
+        let written = io::write_all(STDOUT_FILENO, text);
+        Output { failed: !written }
+    }
+
+    // Writes a number in decimal.
+    pub fn decimal(self, n: u64) -> Output {
+        let mut text = [0u8; 20];
+        let k = io::decimal(n, &mut text);
+        self.bytes(&text[..k])
+    }
+
+    // Writes a number and the byte after it.
+    pub fn number(self, n: u16, end: u8) -> Output {
+        let mut text = [0u8; 1];
+        text[0] = end;
+        self.decimal(n as u64).bytes(&text)
+    }
+
+    // Says so if a write failed. No other call may stand between, for the system's reason is that of the last call that failed.
+    pub fn end(self, program: &[u8]) {
+        if self.failed {
+            say_failed(program, b"cannot write standard output");
+        }
+    }
+}

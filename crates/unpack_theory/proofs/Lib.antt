@@ -1,0 +1,17 @@
+pub mod Cleared
+pub mod Clearing
+pub mod Concluding
+pub mod Ending
+pub mod Euler
+pub mod Leading
+pub mod Lending
+pub mod Looping
+pub mod Meeting
+pub mod Operating
+pub mod Order
+pub mod Ruling
+pub mod Starting
+pub mod Stepping
+pub mod Turns
+pub mod Unpacking
+pub mod Writing

@@ -1,0 +1,1 @@
+// Theorems about the run of an unpacking. Definitions in specs/, proofs in proofs/; no code.

@@ -1,0 +1,9 @@
+pub mod Buffer
+pub mod Bytes
+pub mod Fields
+pub mod Lists
+pub mod Numbers
+pub mod Operations
+pub mod Rest
+pub mod Whole
+pub mod Window

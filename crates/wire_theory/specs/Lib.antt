@@ -1,0 +1,4 @@
+pub mod Buffer
+pub mod Header
+pub mod Shape
+pub mod Whole

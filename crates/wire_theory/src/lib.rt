@@ -1,0 +1,1 @@
+// Laws of bits, codes and fields. Definitions in specs/, proofs in proofs/; no code.
