@@ -17,7 +17,7 @@ use Rattle.rules.specs.Ring.{Node, opened, marked, Ring, vertex, allOpen, verte
 use Rattle.rules.specs.Table.{glued, Effect, not-allowed, builds, marks, allowed, marking, atEdge, atRest, effect, edgeRule}
 use Rattle.rules.specs.Machine.{Step, refused, begun, built, declared, finished, test, done, operation}
 use Rattle.rules.specs.Book.{Book}
-use Rattle.book.specs.Parts.{buildingOf}
+use Rattle.book.proofs.Parts.{buildingOf}
 use Rattle.book.specs.Sums.{pathSum, ringSum, loopsSum}
 use Rattle.book.specs.Consistent.{AllSound, Consistent}
 use Rattle.book.proofs.Counting.{uses-from, uses-to}

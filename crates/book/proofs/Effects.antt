@@ -18,7 +18,7 @@ use Rattle.rules.specs.Table.{Side, glued, fresh, Effect, not-allowed, builds, 
 use Rattle.rules.specs.Machine.{freshSides}
 use Rattle.book.specs.Spaced.{Spaced}
 use Rattle.book.proofs.Spaced.{spaced-append, spaced-take, spaced-drop, spaced-front, spaced-turn, spaced-reached}
-use Rattle.book.specs.Parts.{buildingOf}
+use Rattle.book.proofs.Parts.{buildingOf}
 use Rattle.book.specs.Sums.{Weight, pathSum, ringSum, loopsSum}
 use Rattle.book.specs.Consistent.{Sound, AllSound, AllCurrent}
 use Rattle.book.proofs.Counting.{ifFresh, ifGlued}

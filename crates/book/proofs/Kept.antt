@@ -16,7 +16,7 @@ use Rattle.rules.specs.Ring.{Node, Ring, vertex, startOr}
 use Rattle.rules.specs.Table.{Side, Effect, not-allowed, builds, marks, effect, sideRule, edgeRule}
 use Rattle.rules.specs.Machine.{empty, afterBuild, afterMark, Step, refused, test, done, operation}
 use Rattle.rules.specs.Book.{Book, entered}
-use Rattle.book.specs.Parts.{buildingOf, markingOf}
+use Rattle.book.proofs.Parts.{buildingOf, markingOf}
 use Rattle.book.specs.Sums.{pathSum, ringSum, loopsSum, openHit, openEdges}
 use Rattle.book.specs.Consistent.{Consistent}
 use Rattle.book.specs.Numbers.{NodesBelow, LoopsBelow}

@@ -8,6 +8,7 @@ pub mod Euler
 pub mod Kept
 pub mod Numbers
 pub mod Open
+pub mod Parts
 pub mod Shown
 pub mod ShownSums
 pub mod Spaced

@@ -15,7 +15,7 @@ use Rattle.rules.specs.Triangle.{Edge, edge}
 use Rattle.rules.specs.Ring.{Node, opened, marked, Ring, vertex, startOr, vertexAt, lastVertex, front, onward, reached, shown, loopAt}
 use Rattle.rules.specs.Ring.{without}
 use Rattle.rules.specs.Table.{Side, Effect, not-allowed, builds, marks, allowed, inOrder, marking, atEdge, atRest, effect}
-use Rattle.book.specs.Parts.{buildingOf, markingOf}
+use Rattle.book.proofs.Parts.{buildingOf, markingOf}
 use Rattle.book.specs.Consistent.{AllCurrent}
 use Rattle.book.specs.Numbers.{NodesBelow, LoopsBelow}
 use Rattle.book.proofs.Effects.{split-high}

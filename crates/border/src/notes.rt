@@ -1,5 +1,5 @@
 // The places whose records an operation writes, and the note of them in the plain memory: from it the records that were touched are
-// written back to the lent list, and no other. The contracts cite specs/Touched.antt of the crate memory.
+// written back to the lent list, and no other. The contracts cite border_theory/specs/Memory/Touched.antt.
 use cutborder::FREED;
 use cutborder::LINKED;
 use cutborder::Loops;

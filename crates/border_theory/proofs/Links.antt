@@ -1,3 +1,4 @@
+-- Loops of places as links: one lemma for all surgery, and the table of operations on places.
 pub mod After
 pub mod Cut
 pub mod Free
@@ -6,4 +7,5 @@ pub mod Named
 pub mod Read
 pub mod Relink
 pub mod Stored
+pub mod Stores
 pub mod Surgery

@@ -1,2 +1,2 @@
+-- Loops of places as links: one lemma for all surgery, and the table of operations on places.
 pub mod Held
-pub mod Stores

@@ -1,5 +1,5 @@
 // A building operation: a state is tested (21), the operation is decided, the edge rule is tested, and then it is done.
-// What the contracts cite stands in the crate performing.
+// What the contracts cite stands in state_theory/specs/Performing/.
 use border::build;
 use border::decide;
 use border::mark;

@@ -1,3 +1,4 @@
+-- Vertices that no split and no union has met have one fan.
 pub mod Corner
 pub mod Elsewhere
 pub mod Leading

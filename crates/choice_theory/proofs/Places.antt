@@ -1,3 +1,4 @@
+-- The places of the full loops: gaps, open and marked edges, what stays elsewhere, numbers.
 pub mod Back
 pub mod Below
 pub mod Distinct

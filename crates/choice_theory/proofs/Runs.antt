@@ -1,3 +1,4 @@
+-- Whole runs: the machine's, the packer's, each followed by the other; demand 2 in the large.
 pub mod Accepted
 pub mod Canonical
 pub mod Example

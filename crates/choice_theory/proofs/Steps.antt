@@ -1,3 +1,4 @@
+-- One operation: what the table does to the full loops, that the choice is allowed, and that what packing keeps is kept.
 pub mod Allowances
 pub mod Allowing
 pub mod Bordering

@@ -1,3 +1,4 @@
+-- Turning about a vertex: links, the packer's look-ups, and the place that they lead to.
 pub mod Choice
 pub mod Core
 pub mod Cuts

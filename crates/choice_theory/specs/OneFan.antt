@@ -1,5 +1,4 @@
--- A vertex that no split and no union has met has one fan. So the fans of the others are all that is to be tested.
--- Assumes nothing.
+-- Vertices that no split and no union has met have one fan.
 use Prim.Native.Nat.{ℕ}
 use mathlib.Core.Bool.{Bool, true, false, _||_}
 use mathlib.Core.List.{List}
@@ -11,13 +10,11 @@ use Rattle.rules.specs.Machine.{Machine, empty}
 use Rattle.choice_theory.specs.Works.{Works, w-none, w-built, w-declared}
 use Rattle.choice_theory.specs.Met.{metBy}
 
--- an operation of the run meets v
 abbrev pub metIn : {m n : Machine} {os : List Operation} → Works m os n → ℕ → Bool
 metIn w-none v = false
 metIn (w-built {o = o} {t = t} e w) v = metBy o t v || metIn w v
 metIn (w-declared e w) v = metIn w v
 
--- at any time of a run from the empty machine
 abbrev pub UnmetHaveOneFan : Type 0
 UnmetHaveOneFan = (c : Counts) (os : List Operation) (M : Machine) (w : Works (empty c) os M) (v : ℕ) → metIn w v ≡ false
     → oneRun (about v (M .triangles)) ≡ true

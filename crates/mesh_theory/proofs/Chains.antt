@@ -1,3 +1,4 @@
+-- Corner chains: the look-up and the tests as the code makes them.
 pub mod Checking
 pub mod Fans
 pub mod Finding

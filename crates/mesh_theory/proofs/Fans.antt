@@ -1,3 +1,4 @@
+-- Triangle lists: what the tests 1 to 7 say, fans, the look-up across an edge.
 pub mod About
 pub mod Accepted
 pub mod Checks

@@ -1,5 +1,5 @@
 // The list of place records that a caller lends: thin functions over it, and the way to the core's plain memory and back.
-// The contracts cite specs/Records.antt, specs/Memory.antt and specs/Touched.antt, and `placeAt` of the crate rules.
+// The contracts cite border_theory/specs/Records/, and `placeAt` of the crate rules.
 pub mod buffers; // filling lent buffers of numbers and bytes
 
 use cutborder::FREED;

@@ -1,1 +1,3 @@
+-- What a rehearsal promises: a run of demand 3. All of it is the interface.
+-- Assumes nothing.
 pub mod Rehearsal

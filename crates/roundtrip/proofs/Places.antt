@@ -1,4 +1,4 @@
--- One place is right: the place of gap's theory is a right one, and every right one is that place.
+-- One place is right: the place of choice_theory is a right one, and every right one is that place.
 -- Assumes nothing.
 use Prim.Native.Nat.{ℕ}
 use mathlib.Core.List.{List, _∷_}
@@ -9,7 +9,7 @@ use Rattle.rules.specs.declared.Triangle.{Triangle}
 use Rattle.rules.specs.Ring.{Node, Ring, vertex}
 use Rattle.rules.specs.Choice.{turnIn, turnOut, sizeOf, following}
 use Rattle.mesh_theory.specs.Fans.Corner.{Rot, at-p, In, here, there}
-use Rattle.mesh_theory.specs.Fans.Neighbours.{Neighbours}
+use Rattle.rules.specs.Fan.{Neighbours}
 use Rattle.book.specs.Shown.{shownAll, Live}
 use Rattle.choice_theory.specs.Turn.{Unused, Links, stop, link}
 use Rattle.choice_theory.specs.Spots.{OpenAt, Unique, Site, seat}

@@ -19,10 +19,10 @@ use Rattle.rules.specs.Table.{glued, builds, atEdge, effect, edgeRule}
 use Rattle.rules.specs.Choice.{Packing, Next, refuses, takes, has, operationFor, choosePlace, packingAfter, limited, choose, afterCurrent}
 use Rattle.rules.specs.Pack.{Most}
 use Rattle.mesh_theory.specs.Fans.Corner.{In, Once}
-use Rattle.mesh_theory.specs.Fans.Neighbours.{Neighbours}
+use Rattle.rules.specs.Fan.{Neighbours}
 use Rattle.book.specs.Shown.{shownAll, Live}
 use Rattle.book.proofs.Shown.{reached-first}
-use Rattle.book.specs.Parts.{buildingOf}
+use Rattle.book.proofs.Parts.{buildingOf}
 use Rattle.choice_theory.specs.Turn.{Unused}
 use Rattle.choice_theory.specs.Spots.{seat}
 use Rattle.choice_theory.specs.Trace.{triangleAt}

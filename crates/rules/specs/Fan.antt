@@ -1,5 +1,5 @@
 -- Fans: the triangles about a vertex, in the words of the rules, open and closed, and as a test that computes. In a list that passes
--- 4 and 5 they are the same (`one-fan`, crate fans).
+-- 4 and 5 they are the same (`one-fan`, crate mesh_theory).
 -- Assumes nothing.
 use Prim.Native.Nat.{ℕ, zero, suc}
 use mathlib.Core.Bool.{Bool, true, false}
@@ -40,7 +40,7 @@ pub record OneFan (v : ℕ) (ts : List Triangle) : Type 0 where
   pub each : (x y : ℕ) → count x y run ≡ count x y (about v ts)
   pub shared : Run run
 
--- The same fan by the neighbours of c in a row, each with the next one in a triangle at c (`one-fan-neighbours`, crate fans).
+-- The same fan by the neighbours of c in a row, each with the next one in a triangle at c (`one-fan-neighbours`, crate mesh_theory).
 abbrev pub Linked : ℕ → List Triangle → List ℕ → Type 0
 Linked c ts [] = Unit {0}
 Linked c ts (m ∷ []) = Unit {0}

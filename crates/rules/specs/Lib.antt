@@ -114,11 +114,11 @@
 --   "For each old vertex .. the new number" | Pack: newNumbers, indexOf | "M5"
 --   "packing answers the pack's length, unpacking V, T .." | Answer: packedAnswer, unpackedAnswer | "M1" to "M5"
 --   "a building operation the triangle .. also written .." | Build: withTriangle, Leaves | calls
---   "It changes nothing; a complete model holds no place" | Machine: complete; Promised in crates/building/specs: Finishing | "M1" to "M5"
+--   "It changes nothing; a complete model holds no place" | Machine: complete; Finishing in crates/promises/specs/Promises | "M1" to "M5"
 --   "The finish gives edges, rims, unions and the Euler .." | Machine: totals | "M1" to "M5", "torus of seven vertices"
 --
 -- The builder's book
---   "a single claim about the whole list of calls" | BuildersBook in crates/building/specs/Building | (`building-calls-keep-the-book`)
+--   "a single claim about the whole list of calls" | BuildersBook in crates/promises/specs | (`building-calls-keep-the-book`)
 --   "as the call before left them", "the state last returned" | Calls: lastState | last-states
 --   "The book is fed each call's arguments .." | Book: Call, call; Buffer: Lengths | all rows of calls
 --   "It holds the stated counts, the triangles built .." | Machine: Machine; Book: Book | all rows of calls
@@ -128,7 +128,7 @@
 --   "a start, a union and a loop that ends as a rim count .." | Table: Added, Marking | "M1", "smallest union found"
 --   "A finish .. reads its answer off the book" | Book: recounted; Machine: finishing | "M1" to "M5"
 --   "A call that fails .. leaves the book as it is" | Book: entered | "13 before 14 at a beginning; .."
---   "21 does not arise" | Book: call, which does not ask for it | (`passes` of KeepsTheBook, crates/building/specs/Building)
+--   "21 does not arise" | Book: call, which does not ask for it | (`passes` of KeepsTheBook, crates/promises/specs/BuildersBook)
 --   "The answers compared are acceptance or the number, .." | Book: answerOf, answer; Calls: answers | all rows of calls
 --   "Vertices are the different numbers in the .. triangles" | Count: different | "M1" to "M5"
 --   "edges the pairs of vertices that one of them joins, .." | Count: pairs | "M1" to "M5"

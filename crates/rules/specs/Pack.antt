@@ -29,7 +29,7 @@ abbrev pub cons : Operation → Chosen → Chosen
 cons o (stopped n) = stopped n
 cons o (chosen os s) = chosen (o ∷ os) s
 
--- at most n operations; they are enough (`accepted-packs`, crate gap)
+-- at most n operations; they are enough (`accepted-packs`, crate choice_theory)
 unfoldable pub chooseAll : ℕ → Packing → Chosen
 chooseAll zero s = chosen [] s
 chooseAll (suc n) s = elim (choose s) [ ended ↦ chosen [] s | refuses k ↦ stopped k | takes o s′ ↦ cons o (chooseAll n s′) ]

@@ -1,7 +1,7 @@
 // The service's calls over a lent list of place records. Packing, unpacking and a beginning read no record: each calls its core and
 // clears as many as the answer says. An operation and a finish load the records into a plain memory and call the core that works
-// there; of these the operation then links and frees those that it touched, the finish changes nothing. The contracts cite
-// specs/Calls.antt and specs/Packing.antt, and of the crate building specs/Promised.antt, on which demand 3 rests.
+// there; of these the operation then links and frees those that it touched, the finish changes nothing. What each call promises
+// stands on one page, promises/specs/Promises.antt.
 use places::clear;
 use places::count;
 use places::empty;

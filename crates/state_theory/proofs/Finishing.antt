@@ -1,3 +1,4 @@
+-- The beginning and the finish; the fan test over any triangles.
 pub mod Beginning
 pub mod Fans
 pub mod Finish

@@ -1,3 +1,4 @@
+-- The test of 21, as the code makes it.
 pub mod Marking
 pub mod Passed
 pub mod Rings

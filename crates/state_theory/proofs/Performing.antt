@@ -1,3 +1,4 @@
+-- The building operation: what its core promises, and what the lent list holds after it.
 pub mod After
 pub mod Back
 pub mod Leaving

@@ -1,3 +1,4 @@
+-- A builder's state read as the core's, and given back.
 pub mod Alike
 pub mod Closing
 pub mod Current
@@ -7,4 +8,5 @@ pub mod Records
 pub mod Rings
 pub mod Sound
 pub mod Trails
+pub mod Walked
 pub mod Walks

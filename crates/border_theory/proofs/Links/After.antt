@@ -19,7 +19,7 @@ use Rattle.book.specs.Sums.{pathSum, ringSum, loopsSum}
 use Rattle.book.proofs.Sums.{sum-append, sum-turn, front-last, sum-without, turned}
 use Rattle.book.proofs.Effects.{sum-order, split-low, split-high}
 use Rattle.border_theory.specs.Links.Held.{namedRing, namedLoops, placed}
-use Rattle.border_theory.specs.Links.Stores.{placesAfter, Takes, Fits}
+use Rattle.border_theory.proofs.Links.Stores.{placesAfter, Takes, Fits}
 use Rattle.border_theory.proofs.Links.Named.{named-length, named-lastOpen, named-loopAt, named-lives}
 use Rattle.border_theory.proofs.Links.Surgery.{end-free}
 use Rattle.border_theory.proofs.Links.Stored.{alive-sum}

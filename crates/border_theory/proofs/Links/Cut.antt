@@ -12,7 +12,7 @@ use Rattle.book.specs.Shown.{ends}
 use Rattle.book.specs.Spaced.{Spaced}
 use Rattle.book.proofs.Shown.{reached-append, around}
 use Rattle.book.proofs.Spaced.{reached-spaced}
-use Rattle.border_theory.specs.Links.Stores.{cutNext, OpenNext}
+use Rattle.border_theory.proofs.Links.Stores.{cutNext, OpenNext}
 
 ends-last : (p : Node) (qs : List Node) (m : Bool) → ends (p ∷ qs) m ≡ not (lastOpen (p ∷ qs))
 unfolding ends lastOpen

@@ -13,7 +13,7 @@ use Rattle.rules.specs.Ring.{Node, Ring, vertex, startOr, places}
 use Rattle.book.specs.Sums.{pathSum, ringSum, loopsSum}
 use Rattle.book.specs.Below.{sumBelow}
 use Rattle.border_theory.specs.Links.Held.{placed}
-use Rattle.border_theory.specs.Links.Stores.{freeBelow, Free}
+use Rattle.border_theory.proofs.Links.Stores.{freeBelow, Free}
 use Rattle.counting.proofs.Counts.{same-no, same-once}
 
 pub sum-add : (n : ℕ) (g h : ℕ → ℕ) → sumBelow n (λ x. g x + h x) ≡ sumBelow n g + sumBelow n h

@@ -19,7 +19,7 @@ use Rattle.book.specs.Sums.{pathSum, ringSum, loopsSum}
 use Rattle.book.proofs.Effects.{split-high}
 use Rattle.border_theory.specs.Links.Held.{namedRing, namedLoops}
 use Rattle.rules.specs.Places.{alive}
-use Rattle.border_theory.specs.Links.Stores.{placesAfter, afterBorder, verticesAfter, HasLoops, Takes, Whole}
+use Rattle.border_theory.proofs.Links.Stores.{placesAfter, afterBorder, verticesAfter, HasLoops, Takes, Whole}
 use Rattle.border_theory.proofs.Links.Named.{named-length, named-append, named-take, named-drop, named-at, named-last, named-front}
 use Rattle.border_theory.proofs.Links.Named.{named-onward, named-shown, named-loopAt, named-without, named-order, free-ring}
 use Rattle.border_theory.proofs.Links.Named.{free-loops}

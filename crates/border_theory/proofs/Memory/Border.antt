@@ -13,7 +13,7 @@ use Rattle.rules.specs.Table.{marking, atEdge}
 use Rattle.book.specs.Consistent.{AllCurrent}
 use Rattle.border_theory.specs.Links.Held.{namedRing, namedLoops}
 use Rattle.rules.specs.Places.{alive}
-use Rattle.border_theory.specs.Links.Stores.{afterBorder, cutNext, HasLoops}
+use Rattle.border_theory.proofs.Links.Stores.{afterBorder, cutNext, HasLoops}
 use Rattle.border_theory.proofs.Links.Loops.{has-border}
 use Rattle.border_theory.proofs.Links.Cut.{cut-kept, cut-lost, next-open, front-open}
 use Rattle.cutborder.specs.declared.Loops.{Loops}

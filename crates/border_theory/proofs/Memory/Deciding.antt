@@ -15,7 +15,7 @@ use Rattle.rules.specs.Triangle.{Edge}
 use Rattle.rules.specs.Ring.{Ring, places}
 use Rattle.rules.specs.Table.{Side, glued, fresh, Effect, not-allowed, builds, marks, effect, edgeRule}
 use Rattle.rules.specs.Machine.{Machine, freshSides, afterBuild, afterMark, built, declared, test, within, done, operation}
-use Rattle.book.specs.Parts.{buildingOf, markingOf}
+use Rattle.book.proofs.Parts.{buildingOf, markingOf}
 use Rattle.book.specs.Consistent.{AllCurrent, Ranges}
 use Rattle.book.proofs.Effects as effects
 use Rattle.border_theory.specs.Links.Held.{namedLoops}

@@ -18,7 +18,7 @@ use Rattle.book.specs.Consistent.{AllCurrent}
 use Rattle.book.proofs.Sums.{sum-append, start-append}
 use Rattle.border_theory.specs.Links.Held.{Memory, Arc, arc, Holds, placed, stored, namedLoops}
 use Rattle.rules.specs.Places.{alive}
-use Rattle.border_theory.specs.Links.Stores.{placesAfter, stores, verticesAfter, HasLoops, OpenNext}
+use Rattle.border_theory.proofs.Links.Stores.{placesAfter, stores, verticesAfter, HasLoops, OpenNext}
 use Rattle.border_theory.proofs.Links.Surgery.{do-mark}
 use Rattle.border_theory.proofs.Links.Stored as after
 use Rattle.cutborder.specs.declared.Loops.{Loops}

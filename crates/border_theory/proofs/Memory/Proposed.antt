@@ -36,7 +36,7 @@ use Rattle.border_theory.proofs.Memory.Proposing.{Proposes, allowed-pro
 use Rattle.border_theory.proofs.Memory.Proposing.{allowed-moved, allowed-law, name, at-next, name-next, name-c, size-is, open-f}
 use Rattle.border_theory.proofs.Memory.Proposing.{open-last, three-open, corners, some-free, propose-new, propose-forward}
 use Rattle.border_theory.proofs.Memory.Proposing.{propose-backward, propose-border}
-use Rattle.border_theory.specs.Links.Stores.{placesAfter}
+use Rattle.border_theory.proofs.Links.Stores.{placesAfter}
 use Rattle.rules.specs.Places.{placesAt, ringsAfter}
 use Rattle.border_theory.specs.Memory.Touched.{takenBy}
 use Rattle.counting.proofs.Bools.{and-left, and-right}

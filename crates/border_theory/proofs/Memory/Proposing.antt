@@ -17,7 +17,7 @@ use Rattle.rules.specs.Ring.{Node, opened, marked, Ring, isOpen, firstOpen, all
 use Rattle.rules.specs.Ring.{places}
 use Rattle.rules.specs.Table.{Side, glued, fresh, Effect, not-allowed, builds, marks, allowed, marking, atEdge}
 use Rattle.rules.specs.Machine.{freshSides}
-use Rattle.book.specs.Parts.{buildingOf, markingOf}
+use Rattle.book.proofs.Parts.{buildingOf, markingOf}
 use Rattle.book.proofs.Effects as effects
 use Rattle.border_theory.specs.Links.Held.{namedRing, namedLoops}
 use Rattle.border_theory.proofs.Links.Named.{named-length, named-start, named-at, named-last, named-lastOpen, named-firstOpen}
@@ -39,7 +39,7 @@ use Rattle.border_theory.proofs.Memory.Relinked.{Goes, Moved, effectAt,
 use Rattle.border_theory.proofs.Memory.Simple.{moved-new, moved-forward, moved-backward}
 use Rattle.border_theory.proofs.Memory.Border.{moved-border}
 use Rattle.border_theory.proofs.Memory.Counts.{places-named, places-after}
-use Rattle.border_theory.specs.Links.Stores.{placesAfter, afterBorder}
+use Rattle.border_theory.proofs.Links.Stores.{placesAfter, afterBorder}
 use Rattle.counting.proofs.Bools.{and-left, and-assoc}
 
 -- a plan's numbers are an effect's

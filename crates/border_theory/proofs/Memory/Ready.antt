@@ -13,7 +13,7 @@ use Rattle.rules.specs.Limits.{inRange, vertexRange, between, minVertices, maxV
 use Rattle.rules.specs.Ring.{opened, marked, Ring, lastOpen}
 use Rattle.rules.specs.Machine.{Machine}
 use Rattle.book.specs.Consistent.{Ranges}
-use Rattle.border_theory.specs.Links.Stores.{cutNext}
+use Rattle.border_theory.proofs.Links.Stores.{cutNext}
 use Rattle.cutborder.specs.declared.Loops.{Loops}
 use Rattle.cutborder.specs.declared.Front.{Front}
 use Rattle.border_theory.specs.Memory.Stands.{ringsIn, StandsAt}

@@ -14,7 +14,7 @@ use Rattle.rules.specs.Ring.{Node, opened, Ring, startOr, vertexAt, lastOpen, l
 use Rattle.book.specs.Sums.{pathSum, ringSum, loopsSum}
 use Rattle.book.proofs.Sums.{sum-append, front-last}
 use Rattle.border_theory.specs.Links.Held.{Arc, arc, placed, stored}
-use Rattle.border_theory.specs.Links.Stores.{placesAfter, stores, verticesAfter, Takes, Whole}
+use Rattle.border_theory.proofs.Links.Stores.{placesAfter, stores, verticesAfter, Takes, Whole}
 use Rattle.cutborder.specs.declared.Loops.{Loops}
 use Rattle.border_theory.specs.Memory.Layout.{at, beforeOf, afterOf, verticesOf, edgesStored, freed, walked}
 use Rattle.border_theory.specs.Memory.Stands.{StandsAt}

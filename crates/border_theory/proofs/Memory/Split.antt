@@ -16,7 +16,7 @@ use Rattle.book.specs.Sums.{pathSum, ringSum, loopsSum}
 use Rattle.book.proofs.Sums.{sum-append}
 use Rattle.book.proofs.Effects.{sum-order}
 use Rattle.border_theory.specs.Links.Held.{placed}
-use Rattle.border_theory.specs.Links.Stores.{placesAfter, stores, verticesAfter}
+use Rattle.border_theory.proofs.Links.Stores.{placesAfter, stores, verticesAfter}
 use Rattle.border_theory.proofs.Links.Surgery.{end-free}
 use Rattle.cutborder.specs.declared.Loops.{Loops}
 use Rattle.border_theory.specs.Memory.Layout.{at, stacked, waits}

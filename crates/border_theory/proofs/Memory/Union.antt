@@ -15,7 +15,7 @@ use Rattle.rules.specs.Table.{atEdge}
 use Rattle.book.specs.Sums.{pathSum, ringSum, loopsSum}
 use Rattle.book.proofs.Sums.{sum-append, sum-turn, sum-without, length-without}
 use Rattle.border_theory.specs.Links.Held.{placed, namedLoops}
-use Rattle.border_theory.specs.Links.Stores.{placesAfter, stores, verticesAfter}
+use Rattle.border_theory.proofs.Links.Stores.{placesAfter, stores, verticesAfter}
 use Rattle.border_theory.proofs.Links.Named.{named-lives}
 use Rattle.border_theory.proofs.Links.Surgery.{end-free}
 use Rattle.cutborder.specs.declared.Loops.{Loops}

@@ -7,7 +7,7 @@ use mathlib.Core.Logic.{_⊎_, inl, inr}
 use Rattle.rules.specs.declared.Triangle.{Triangle}
 use Rattle.rules.specs.Ring.{Ring}
 use Rattle.mesh_theory.specs.Fans.Corner.{Rot, In, here, there, Once}
-use Rattle.mesh_theory.specs.Fans.Neighbours.{Neighbours}
+use Rattle.rules.specs.Fan.{Neighbours}
 use Rattle.choice_theory.specs.Turn.{Unused, Links, Turn}
 use Rattle.choice_theory.specs.Corners.{Everywhere, Filled}
 use Rattle.choice_theory.specs.Spots.{OpenAt, Spotted}

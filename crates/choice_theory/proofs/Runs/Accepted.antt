@@ -9,7 +9,7 @@ use Rattle.rules.specs.Triangle.{trianglesOf}
 use Rattle.rules.specs.Check.{check}
 use Rattle.rules.specs.Pack.{Most, nothingBuilt, chosenFor}
 use Rattle.mesh_theory.specs.Fans.Corner.{In, Once}
-use Rattle.mesh_theory.specs.Fans.Neighbours.{Neighbours}
+use Rattle.rules.specs.Fan.{Neighbours}
 use Rattle.mesh_theory.proofs.Fans.Checks.{check-accepted}
 use Rattle.mesh_theory.proofs.Fans.Once.{once-tests}
 use Rattle.mesh_theory.proofs.Fans.Accepted.{accepted-mesh}

@@ -12,7 +12,7 @@ use Rattle.rules.specs.declared.Triangle.{Triangle}
 use Rattle.rules.specs.Fan.{oneFanEach}
 use Rattle.rules.specs.Machine.{Machine, Step, finished, test, complete, asStated, totals, finishing}
 use Rattle.mesh_theory.specs.Fans.Corner.{at-p, at-q, at-r, In, here, there, Once}
-use Rattle.mesh_theory.specs.Fans.Neighbours.{Linked, Pair, endOf, Round, Neighbours}
+use Rattle.rules.specs.Fan.{Linked, Pair, endOf, Round, Neighbours}
 use Rattle.choice_theory.specs.Turn.{Unused}
 use Rattle.choice_theory.proofs.Steps.Progress.{has-triangle}
 use Rattle.choice_theory.proofs.Places.Numbering.{Met}

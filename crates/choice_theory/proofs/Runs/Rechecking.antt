@@ -14,7 +14,7 @@ use Rattle.rules.specs.Limits.{maxNumbers, maxTriangles, between, vertexRange}
 use Rattle.rules.specs.Triangle.{edgesOf}
 use Rattle.rules.specs.Check.{sizeFits, check}
 use Rattle.mesh_theory.specs.Fans.Corner.{In, Once}
-use Rattle.mesh_theory.specs.Fans.Neighbours.{Neighbours}
+use Rattle.rules.specs.Fan.{Neighbours}
 use Rattle.mesh_theory.specs.Fans.Passing.{Mesh}
 use Rattle.mesh_theory.proofs.Fans.Once.{once-tests}
 use Rattle.mesh_theory.proofs.Fans.Tests.{all-distinct, none-twice}

@@ -23,7 +23,7 @@ use Rattle.rules.specs.Machine.{finishing}
 use Rattle.rules.specs.Choice.{has}
 use Rattle.rules.specs.Pack.{most, nothingBuilt, chosenFor}
 use Rattle.rules.specs.Unpack.{numbersOf}
-use Rattle.mesh_theory.specs.Fans.Neighbours.{Neighbours}
+use Rattle.rules.specs.Fan.{Neighbours}
 use Rattle.choice_theory.specs.Works.{Works}
 use Rattle.choice_theory.proofs.Turning.Fans.{fans-of, fan-same}
 use Rattle.choice_theory.proofs.Places.Numbering.{Met, has-left, has-last}

@@ -20,7 +20,7 @@ use Rattle.rules.specs.Machine.{empty, finished, totals, finishing}
 use Rattle.rules.specs.Choice.{Packing}
 use Rattle.rules.specs.Pack.{chosen, Most, nothingBuilt, chosenFor, indexOf}
 use Rattle.mesh_theory.specs.Fans.Corner.{Once}
-use Rattle.mesh_theory.specs.Fans.Neighbours.{Neighbours}
+use Rattle.rules.specs.Fan.{Neighbours}
 use Rattle.choice_theory.proofs.Runs.Machine.{facts}
 use Rattle.choice_theory.proofs.Places.Numbering.{Met, index-tells}
 use Rattle.choice_theory.proofs.Places.Distinct.{all-once}

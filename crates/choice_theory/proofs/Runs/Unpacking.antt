@@ -16,7 +16,7 @@ use Rattle.rules.specs.Table.{glued, fresh, atRest, effect, edgeRule}
 use Rattle.rules.specs.Machine.{Machine, afterBuild, afterMark, built, operation}
 use Rattle.mesh_theory.specs.Fans.Corner.{at-p, at-q, at-r, In, here, there}
 use Rattle.book.specs.Shown.{shownAll, Live}
-use Rattle.book.specs.Parts.{buildingOf, markingOf}
+use Rattle.book.proofs.Parts.{buildingOf, markingOf}
 use Rattle.choice_theory.specs.Turn.{Unused}
 use Rattle.choice_theory.specs.Surgery.{Surgery, on-new, on-forward, on-backward, on-close, on-split, on-union}
 use Rattle.choice_theory.specs.Trace.{triangleAt, afterBorder, withRing}

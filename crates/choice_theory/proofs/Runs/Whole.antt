@@ -16,7 +16,7 @@ use Rattle.rules.specs.Ring.{Ring, places}
 use Rattle.rules.specs.Choice.{Packing, has, Next, ended, refuses, takes, limited, chooseIn, choose}
 use Rattle.rules.specs.Pack.{Chosen, stopped, chosen, cons, chooseAll, Most, nothingBuilt, chosenFor}
 use Rattle.mesh_theory.specs.Fans.Corner.{In, Once}
-use Rattle.mesh_theory.specs.Fans.Neighbours.{Neighbours}
+use Rattle.rules.specs.Fan.{Neighbours}
 use Rattle.choice_theory.specs.Building.{nextBuilt, builtBy, onto}
 use Rattle.choice_theory.proofs.Steps.Progress.{begin}
 use Rattle.choice_theory.proofs.Runs.Machine.{r-done}

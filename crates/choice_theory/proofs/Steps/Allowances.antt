@@ -12,7 +12,7 @@ use Rattle.rules.specs.Ring.{Node, Ring, vertex, startOr, reached, shown}
 use Rattle.rules.specs.Table.{Side, Effect, not-allowed, builds, marks, allowed, marking, atEdge, atRest}
 use Rattle.book.specs.Shown.{shownAll}
 use Rattle.book.proofs.Shown.{border-shown}
-use Rattle.book.specs.Parts.{buildingOf}
+use Rattle.book.proofs.Parts.{buildingOf}
 use Rattle.choice_theory.specs.Trace.{afterBorder, withRing}
 use Rattle.choice_theory.proofs.Runs.Tracking.{firstRing}
 

@@ -9,7 +9,7 @@ use Rattle.rules.specs.declared.Triangle.{Triangle}
 use Rattle.rules.specs.Ring.{Node, Ring, vertex, isOpen, reached, loopAt}
 use Rattle.rules.specs.Choice.{operationFor, choosePlace}
 use Rattle.mesh_theory.specs.Fans.Corner.{Rot, at-p, In, here, there}
-use Rattle.mesh_theory.specs.Fans.Neighbours.{Neighbours}
+use Rattle.rules.specs.Fan.{Neighbours}
 use Rattle.book.specs.Shown.{shownAll, Live}
 use Rattle.choice_theory.specs.Turn.{Unused, Turn, rest, turn, jump}
 use Rattle.choice_theory.specs.Corners.{Everywhere, AllMarks, Filled}

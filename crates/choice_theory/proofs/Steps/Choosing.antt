@@ -21,10 +21,10 @@ use Rattle.rules.specs.Choice.{Packing, has, dropTriangle, turnIn, turnOut, Spo
 use Rattle.rules.specs.Choice.{choosePlace, packingAfter, limited, taking, chooseAt, chooseIn, choose, afterCurrent}
 use Rattle.rules.specs.Pack.{indexOf}
 use Rattle.mesh_theory.specs.Fans.Corner.{Rot, at-p, at-q, at-r, In, here, Once}
-use Rattle.mesh_theory.specs.Fans.Neighbours.{Neighbours}
+use Rattle.rules.specs.Fan.{Neighbours}
 use Rattle.book.specs.Shown.{shownAll, Live}
 use Rattle.book.proofs.Shown.{reached-first}
-use Rattle.book.specs.Parts.{markingOf}
+use Rattle.book.proofs.Parts.{markingOf}
 use Rattle.choice_theory.specs.Turn.{Unused}
 use Rattle.choice_theory.specs.Trace.{triangleAt, afterBorder, withRing}
 use Rattle.choice_theory.specs.Tally.{newNumbers, openEdges, allOpenEdges}

@@ -18,7 +18,7 @@ use Rattle.rules.specs.Table.{glued, fresh, Effect, builds, marks, allowed, inO
 use Rattle.book.specs.Shown.{Stays, shownAll, Live}
 use Rattle.book.proofs.Shown.{reached-append, reached-first, reached-cut, border-shown, backward-shown, reached-some, take-cut, drop-cut}
 use Rattle.book.proofs.Shown.{all-shown-append, all-shown-length, live-split, shown-start, waiting-shown}
-use Rattle.book.specs.Parts.{buildingOf, markingOf}
+use Rattle.book.proofs.Parts.{buildingOf, markingOf}
 use Rattle.choice_theory.specs.Surgery.{fewerFirst, Surgery, on-new, on-forward, on-backward, on-close, on-split, on-union}
 use Rattle.choice_theory.specs.Trace.{triangleAt, afterBorder, withRing}
 use Rattle.choice_theory.specs.Tally.{gluesA, gluesB, sideOf, newNumbers, unionsOf}

@@ -13,7 +13,7 @@ use Rattle.rules.specs.declared.Operation.the-variants.{New, Forward, Backward,
 use Rattle.rules.specs.Ring.{Node, Ring, vertex, firstOpen, allOpen, lastOpen, startOr, reached}
 use Rattle.rules.specs.Choice.{operationFor}
 use Rattle.mesh_theory.specs.Fans.Corner.{In}
-use Rattle.mesh_theory.specs.Fans.Neighbours.{Neighbours}
+use Rattle.rules.specs.Fan.{Neighbours}
 use Rattle.choice_theory.specs.Corners.{endOr, Everywhere, Filled}
 use Rattle.choice_theory.specs.Spots.{seat}
 use Rattle.choice_theory.specs.Surgery.{Surgery, on-new}

@@ -14,7 +14,7 @@ use Rattle.rules.specs.Ring.{Ring, places}
 use Rattle.rules.specs.Table.{Side, Effect, not-allowed, builds, marks, effect, edgeRule}
 use Rattle.rules.specs.Machine.{Machine, afterBuild, afterMark, Step, refused, begun, built, declared, finished, test, within, done}
 use Rattle.rules.specs.Machine.{operation}
-use Rattle.book.specs.Parts.{buildingOf, markingOf}
+use Rattle.book.proofs.Parts.{buildingOf, markingOf}
 use Rattle.counting.proofs.Bools.{and-both, and-true}
 use Rattle.book.proofs.Bounds.{within-triangles}
 use Rattle.book.proofs.EdgeRule.{test-passed}

@@ -11,7 +11,7 @@ use Rattle.rules.specs.declared.Triangle.{Triangle}
 use Rattle.rules.specs.Count.{hit}
 use Rattle.rules.specs.Ring.{opened, Ring}
 use Rattle.mesh_theory.specs.Fans.Corner.{Rot, at-p, at-q, at-r, In, here, there}
-use Rattle.mesh_theory.specs.Fans.Neighbours.{Neighbours}
+use Rattle.rules.specs.Fan.{Neighbours}
 use Rattle.choice_theory.specs.Turn.{Unused, Links, Turn}
 use Rattle.choice_theory.specs.Corners.{Filled}
 use Rattle.choice_theory.specs.Tally.{total}

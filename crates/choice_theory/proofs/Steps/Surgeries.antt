@@ -20,7 +20,7 @@ use Rattle.rules.specs.Table.{Side, glued, Effect, not-allowed, builds, marks, 
 use Rattle.book.specs.Shown.{ends, Stays, shownAll, Live}
 use Rattle.book.proofs.Shown.{ends-reached, reached-first, reached-cut, backward-shown, reached-some, take-cut, drop-cut, all-shown-append}
 use Rattle.book.proofs.Shown.{all-shown-length, live-split, shown-live, FullCut, full-cut, open-ends, ends-last}
-use Rattle.book.specs.Parts.{buildingOf}
+use Rattle.book.proofs.Parts.{buildingOf}
 use Rattle.choice_theory.specs.Corners.{endOr}
 use Rattle.choice_theory.specs.Surgery.{fewerFirst, Surgery, on-new, on-forward, on-backward, on-close, on-split, on-union}
 use Rattle.choice_theory.specs.Trace.{triangleAt}

@@ -14,7 +14,7 @@ use Rattle.rules.specs.Count.{hit}
 use Rattle.rules.specs.Ring.{Node, opened, Ring, vertex, isOpen, startOr}
 use Rattle.rules.specs.Choice.{choosePlace}
 use Rattle.mesh_theory.specs.Fans.Corner.{Rot, at-p, at-q, at-r, In, here, there, Once}
-use Rattle.mesh_theory.specs.Fans.Neighbours.{Neighbours}
+use Rattle.rules.specs.Fan.{Neighbours}
 use Rattle.book.specs.Shown.{shownAll, Live}
 use Rattle.choice_theory.specs.Turn.{Unused}
 use Rattle.choice_theory.specs.Corners.{Everywhere, Marks, AllMarks, Filled}

@@ -9,7 +9,7 @@ use Rattle.rules.specs.declared.Triangle.{Triangle}
 use Rattle.rules.specs.Ring.{Ring}
 use Rattle.rules.specs.Choice.{nowhere, spot, spotOf, operationFor, sizeOf, following, choosePlace, turnIn, turnOut, afterCurrent}
 use Rattle.mesh_theory.specs.Fans.Corner.{In, Once}
-use Rattle.mesh_theory.specs.Fans.Neighbours.{Neighbours}
+use Rattle.rules.specs.Fan.{Neighbours}
 use Rattle.choice_theory.specs.Turn.{Unused, Links, Turn}
 use Rattle.choice_theory.specs.Spots.{OpenAt, Unique, Site}
 use Rattle.mesh_theory.proofs.Fans.Corners.{in-next}

@@ -6,7 +6,7 @@ use mathlib.Core.Path.{_≡_, refl, sym, _∙_, subst}
 use mathlib.Core.Logic.{_⊎_, inl, inr}
 use Rattle.rules.specs.declared.Triangle.{Triangle}
 use Rattle.mesh_theory.specs.Fans.Corner.{Rot, at-p, at-q, at-r, In, here, there, Once}
-use Rattle.mesh_theory.specs.Fans.Neighbours.{Linked, Pair, endOf, Round, Neighbours}
+use Rattle.rules.specs.Fan.{Linked, Pair, endOf, Round, Neighbours}
 use Rattle.mesh_theory.proofs.Fans.Corners.{in-next, rot-third}
 use Rattle.choice_theory.specs.Turn.{Unused, Links, stop, link, Turn, rest, turn, jump}
 

@@ -15,7 +15,7 @@ use Rattle.rules.specs.Fan.{about, Run, OneFan}
 use Rattle.rules.specs.Check.{allDistinct, noneTwice}
 use Rattle.mesh_theory.specs.Fans.Ways.{Chain}
 use Rattle.mesh_theory.specs.Fans.Corner.{In, Free}
-use Rattle.mesh_theory.specs.Fans.Neighbours.{Linked, Pair, endOf, Neighbours}
+use Rattle.rules.specs.Fan.{Linked, Pair, endOf, Neighbours}
 use Rattle.mesh_theory.proofs.Fans.Counting.{member}
 use Rattle.mesh_theory.proofs.Fans.Corners.{free-unused}
 use Rattle.mesh_theory.proofs.Fans.Tests.{none-twice}

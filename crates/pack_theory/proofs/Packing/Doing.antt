@@ -18,7 +18,7 @@ use Rattle.rules.specs.Count.{count}
 use Rattle.rules.specs.Ring.{Ring, places}
 use Rattle.rules.specs.Table.{Side, glued, fresh, builds, marks, effect, sideRule, edgeRule}
 use Rattle.rules.specs.Machine.{Machine, afterBuild, afterMark, Step, refused, built, declared, test, within, done, operation}
-use Rattle.book.specs.Parts.{buildingOf, markingOf}
+use Rattle.book.proofs.Parts.{buildingOf, markingOf}
 use Rattle.book.specs.Consistent.{Ranges}
 use Rattle.choice_theory.proofs.Steps.Operating.{within-of}
 use Rattle.cutborder.specs.declared.Front.{Front}

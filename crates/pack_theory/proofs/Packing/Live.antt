@@ -22,7 +22,7 @@ use Rattle.rules.specs.Ring.{Node, Ring, vertex, isOpen, reached, places}
 use Rattle.rules.specs.Table.{atEdge, effect}
 use Rattle.rules.specs.Choice.{Packing, has, dropTriangle, choosePlace, refuses, packingAfter, limited, choose}
 use Rattle.mesh_theory.specs.Fans.Corner.{In}
-use Rattle.mesh_theory.specs.Fans.Neighbours.{Neighbours}
+use Rattle.rules.specs.Fan.{Neighbours}
 use Rattle.mesh_theory.proofs.Fans.Corners.{in-next}
 use Rattle.book.specs.Shown.{shownAll, Live}
 use Rattle.book.proofs.Shown.{reached-first}

@@ -15,7 +15,7 @@ use Rattle.rules.specs.Ring.{opened, Ring, reached, places}
 use Rattle.rules.specs.Table.{fresh, atRest, effect}
 use Rattle.rules.specs.Choice.{Packing, has, packingAfter, limited, choose}
 use Rattle.mesh_theory.specs.Fans.Corner.{at-p, at-q, at-r, Rot, In, here}
-use Rattle.mesh_theory.specs.Fans.Neighbours.{Neighbours}
+use Rattle.rules.specs.Fan.{Neighbours}
 use Rattle.mesh_theory.specs.Chains.Corner.{triangleAt}
 use Rattle.choice_theory.proofs.Runs.Working.{none-shown}
 use Rattle.choice_theory.proofs.Steps.Triangle.{Keeps}

@@ -27,7 +27,7 @@ use Rattle.border_theory.specs.Memory.Layout.{at, verticesOf}
 use Rattle.border_theory.specs.Memory.Stands.{ringsIn, Waits, Named, StandsAt}
 use Rattle.border_theory.specs.Memory.Keeps.{Keeps}
 use Rattle.border_theory.proofs.Memory.Standing.{Trail, Trails, apart as stands-apart, trails, rings-read}
-use Rattle.state_theory.specs.Reading.Walks.{ringPlaces, ringsPlaces}
+use Rattle.state_theory.proofs.Reading.Walked.{ringPlaces, ringsPlaces}
 use Rattle.state_theory.specs.Reading.Closing.{waitingRow, liveRow, waitingAt, builderOf, Closes}
 use Rattle.state_theory.proofs.Reading.Rings.{trail-nodes}
 use Rattle.state_theory.proofs.Reading.Trails.{follow-trail, nodes-trail, loop-fits, rings-apart, rings-below, rings-fit}

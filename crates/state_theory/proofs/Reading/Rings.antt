@@ -12,7 +12,7 @@ use Rattle.rules.specs.View.{placeAt, placeNode, placeNodes, placeRings, loopPl
 use Rattle.border_theory.specs.Links.Held.{placed}
 use Rattle.border_theory.specs.Records.Plain.{records}
 use Rattle.border_theory.proofs.Memory.Standing.{Trail}
-use Rattle.state_theory.specs.Reading.Walks.{ringPlaces, ringsPlaces}
+use Rattle.state_theory.proofs.Reading.Walked.{ringPlaces, ringsPlaces}
 use Rattle.state_theory.proofs.Reading.Trails.{flag-at, occurs-rings}
 
 pub node-place : (t : Bool) (i : ℕ) → vertex (elim t [ true ↦ opened i | false ↦ marked i ]) ≡ i

@@ -24,7 +24,7 @@ use Rattle.border_theory.specs.Records.Plain.{isOne, records}
 use Rattle.border_theory.specs.Memory.Layout.{at, openOf, verticesOf}
 use Rattle.border_theory.proofs.Memory.Columns.{column-at}
 use Rattle.border_theory.proofs.Memory.Standing.{Hop, Trail, Trails}
-use Rattle.state_theory.specs.Reading.Walks.{Walk, ringPlaces, ringsPlaces}
+use Rattle.state_theory.proofs.Reading.Walked.{Walk, ringPlaces, ringsPlaces}
 use Rattle.state_theory.proofs.Reading.Records.{records-at}
 use Rattle.state_theory.proofs.Reading.Walks.{after-at, node-at}
 use Rattle.counting.proofs.Bools.{and-left, and-right, and-both}

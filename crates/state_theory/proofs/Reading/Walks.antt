@@ -16,7 +16,7 @@ use Rattle.border_theory.specs.Links.Held.{nodeFrom, read, named, namedRing}
 use Rattle.border_theory.specs.Records.Plain.{isOne, records}
 use Rattle.border_theory.specs.Memory.Layout.{at, vertexOf, beforeOf, afterOf, openOf, column, verticesOf, linksOf, walked}
 use Rattle.border_theory.proofs.Memory.Columns.{column-at}
-use Rattle.state_theory.specs.Reading.Walks.{Walk, ringPlaces}
+use Rattle.state_theory.proofs.Reading.Walked.{Walk, ringPlaces}
 use Rattle.state_theory.proofs.Reading.Records.{records-at}
 use Rattle.counting.proofs.Bools.{and-left, and-right}
 
