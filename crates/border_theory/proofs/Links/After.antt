@@ -30,50 +30,6 @@ unfolding pathSum
 fewer-first g [] b = omega arith
 fewer-first g (p ∷ ps) b = omega arith
 
--- at most the place q is new
-pub placed-after : (o : Operation) (q e : ℕ) (ps : List Node) (ws : List Ring) → Fits o ps ws
-    → (x : ℕ) → placed x (placesAfter o q e ps ws) ≤ placed x ((opened e ∷ ps) ∷ ws) + same x q
-unfolding placesAfter loopsSum ringSum pathSum
-placed-after New q e ps ws k x = omega (arith, sum-append (λ p r o. same x p) ps (opened e ∷ []) q)
-placed-after Forward q e ps ws k x = omega (arith, fewer-first (same x) ps e)
-placed-after Backward q e ps ws k x =
-    let l : ℕ = lastVertex ps in
-    omega (
-      arith,
-      sum-append (λ p r o. same x p) (front ps) (opened l ∷ []) e,
-      ap (λ (y : List Node). pathSum (λ p r o. same x p) y e) (front-last ps k),
-    )
-placed-after Border q e ps ws k x =
-    omega (
-      arith,
-      alive-sum (λ p r o. same x p) (onward [] (ps ++ (marked e ∷ []))) ws,
-      turned (λ p r o. same x p) [] (ps ++ (marked e ∷ [])) .total,
-      sum-append (λ p r o. same x p) ps (marked e ∷ []) (startOr 0 (ps ++ (marked e ∷ []))),
-    )
-placed-after (Split i) q e ps ws k x =
-    let l : List Node = take i ps in
-    let r : List Node = drop i ps in
-    omega (
-      arith,
-      sum-order (λ p r o. same x p) (leb (length (opened q ∷ l)) (length (opened e ∷ r))) (opened q ∷ l) (opened e ∷ r) ws,
-      sum-append (λ p r o. same x p) l r e,
-      end-free (same x) l q (startOr e r),
-      ap (λ (y : List Node). pathSum (λ p r o. same x p) y e) (take-append-drop i ps),
-    )
-placed-after Close q e ps ws k x = omega arith
-placed-after (Union n j) q e ps ws k x =
-    let w : Ring = loopAt ws (n - 1) in
-    let l : List Node = drop j w ++ take j w in
-    omega (
-      arith,
-      sum-append (λ p r o. same x p) ps (opened e ∷ l) q,
-      sum-without (λ p r o. same x p) ws (n - 1) (k .0),
-      sum-turn (λ p r o. same x p) (drop j w) (take j w),
-      end-free (same x) l q (startOr 0 l),
-      ap (λ (y : Ring). pathSum (λ p r o. same x p) y (startOr 0 y)) (take-append-drop j w),
-    )
-placed-after Start q e ps ws k x = absurd k
-
 -- what holds if the effect is not a refusal
 abbrev pub Unless : Type 0 → Effect → Type 0
 Unless P not-allowed = Unit {0}

@@ -115,7 +115,3 @@ past-long Accepted v n k e = leb-true maxPlaces n (last (leb v k) (leb maxPlaces
     last : (a b : Bool) → a && b ≡ true → b ≡ true
     last true b h = h
     last false b h = absurd (false≢true h)
-
-pub past-same : (c : Checked) (v n n′ k : ℕ) → leb maxPlaces n ≡ leb maxPlaces n′ → isPast c v n k ≡ isPast c v n′ k
-past-same (Refused j) v n n′ k e = refl
-past-same Accepted v n n′ k e = ap (λ (b : Bool). leb v k && b) e

@@ -160,11 +160,6 @@ pub waited-done : (b : Builder) (m : List ℕ) (w : ℕ) (m′ : List ℕ) (n : 
 waited-done b m w m′ n f h g =
     let e : w ≡ n = omega (arith, h, g) in subst (λ (z : ℕ). Waited b m z m′) e f
 
--- the number before position n
-pub top-none : (xs : List ℕ) (n : ℕ) → n ≡ 0 → 0 ≡ topOf xs n
-top-none xs zero e = refl
-top-none xs (suc n) e = absurd (omega (arith, e))
-
 pub top-last : (xs : List ℕ) (n : ℕ) → (n ≡ 0 → ⊥) → getD xs (n - 1) 0 ≡ topOf xs n
 top-last xs zero d = absurd (d refl)
 top-last xs (suc n) d = let e : suc n - 1 ≡ n = omega arith in ap (λ (i : ℕ). getD xs i 0) e
