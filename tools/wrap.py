@@ -1,6 +1,6 @@
 #!/usr/bin/env python3
 """Breaks the lines of proofs and definitions that are longer than a screen is wide; `rt fmt` then indents them.
-`tools/wrap.py FILE..`; what it cannot break it leaves."""
+`tools/wrap.py [--check] FILE..`; what it cannot break it leaves."""
 import re
 import sys
 
@@ -81,11 +81,23 @@ def wrap(text):
     return '\n'.join(piece for line in text.split('\n') for piece in broken(line))
 
 
-if __name__ == '__main__':
-    for name in sys.argv[1:]:
+def main(names, check):
+    """Breaks the lines of these files, or only says which files have lines to break."""
+    long = []
+    for name in names:
         with open(name) as f:
             old = f.read()
         new = wrap(old)
         if new != old:
-            with open(name, 'w') as f:
-                f.write(new)
+            long.append(name)
+            if not check:
+                with open(name, 'w') as f:
+                    f.write(new)
+    if check and long:
+        print('lines to break:', *long)
+    return 1 if check and long else 0
+
+
+if __name__ == '__main__':
+    args = sys.argv[1:]
+    sys.exit(main([a for a in args if a != '--check'], '--check' in args))

@@ -66,7 +66,11 @@ mul-if3 c = search needs
 add-if3-2 : tie.Need-add-if3-2
 add-if3-2 c = record {
   fits =
-      omega (arith, c .before .before .before .before .before .before .before .before .before .before .before .before .before .before .pre .1);
+      omega (
+        arith,
+        c .before .before .before .before .before .before .before .before .before .before .before .before .before .before .pre
+            .1,
+      );
 }
 
 returns-3 : tie.Need-returns-3

@@ -138,7 +138,8 @@ sub-t20 : tie.Need-sub-t20
 sub-t20 c = omega (
   arith,
   c .before .before .before .before .before .before .before .before .before .before .before .before .before .before
-      .before .before .before .before .before .before .before .before .before .before .before .before .before .before .before .before .before
+      .before .before .before .before .before .before .before .before .before .before .before .before .before .before .before .before
+      .before
       .pre .0 .some,
 )
 

@@ -43,7 +43,8 @@ mark-requires c κs =
     let a = c .before .before .before .before .before .before .before .before in (
       held-ready (a .args .s) (a .args .triangles .now) (a .args .m .now) (a .args .chains .now) (a .args .met .now) (a .pre),
       operate-live
-          (a .args .o) (a .args .next) (a .args .s) (a .args .triangles .now) (a .args .m .now) (a .args .chains .now) (a .args .met .now) _ _
+          (a .args .o) (a .args .next) (a .args .s) (a .args .triangles .now) (a .args .m .now) (a .args .chains .now) (a .args .met .now) _
+          _
           _ (decided-by _ _ _ _ _ _ (c .before .before .before .before .propose .ensures) (c .before .before .before .test-room .ensures))
           (c .before .enum-told .given .1) (a .pre),
     )
