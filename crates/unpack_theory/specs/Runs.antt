@@ -5,10 +5,9 @@ use Prim.Native.Nat.{ℕ, _+_, _*_, _≤_}
 use mathlib.Core.Bool.{Bool, true, false, _&&_}
 use mathlib.Core.List.{List, []}
 use mathlib.Core.Path.{_≡_}
-use lib.ListN.{length, take, drop, set}
+use lib.ListN.{length, take, drop}
 use lib.Dec.{eqb}
 use lib.IntN.{pos, _+ℤ_, _-ℤ_}
-use Rattle.rules.specs.declared.Triangle.{Triangle}
 use Rattle.rules.specs.declared.Counts.{Counts}
 use Rattle.rules.specs.declared.Operation.{Operation}
 use Rattle.rules.specs.Limits.{maxPlaces, maxVertices}
@@ -55,10 +54,6 @@ pub record Held (s : Front) (ts m cs ks : List ℕ) : Type 0 where
 -- T triangles are built and no loop is live
 abbrev pub isComplete : Front → Bool
 isComplete s = elim (eqb (s .built) (s .stated .triangles)) [ true ↦ eqb (s .loops .live) 0 | false ↦ false ]
-
--- triangle n written into the buffer
-abbrev pub written : List ℕ → ℕ → Triangle → List ℕ
-written ts n t = set (set (set ts (3 * n) (t .p)) (3 * n + 1) (t .q)) (3 * n + 2) (t .r)
 
 -- the bits of the operations from a bit position on
 abbrev pub bitsFrom : List ℕ → ℕ → List ℕ
