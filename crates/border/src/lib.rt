@@ -2,6 +2,7 @@
 // the caller, and then it is done. The contracts cite the crate memory, whose theorem `decides` joins them to the machine of the rules.
 pub mod alter; // the surgery of a planned operation
 pub mod count; // the counts after an operation
+pub mod finish; // the end of a building
 pub mod notes; // what an operation touched, noted for the write-back to the lent list
 pub mod plan; // what each operation would do
 pub mod triangles; // the triangle buffer

@@ -1,4 +1,5 @@
 pub mod Decision
+pub mod Finish
 pub mod Fresh
 pub mod Keeps
 pub mod Layout

@@ -1,10 +1,10 @@
 // One operation of a pack, read and done, and the run of them until the model is complete.
 use crate::common::alter;
 use crate::common::propose;
-use crate::conclude::is_complete;
 use crate::meet::meet;
 use crate::rule::is_ruled;
 use border::count::count_built;
+use border::finish::is_complete;
 use border::mark;
 use border::triangles::put_triangle;
 use border::verdict::test_room;
