@@ -8,6 +8,8 @@ pub mod Cut
 pub mod Deciding
 pub mod Doubled
 pub mod Ended
+pub mod Euler
+pub mod Finish
 pub mod Fresh
 pub mod Near
 pub mod Next

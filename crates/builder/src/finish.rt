@@ -1,33 +1,18 @@
 // The finish of a building: 21, 15, 19, 20, or the four numbers.
 use crate::fan::one_fan_each;
+use border::finish::is_as_stated;
+use border::finish::is_complete;
+use border::finish::totals_of;
 use cutborder::Front;
 use cutborder::Memory;
 use cutborder::Opened;
 use rules::Builder;
 use rules::Finished;
-use rules::Totals;
 use state::open;
-use unpacker::conclude::euler;
-use unpacker::conclude::is_as_stated;
-use unpacker::conclude::is_complete;
-ghost use mathlib.Core.Path.{_≡_};
 ghost use Prim.Native.Nat.{ℕ, _≤_, _<_};
-ghost use Rattle.rules.specs.Answer.{numbers};
 ghost use Rattle.rules.specs.Limits.{maxPlaces};
 ghost use Rattle.border_theory.specs.Memory.Layout.{openOf};
-ghost use Rattle.state_theory.specs.Finishing.Core.{Fits, FinishesFront, FinishesOn, totalsOf};
-
-// What the finish of a complete model gives.
-fn totals_of(f: Front) -> Totals
-    ensures { λ r. ⌜ numbers r ≡ numbers (totalsOf f) ⌝ }
-{
-    Totals {
-        edges: f.edges,
-        rims: f.rims,
-        unions: f.unions,
-        euler: euler(f.used, f.edges, f.built),
-    }
-}
+ghost use Rattle.state_theory.specs.Finishing.Core.{Fits, FinishesFront, FinishesOn};
 
 // The finish of a core's state, whose triangles stand in the buffer.
 fn finish_front(f: Front, triangles: &[u16]) -> Finished

@@ -7,6 +7,7 @@ use border::notes::by_border;
 use border::notes::note;
 use border::notes::note_nothing;
 use border::notes::touched;
+use border::triangles::put_triangle;
 use cutborder::Decided;
 use cutborder::Front;
 use cutborder::Memory;
@@ -18,14 +19,11 @@ use rules::Builder;
 use rules::Operated;
 use rules::Operation;
 use rules::Performed;
-use rules::Triangle;
 use state::close;
 use state::open;
 ghost use mathlib.Core.Path.{_≡_};
-ghost use Prim.Native.Nat.{ℕ, _+_, _*_, _≤_, _<_};
-ghost use lib.ListN.{length};
-ghost use Rattle.rules.specs.Limits.{maxPlaces, maxLoops, maxTriangles};
-ghost use Rattle.rules.specs.Build.{withTriangle};
+ghost use Prim.Native.Nat.{ℕ, _≤_, _<_};
+ghost use Rattle.rules.specs.Limits.{maxPlaces, maxLoops};
 ghost use Rattle.cutborder.specs.declared.Decided.the-variants.{Builds};
 ghost use Rattle.border_theory.specs.Memory.Layout.{openOf};
 ghost use Rattle.border_theory.specs.Memory.Moves.{markedHeld};
@@ -42,17 +40,6 @@ fn refuse(m: &mut Memory, state: Builder, k: u8) -> Performed
         state,
         answer: Operated::Refused(k),
     }
-}
-
-// Writes triangle n into the buffer.
-fn put_triangle(triangles: &mut [u16], n: usize, t: Triangle)
-    requires { ⌜ (3 * n + 3 ≤ length (now triangles)) × (n < maxTriangles) ⌝ }
-    ensures { λ _. ⌜ now (triangles .exit) ≡ withTriangle n t (now (triangles .entry)) ⌝ }
-{
-    let i = 3 * n;
-    triangles[i] = t.p;
-    triangles[i + 1] = t.q;
-    triangles[i + 2] = t.r;
 }
 
 // Builds a planned triangle, unless the edge rule fails (18): into the buffer and the memory.

@@ -1,3 +1,4 @@
 pub mod Bools
 pub mod Counts
 pub mod Ranges
+pub mod Triangles

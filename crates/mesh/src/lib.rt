@@ -57,8 +57,8 @@ fn is_vertex_count(v: usize) -> bool
     v <= VERTICES
 }
 
-// 3: all numbers are below v.
-fn all_below(v: usize, list: &[u16]) -> bool
+// 3: all numbers are below v. 21 asks the same of a builder's triangles.
+pub fn all_below(v: usize, list: &[u16]) -> bool
     ensures { λ b. ⌜ b ≡ allBelow v (now (list .entry)) ⌝ }
 {
     let mut i = 0;

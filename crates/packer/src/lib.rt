@@ -23,13 +23,18 @@ use rules::Counts;
 use rules::Packed;
 use rules::TRIANGLES;
 use rules::VERTICES;
+ghost use mathlib.Core.List.{List, _++_};
 ghost use mathlib.Core.Path.{_≡_};
 ghost use Prim.Native.Nat.{ℕ, _≤_};
+ghost use lib.ListN.{length, replicate, drop};
 ghost use Rattle.rules.specs.declared.Checked.the-variants as Checks;
 ghost use Rattle.rules.specs.declared.Packed.the-variants as Packs;
-ghost use Rattle.rules.specs.Limits.{maxTriangles, maxVertices};
+ghost use Rattle.rules.specs.Limits.{maxPlaces, maxTriangles, maxVertices};
+ghost use Rattle.border_theory.specs.Memory.Fresh.{allFree};
+ghost use Rattle.border_theory.specs.Records.Plain.{coreSize};
+ghost use Rattle.pack_theory.specs.Packing.Numbers.{unnumbered};
 ghost use Rattle.pack_theory.specs.Packing.Doing.{statedFor};
-ghost use Rattle.pack_theory.specs.Packing.Lent.{PackedOn, Fitting, RunGives, clearedBy};
+ghost use Rattle.pack_theory.specs.Packing.Lent.{PackedOn, Fitting, emptyCourse, Begins, RunGives, clearedBy};
 
 // What a packing of v vertices and k triangles may not exceed.
 fn stated_for(v: usize, k: usize) -> Counts
@@ -44,7 +49,53 @@ fn stated_for(v: usize, k: usize) -> Counts
     }
 }
 
-// Packs a list that got past 8: the numbering and the pack are written.
+// The packing of v vertices and k triangles begins: every place is free, and no vertex has a number.
+fn begin_course(v: usize, k: usize, numbering: &mut [u16], m: &mut [u16]) -> Course
+    requires { ⌜ (v ≤ maxVertices) × (k ≤ maxTriangles) × (v ≤ length (now numbering)) × (length (now m) ≡ coreSize) ⌝ }
+    ensures course { λ r. ⌜ r ≡ emptyCourse v k ⌝ }
+    ensures numbers { λ _. ⌜ now (numbering .exit) ≡ replicate v unnumbered ++ drop v (now (numbering .entry)) ⌝ }
+    ensures memory { λ _. ⌜ now (m .exit) ≡ allFree maxPlaces (now (m .entry)) maxPlaces ⌝ }
+{
+    fill(numbering, v, UNNUMBERED);
+    let front = begin(m, PLACES, stated_for(v, k));
+    Course {
+        front,
+        given: 0,
+        lowest: 0,
+    }
+}
+
+// A packing that has begun runs to its end: the numbering and the pack are written. Past the first v the numbering stays as it is.
+fn run_from(
+    v: usize,
+    list: &[u16],
+    chains: &Links,
+    start: Course,
+    numbering: &mut [u16],
+    buffer: &mut [u8],
+    m: &mut [u16],
+) -> Packed
+    requires { ⌜ Begins v (now list) (now chains) start (now numbering) (now m) ⌝ }
+    ensures { λ r. ⌜ ((ns : List ℕ) → drop v (now (numbering .entry)) ≡ drop v ns
+        → RunGives v (now (list .entry)) ns (now (buffer .entry)) r (now (numbering .exit)) (now (buffer .exit))) ⌝ }
+{
+    let k = list.len() / 3;
+    let mut built = [0u8; TRIANGLES];
+    let budget = 4 * k + 1;
+    let end = run(
+        list,
+        chains,
+        start,
+        budget,
+        &mut built,
+        numbering,
+        buffer,
+        m,
+    );
+    finish(v, k, end, numbering, buffer)
+}
+
+// Packs a list that got past 8.
 fn pack_accepted(
     v: usize,
     list: &[u16],
@@ -57,26 +108,8 @@ fn pack_accepted(
     ensures { λ r. ⌜ RunGives v (now (list .entry)) (now (numbering .entry)) (now (buffer .entry)) r (now (numbering .exit))
         (now (buffer .exit)) ⌝ }
 {
-    let k = list.len() / 3;
-    let mut built = [0u8; TRIANGLES];
-    let front = begin(m, PLACES, stated_for(v, k));
-    fill(numbering, v, UNNUMBERED);
-    let start = Course {
-        front,
-        given: 0,
-        lowest: 0,
-    };
-    let end = run(
-        list,
-        chains,
-        start,
-        4 * k + 1,
-        &mut built,
-        numbering,
-        buffer,
-        m,
-    );
-    finish(v, k, end, numbering, buffer)
+    let start = begin_course(v, list.len() / 3, numbering, m);
+    run_from(v, list, chains, start, numbering, buffer, m)
 }
 
 // A list's refusal, 1 to 7, as the packing's.

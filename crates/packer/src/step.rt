@@ -4,11 +4,11 @@ use crate::operate::operate;
 use crate::operate::ready_for;
 use crate::operate::refusal_of;
 use crate::start::begin_piece;
+use border::finish::is_complete;
 use corners::Links;
 use cutborder::Course;
 use cutborder::Done;
 use cutborder::Flags;
-use cutborder::Front;
 use cutborder::Ran;
 use cutborder::Taken;
 use wire::writer::write_operation;
@@ -18,8 +18,9 @@ ghost use Prim.Native.Nat.{ℕ, _+_, _≤_, _<_};
 ghost use lib.ListN.{length};
 ghost use Rattle.cutborder.specs.declared.Taken.the-variants as Takes;
 ghost use Rattle.cutborder.specs.declared.Ran.the-variants as Runs;
+ghost use Rattle.border_theory.specs.Memory.Finish.{isComplete};
 ghost use Rattle.pack_theory.specs.Packing.Course.{Held, givenBy, numbersBy};
-ghost use Rattle.pack_theory.specs.Packing.Steps.{isDone, Alive, StepOf, RunOf};
+ghost use Rattle.pack_theory.specs.Packing.Steps.{Alive, StepOf, RunOf};
 
 // The next number k is given to the vertex c, or not: how many are given then.
 fn give(numbering: &mut [u16], fresh: bool, c: u16, k: u16) -> u16
@@ -67,18 +68,6 @@ fn go_on(
     )
 }
 
-// Whether nothing is left to do: all triangles are built, and no loop is live.
-fn is_done(f: Front) -> bool
-    ensures { λ b. ⌜ b ≡ isDone f ⌝ }
-{
-    let stated = f.stated;
-    let loops = f.loops;
-    if f.built != stated.triangles {
-        return false;
-    }
-    loops.live == 0
-}
-
 // One step, where something is left to do: 9 or 10, or the operation that is taken and the state after it.
 pub fn step(
     list: &[u16],
@@ -88,7 +77,7 @@ pub fn step(
     numbering: &mut [u16],
     m: &mut [u16],
 ) -> Taken
-    requires { ⌜ Held (now list) (now chains) t (now built) (now numbering) (now m) × (isDone (t .front) ≡ false) ⌝ }
+    requires { ⌜ Held (now list) (now chains) t (now built) (now numbering) (now m) × (isComplete (t .front) ≡ false) ⌝ }
     ensures { λ r. ⌜ StepOf (now (list .entry)) t (now (built .entry)) (now (numbering .entry)) (now (m .entry)) r (now (built .exit))
         (now (numbering .exit)) (now (m .exit)) ⌝ }
 {
@@ -130,7 +119,7 @@ pub fn run(
     let mut at = 112;
     let mut left = budget;
     while 0 < left {
-        if is_done(t.front) {
+        if is_complete(t.front) {
             return Ran::Ended(t, at);
         }
         let r = step(list, chains, t, built, numbering, m);

@@ -3,13 +3,11 @@
 use Prim.Native.Nat.{ℕ, zero, suc, _+_, _*_, _≤_, _<_}
 use native.Mathlib.Omega.{arith}
 use mathlib.Core.Bool.{Bool, true, false, _&&_, false≢true, true≢false}
-use mathlib.Core.List.{List, [], _∷_, _++_}
+use mathlib.Core.List.{List, _∷_}
 use mathlib.Core.Path.{_≡_, refl, sym, ap, ap₂, _∙_, subst}
-use lib.ListN.{length, take, drop, replicate, length-append, length-drop, length-replicate, List·getD-append, getD-replicate}
-use lib.Seq.{length-take-le}
+use lib.ListN.{length, drop, replicate, length-append, length-drop, length-replicate, List·getD-append, getD-replicate}
 use lib.Dec.{leb}
 use borrow.Author.Tests.{leb-true, le-leb}
-use Rattle.rules.specs.declared.Triangle.{Triangle}
 use Rattle.rules.specs.declared.Counts.{Counts}
 use Rattle.rules.specs.declared.Operation.{Operation}
 use Rattle.rules.specs.declared.Place.{Place}
@@ -27,8 +25,9 @@ use Rattle.rules.specs.Book.{operate, finish, Book, recounted, emptyBook, enter
 use Rattle.rules.specs.Calls.{lastState}
 use Rattle.rules.specs.Buffer.{freePlace, cleared, Buffers, Lengths, lengths}
 use Rattle.rules.specs.View.{placeAt, view, trianglesBuilt, placesOf, loopsOf}
+use Rattle.counting.proofs.Triangles.{written-long}
 use Rattle.rules.specs.Sound.{sizesOf, countsFit, sumsFit, apart, placesFit, loopsFit, linksFit, trianglesFit, sound, soundElse}
-use Rattle.rules.specs.Build.{viewed, operates, begunBuilder, begunBuffers, BegunBy, withTriangle, NoPlace, Leaves, OperatedBy}
+use Rattle.rules.specs.Build.{viewed, operates, begunBuilder, begunBuffers, BegunBy, NoPlace, Leaves, OperatedBy}
 use Rattle.book.specs.Consistent.{Ranges}
 use Rattle.book.specs.Reached.{reached}
 use Rattle.book.proofs.Kept.{test-law}
@@ -160,13 +159,6 @@ world-of b r = record { state = b; triangles = r .triangles; places = r .places 
 same-world : (b b′ : Builder) (r r′ : Buffers) → b ≡ b′ → r ≡ r′ → world-of b r ≡ world-of b′ r′
 same-world b b′ r r′ e f i = record { state = e i; triangles = f i .triangles; places = f i .places }
 
--- a triangle written
-written-long : (n : ℕ) (t : Triangle) (xs : List ℕ) → 3 * n + 3 ≤ length xs → length (withTriangle n t xs) ≡ length xs
-written-long n t xs h =
-    let ys : List ℕ = t .p ∷ (t .q ∷ (t .r ∷ [])) in
-    length-append (take (3 * n) xs) (ys ++ drop (3 * n + 3) xs)
-    ∙ omega (arith, length-take-le (3 * n) xs (omega (arith, h)), length-append ys (drop (3 * n + 3) xs), length-drop (3 * n + 3) xs, h)
-
 pub built-long : (xs : List ℕ) (n : ℕ) → length (trianglesBuilt xs n) ≡ n
 unfolding trianglesBuilt
 built-long xs zero = refl
@@ -261,7 +253,7 @@ module _ (b : Builder) (r : Buffers) (o : Operation) (b′ : Builder) (r′ : Bu
   operated-long (refused n) a h k = absurd (false≢true h)
   operated-long (begun m) a h k = absurd a
   operated-long (built t m) a h k = λ i. record {
-    triangles = (ap length (a .triangles) ∙ written-long (b .built) t (r .triangles) k) i;
+    triangles = (ap length (a .triangles) ∙ written-long (r .triangles) (b .built) t k) i;
     places = a .long i;
   }
   operated-long (declared d m) a h k = λ i. record { triangles = ap length (a .triangles) i; places = a .long i }

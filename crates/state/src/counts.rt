@@ -1,5 +1,6 @@
 // The counts and sums of a builder's state, and the numbers of its triangles.
 use cutborder::PLACES;
+use mesh::all_below;
 use rules::Builder;
 use rules::Counts;
 use wire::fields::is_in_range;
@@ -8,7 +9,6 @@ ghost use Prim.Native.Nat.{_*_, _≤_};
 ghost use lib.Dec.{leb};
 ghost use lib.ListN.{length};
 ghost use Rattle.rules.specs.Machine.{longEnough};
-ghost use Rattle.rules.specs.Check.{allBelow};
 ghost use Rattle.rules.specs.Sound.{sizesOf, countsFit, sumsFit, trianglesFit};
 ghost use Rattle.rules.specs.Limits.{maxLoops};
 ghost use Rattle.state_theory.specs.Opening.Marks.{numbersFit};
@@ -87,27 +87,13 @@ fn sums_fit(b: Builder) -> bool
     b.rims as usize <= most
 }
 
-// Whether all numbers are below v.
-fn all_below(v: u16, list: &[u16]) -> bool
-    ensures { λ r. ⌜ r ≡ allBelow v (now (list .entry)) ⌝ }
-{
-    let mut i = 0;
-    while i < list.len() {
-        if v <= list[i] {
-            return false;
-        }
-        i += 1;
-    }
-    true
-}
-
 // Whether the numbers of the triangles built so far are below the count so far.
 fn triangles_fit(b: Builder, triangles: &[u16]) -> bool
     requires { ⌜ 3 * b .built ≤ length (now triangles) ⌝ }
     ensures { λ r. ⌜ r ≡ trianglesFit b (now (triangles .entry)) ⌝ }
 {
     let n = 3 * (b.built as usize);
-    all_below(b.used, &triangles[..n])
+    all_below(b.used as usize, &triangles[..n])
 }
 
 // What 21 asks of the numbers beside the loops' places.

@@ -19,8 +19,10 @@ use Rattle.mesh_theory.specs.Chains.Linked.{Linked}
 use Rattle.cutborder.specs.declared.Front.{Front}
 use Rattle.cutborder.specs.declared.Stepped.{Stepped}
 use Rattle.cutborder.specs.declared.Stepped.the-variants.{Going, Refused}
-use Rattle.unpack_theory.specs.Runs.{Runs, isAsStated, modelAnswer, Whole, Concludes, Ended, Answers, bitsFrom}
-use Rattle.unpack_theory.proofs.Ending.{stated-same, end-19, end-20, end-done, whole-built, whole-linked, whole-fans, whole-unmet}
+use Rattle.unpack_theory.specs.Runs.{Runs, modelAnswer, Whole, Concludes, Ended, Answers, bitsFrom}
+use Rattle.border_theory.specs.Memory.Finish.{isAsStated}
+use Rattle.unpack_theory.proofs.Ending.{end-19, end-20, end-done, whole-built, whole-linked, whole-fans, whole-unmet}
+use Rattle.border_theory.proofs.Memory.Finish.{stated-same}
 use Rattle.unpack_theory.proofs.Ending.{whole-model}
 use Rattle.unpack_theory.proofs.Stepping.{runs-ready}
 

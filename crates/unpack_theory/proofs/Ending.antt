@@ -4,10 +4,9 @@ use Prim.Native.Nat.{ℕ, zero, _+_, _-_, _*_, _/_, _<_}
 use native.Mathlib.Omega.{arith}
 use mathlib.Core.Bool.{Bool, true, false, _&&_}
 use mathlib.Core.List.{List, [], _++_}
-use mathlib.Core.Path.{_≡_, refl, sym, ap, ap₂, _∙_, subst}
+use mathlib.Core.Path.{_≡_, sym, ap, ap₂, _∙_, subst}
 use lib.ListN.{length, getD, take, drop, take-append-drop}
 use lib.Seq.{length-take-le, getD-take}
-use lib.IntN.{ℤ, pos, _+ℤ_, _-ℤ_}
 use lib.Dec.{eqb}
 use borrow.Author.Tests.{eqb-true}
 use Rattle.rules.specs.declared.Counts.{Counts}
@@ -21,44 +20,17 @@ use Rattle.rules.specs.Answer.{Answer, refusal, unpacked}
 use Rattle.rules.specs.Buffer.{over}
 use Rattle.rules.specs.Unpack.{Ran, numbersOf}
 use Rattle.book.proofs.Bounds.{bounded-ranges}
-use Rattle.border_theory.proofs.Links.Named.{named-lives}
 use Rattle.mesh_theory.specs.Chains.Linked.{Linked}
 use Rattle.mesh_theory.proofs.Chains.Linking.{chains-same}
 use Rattle.cutborder.specs.declared.Front.{Front}
-use Rattle.border_theory.specs.Memory.Layout.{verticesOf}
-use Rattle.border_theory.specs.Memory.Stands.{ringsIn}
-use Rattle.border_theory.specs.Memory.Keeps.{Keeps}
-use Rattle.border_theory.proofs.Memory.Deciding.{stands-live}
+use Rattle.border_theory.proofs.Memory.Finish.{totals-same}
 use Rattle.choice_theory.proofs.OneFan.Unmet.{fanned-one-run}
-use Rattle.unpack_theory.specs.Runs.{Runs, isComplete, isAsStated, modelAnswer, endBy, endAnswer, Beyond}
+use Rattle.unpack_theory.specs.Runs.{Runs, modelAnswer, endBy, endAnswer, Beyond}
 use Rattle.unpack_theory.proofs.Order.{built-different, built-once, fan-built, same-fans}
 use Rattle.unpack_theory.proofs.Meeting.{zero-unmet}
 use Rattle.counting.proofs.Bools.{and-left}
 use Rattle.counting.proofs.Ranges.{in-range, InRange}
 use Rattle.mesh_theory.proofs.Chains.Prefix.{length-numbers}
-
--- the tests of a state are the machine's
-module _ (n : ℕ) (s : Front) (m : List ℕ) (M : Machine) (k : Keeps n s m M) where
-  pub live-same : length (M .loops) ≡ s .loops .live
-  live-same =
-      ap length (k .loops) ∙ named-lives (verticesOf n m) (ringsIn n (s .loops) m)
-      ∙ sym (stands-live n (s .loops) m (ringsIn n (s .loops) m) (k .stands))
-
-  complete-by : (b : Bool) (x y : ℕ) → b && eqb x y ≡ elim b [ true ↦ eqb x y | false ↦ false ]
-  complete-by true x y = refl
-  complete-by false x y = refl
-
-  pub complete-same : complete M ≡ isComplete s
-  complete-same =
-      ap₂ _&&_ (ap₂ eqb (k .triangles) (ap (λ (c : Counts). c .triangles) (k .stated))) (ap (λ (x : ℕ). eqb x 0) live-same)
-      ∙ complete-by (eqb (s .built) (s .stated .triangles)) (s .loops .live) 0
-
-  pub stated-same : asStated M ≡ isAsStated s
-  stated-same =
-      ap₂ _&&_
-      (ap₂ _&&_ (ap₂ eqb (k .used) (ap (λ (c : Counts). c .vertices) (k .stated)))
-      (ap₂ eqb (k .mostPlaces) (ap (λ (c : Counts). c .places) (k .stated))))
-      (ap₂ eqb (k .mostLoops) (ap (λ (c : Counts). c .loops) (k .stated)))
 
 -- the answer of a complete machine, by the tests
 module _ (c : Counts) (M : Machine) (rest : Bool) where
@@ -133,15 +105,11 @@ module _ (M : Machine) (s : Front) (ts m cs ks : List ℕ) (g : Runs M s ts m cs
       ∙ fan-built (M .triangles) (g .consistent .once) (g .consistent .proper) u
       (fanned-one-run (g .consistent) (g .fanned) u (zero-unmet ks u z))
 
-  totals-same : totals M
-      ≡ record { edges = s .edges; rims = s .rims; unions = s .unions; euler = pos (s .used) -ℤ pos (s .edges) +ℤ pos (s .built) }
-  totals-same =
-      rw (g .keeps .edges, g .keeps .rims, g .keeps .unions, g .keeps .used, g .keeps .triangles) refl
-
   pub whole-model : unpacked (record { vertices = s .stated .vertices; triangles = s .stated .triangles; totals = totals M })
       ≡ modelAnswer s
   whole-model =
-      ap (λ (x : Totals). unpacked (record { vertices = s .stated .vertices; triangles = s .stated .triangles; totals = x })) totals-same
+      ap (λ (x : Totals). unpacked (record { vertices = s .stated .vertices; triangles = s .stated .triangles; totals = x }))
+      (totals-same _ s m M (g .keeps))
 
   -- the buffer after an accepted unpacking
   pub whole-over : (ts₀ : List ℕ) → Beyond (s .stated) ts₀ ts → ts ≡ over (numbersOf (M .triangles)) ts₀

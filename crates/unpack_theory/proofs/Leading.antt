@@ -11,7 +11,8 @@ use Rattle.cutborder.specs.declared.Stepped.{Stepped}
 use Rattle.cutborder.specs.declared.Stepped.the-variants.{Going, Refused}
 use Rattle.cutborder.specs.declared.Progress.{Progress}
 use Rattle.unpack_theory.specs.Turn.{turn}
-use Rattle.unpack_theory.specs.Runs.{Held, isComplete, bitsFrom, Beyond, Steps, StepOf, ComesFrom, RunOf}
+use Rattle.unpack_theory.specs.Runs.{Held, bitsFrom, Beyond, Steps, StepOf, ComesFrom, RunOf}
+use Rattle.border_theory.specs.Memory.Finish.{isComplete}
 use Rattle.unpack_theory.specs.Progressing.{over, progressOf, HeldOf, HeldBy, StatedOf, ReachedOf, Reached, Leads}
 use Rattle.unpack_theory.proofs.Looping.{comes-first, comes-end, comes-complete, comes-stopped, comes-on}
 

@@ -2,7 +2,6 @@ pub mod Cleared
 pub mod Clearing
 pub mod Concluding
 pub mod Ending
-pub mod Euler
 pub mod Leading
 pub mod Lending
 pub mod Looping

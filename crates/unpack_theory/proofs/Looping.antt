@@ -11,9 +11,10 @@ use Rattle.cutborder.specs.declared.Front.{Front}
 use Rattle.cutborder.specs.declared.Stepped.{Stepped}
 use Rattle.cutborder.specs.declared.Stepped.the-variants.{Going, Refused}
 use Rattle.unpack_theory.specs.Turn.{turn}
-use Rattle.unpack_theory.specs.Runs.{Runs, isComplete, bitsFrom, Steps, StepOf, Comes, ComesFrom, Ends, RunOf, Ended}
+use Rattle.unpack_theory.specs.Runs.{Runs, bitsFrom, Steps, StepOf, Comes, ComesFrom, Ends, RunOf, Ended}
+use Rattle.border_theory.specs.Memory.Finish.{isComplete}
 use Rattle.unpack_theory.proofs.Turns.{ran-complete, ran-stops, ran-goes, ran-out}
-use Rattle.unpack_theory.proofs.Ending.{complete-same}
+use Rattle.border_theory.proofs.Memory.Finish.{complete-same}
 
 module _ (ops : List ℕ) (budget : ℕ) (s₀ : Front) (ts₀ m₀ cs₀ ks₀ : List ℕ) where
   pub comes-first : ComesFrom ops budget s₀ ts₀ m₀ cs₀ ks₀ budget s₀ 0 ts₀ m₀ cs₀ ks₀

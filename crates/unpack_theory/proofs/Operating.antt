@@ -21,7 +21,8 @@ use Rattle.border_theory.specs.Memory.Keeps.{Ready}
 use Rattle.cutborder.specs.declared.Stepped.{Stepped}
 use Rattle.cutborder.specs.declared.Stepped.the-variants.{Going, Refused}
 use Rattle.unpack_theory.specs.Met.{metAfter}
-use Rattle.unpack_theory.specs.Runs.{Held, written, bitsFrom, Beyond, OperateOf, StepOf}
+use Rattle.rules.specs.Build.{withTriangle}
+use Rattle.unpack_theory.specs.Runs.{Held, bitsFrom, Beyond, OperateOf, StepOf}
 use Rattle.unpack_theory.specs.Rule.{RuleIs}
 use Rattle.unpack_theory.proofs.Writing.{beyond-written}
 use Rattle.unpack_theory.proofs.Stepping.{runs-ready, turn-broken, turn-refused, turn-ruled, turn-built, built-fits, built-few}
@@ -69,14 +70,14 @@ module _ (o : Operation) (at′ : ℕ) (s : Front) (ts m cs ks : List ℕ) where
       pub operate-third : Held s ts m cs ks → p .triangle .r < maxVertices
       operate-third w = built-third (w .machine) s ts m cs ks (w .runs) o p e b r (not-false b h)
 
-      pub operate-beyond : Held s ts m cs ks → (ts′ : List ℕ) → ts′ ≡ written ts (s .built) (p .triangle) → Beyond (s .stated) ts ts′
+      pub operate-beyond : Held s ts m cs ks → (ts′ : List ℕ) → ts′ ≡ withTriangle (s .built) (p .triangle) ts → Beyond (s .stated) ts ts′
       operate-beyond w ts′ et =
           subst (Beyond (s .stated) ts) (sym et)
-          (beyond-written (s .stated) ts (s .built) (p .triangle)
+          (beyond-written ts (s .built) (p .triangle) (operate-room w .0) (s .stated)
           (built-fits (w .machine) s ts m cs ks (w .runs) o p e b r (not-false b h)))
 
       pub operate-built : (s′ : Front) → s′ ≡ builtFront maxPlaces s p (heldAfter maxPlaces s m o p .loops) → (ts′ : List ℕ)
-          → ts′ ≡ written ts (s .built) (p .triangle) → (m′ : List ℕ) → m′ ≡ heldAfter maxPlaces s m o p .memory → (cs′ : List ℕ)
+          → ts′ ≡ withTriangle (s .built) (p .triangle) ts → (m′ : List ℕ) → m′ ≡ heldAfter maxPlaces s m o p .memory → (cs′ : List ℕ)
           → cs′ ≡ relinked cs (s .built) (p .triangle .p) (p .triangle .q) (p .triangle .r) → (ks′ : List ℕ)
           → ks′ ≡ metAfter ks o (p .triangle .r)
           → OperateOf o at′ s ts m cs ks (Going s′ at′) ts′ m′ cs′ ks′

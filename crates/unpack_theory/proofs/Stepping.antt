@@ -29,6 +29,8 @@ use Rattle.book.proofs.EdgeRule.{Simple, refusalOf, never-18, test-passed}
 use Rattle.mesh_theory.specs.Chains.Corner.{firstTriangles}
 use Rattle.mesh_theory.specs.Chains.Linked.{relinked}
 use Rattle.mesh_theory.proofs.Chains.Linking.{written-linked}
+use Rattle.counting.proofs.Triangles.{written-long}
+use Rattle.rules.specs.Build.{withTriangle}
 use Rattle.cutborder.specs.declared.Front.{Front}
 use Rattle.cutborder.specs.declared.Plan.{Plan}
 use Rattle.cutborder.specs.declared.Decided.{Decided}
@@ -43,10 +45,10 @@ use Rattle.choice_theory.proofs.OneFan.Steps.{fanned-built, fanned-declared}
 use Rattle.cutborder.specs.declared.Stepped.the-variants.{Going, Refused}
 use Rattle.unpack_theory.specs.Turn.{stops, turnBy, turnOf, turn}
 use Rattle.unpack_theory.specs.Met.{metAfter}
-use Rattle.unpack_theory.specs.Runs.{Runs, written, bitsFrom, Steps}
+use Rattle.unpack_theory.specs.Runs.{Runs, bitsFrom, Steps}
 use Rattle.unpack_theory.specs.Rule.{ruleAt, RuleIs}
 use Rattle.unpack_theory.proofs.Order.{asBuilt, same-rule}
-use Rattle.unpack_theory.proofs.Writing.{numbers-more, length-written}
+use Rattle.unpack_theory.proofs.Writing.{numbers-more}
 use Rattle.unpack_theory.proofs.Meeting.{met-long, unmet-before}
 use Rattle.counting.proofs.Bools.{and-left, and-right}
 use Rattle.counting.proofs.Counts.{same-yes}
@@ -229,7 +231,7 @@ module _ (M : Machine) (s : Front) (ts m cs ks : List ℕ) (g : Runs M s ts m cs
 
     runs-next : (s′ : Front) → s′ ≡ builtFront maxPlaces s p (heldAfter maxPlaces s m o p .loops) → (m′ : List ℕ)
         → m′ ≡ heldAfter maxPlaces s m o p .memory
-        → Runs (does .next) s′ (written ts (s .built) (p .triangle)) m′
+        → Runs (does .next) s′ (withTriangle (s .built) (p .triangle) ts) m′
         (relinked cs (s .built) (p .triangle .p) (p .triangle .q) (p .triangle .r))
         (metAfter ks o (p .triangle .r))
     unfolding builtFront
@@ -242,18 +244,18 @@ module _ (M : Machine) (s : Front) (ts m cs ks : List ℕ) (g : Runs M s ts m cs
           consistent = kept-next;
           bounded = bounded-next;
           keeps = does .keeps;
-          numbers = numbers-more ts (s .built) t (M .triangles) l (g .numbers) ∙ ap numbersOf (sym (grown .0));
+          numbers = numbers-more ts (s .built) t l (M .triangles) (g .numbers) ∙ ap numbersOf (sym (grown .0));
           chains =
-              written-linked ts (s .built) (t .p) (t .q) (t .r) cs (g .chains) l (omega (arith, one-fits, counts .triangles))
+              written-linked ts (s .built) t l cs (g .chains) (omega (arith, one-fits, counts .triangles))
               (below-most (t .p) (corner-p t (M .triangles))) (below-most (t .q) (corner-q t (M .triangles)))
               third-below;
-          room = omega (arith, length-written ts (s .built) t, g .room);
+          room = omega (arith, written-long ts (s .built) t l, g .room);
           noted = met-long ks o (t .r) ∙ g .noted;
           fanned = fanned-built o (g .fanned) made (λ v. unmet-before ks t (omega (arith, third-below, g .noted)) v o);
         })
 
     pub turn-built : (xs ops : List ℕ) (at′ : ℕ) → readOperation xs ≡ read o (bitsFrom ops at′) → (s′ : Front)
-        → s′ ≡ builtFront maxPlaces s p (heldAfter maxPlaces s m o p .loops) → (ts′ : List ℕ) → ts′ ≡ written ts (s .built) (p .triangle)
+        → s′ ≡ builtFront maxPlaces s p (heldAfter maxPlaces s m o p .loops) → (ts′ : List ℕ) → ts′ ≡ withTriangle (s .built) (p .triangle) ts
         → (m′ : List ℕ) → m′ ≡ heldAfter maxPlaces s m o p .memory → (cs′ : List ℕ)
         → cs′ ≡ relinked cs (s .built) (p .triangle .p) (p .triangle .q) (p .triangle .r) → (ks′ : List ℕ)
         → ks′ ≡ metAfter ks o (p .triangle .r)

@@ -5,10 +5,7 @@ use Prim.Native.Nat.{ℕ, _+_, _*_, _≤_}
 use mathlib.Core.Bool.{Bool, true, false, _&&_}
 use mathlib.Core.List.{List, []}
 use mathlib.Core.Path.{_≡_}
-use lib.ListN.{length, take, drop, set}
-use lib.Dec.{eqb}
-use lib.IntN.{pos, _+ℤ_, _-ℤ_}
-use Rattle.rules.specs.declared.Triangle.{Triangle}
+use lib.ListN.{length, take, drop}
 use Rattle.rules.specs.declared.Counts.{Counts}
 use Rattle.rules.specs.declared.Operation.{Operation}
 use Rattle.rules.specs.Limits.{maxPlaces, maxVertices}
@@ -28,6 +25,7 @@ use Rattle.mesh_theory.specs.Chains.Linked.{Chains}
 use Rattle.choice_theory.specs.Fanned.{Fanned}
 use Rattle.cutborder.specs.declared.Front.{Front}
 use Rattle.border_theory.specs.Memory.Keeps.{Keeps}
+use Rattle.border_theory.specs.Memory.Finish.{totalsOf}
 use Rattle.cutborder.specs.declared.Stepped.{Stepped}
 use Rattle.cutborder.specs.declared.Stepped.the-variants.{Going, Refused}
 use Rattle.unpack_theory.specs.Turn.{Turn, stops, goes, turn}
@@ -51,14 +49,6 @@ pub record Runs (M : Machine) (s : Front) (ts m cs ks : List ℕ) : Type 0 where
 pub record Held (s : Front) (ts m cs ks : List ℕ) : Type 0 where
   pub machine : Machine
   pub runs : Runs machine s ts m cs ks
-
--- T triangles are built and no loop is live
-abbrev pub isComplete : Front → Bool
-isComplete s = elim (eqb (s .built) (s .stated .triangles)) [ true ↦ eqb (s .loops .live) 0 | false ↦ false ]
-
--- triangle n written into the buffer
-abbrev pub written : List ℕ → ℕ → Triangle → List ℕ
-written ts n t = set (set (set ts (3 * n) (t .p)) (3 * n + 1) (t .q)) (3 * n + 2) (t .r)
 
 -- the bits of the operations from a bit position on
 abbrev pub bitsFrom : List ℕ → ℕ → List ℕ
@@ -119,23 +109,9 @@ abbrev pub RunOf : List ℕ → ℕ → Front → List ℕ → List ℕ → List
 RunOf ops budget s ts m cs ks r ts′ m′ cs′ ks′ =
     (M : Machine) → Runs M s ts m cs ks → Ends (runAll budget M (bitsFrom ops 0)) ops (s .stated) r ts′ m′ cs′ ks′
 
--- 19, of the counts
-abbrev pub isAsStated : Front → Bool
-isAsStated s =
-    eqb (s .used) (s .stated .vertices) && eqb (s .peaks .places) (s .stated .places) && eqb (s .peaks .loops) (s .stated .loops)
-
 -- the answer for a complete model of these counts, once its fans are tested
 abbrev pub modelAnswer : Front → Answer
-modelAnswer s = unpacked (record {
-  vertices = s .stated .vertices;
-  triangles = s .stated .triangles;
-  totals = record {
-    edges = s .edges;
-    rims = s .rims;
-    unions = s .unions;
-    euler = pos (s .used) -ℤ pos (s .edges) +ℤ pos (s .built);
-  };
-})
+modelAnswer s = unpacked (record { vertices = s .stated .vertices; triangles = s .stated .triangles; totals = totalsOf s })
 
 -- the answer of 19, 20 and the acceptance
 abbrev pub endBy : Bool → Bool → Answer → Answer

@@ -15,7 +15,8 @@ use Rattle.cutborder.specs.declared.Front.{Front}
 use Rattle.cutborder.specs.declared.Stepped.{Stepped}
 use Rattle.cutborder.specs.declared.Stepped.the-variants.{Going, Refused}
 use Rattle.cutborder.specs.declared.Progress.{Progress}
-use Rattle.unpack_theory.specs.Runs.{isComplete, Beyond, OperateOf}
+use Rattle.unpack_theory.specs.Runs.{Beyond, OperateOf}
+use Rattle.border_theory.specs.Memory.Finish.{isComplete}
 use Rattle.unpack_theory.specs.Progressing.{over, progressOf, HeldBy}
 use Rattle.unpack_theory.proofs.Operating.{step-broken, step-read}
 use Rattle.unpack_theory.proofs.Leading.{going-held, turn-over, turn-complete, turn-step, progress-less}

@@ -1,68 +1,26 @@
-// The end of a run: whether the model is complete, 19 and 20, and the answer.
+// The end of a run: 19 and 20, and the answer.
+use border::finish::is_as_stated;
+use border::finish::totals_of;
 use corners::Links;
 use cutborder::Front;
 use cutborder::Stepped;
 use mesh::fans::Met;
 use mesh::fans::met_fans;
 use rules::Model;
-use rules::Totals;
 use rules::Unpacked;
 use wire::reader::is_rest_zero;
 ghost use mathlib.Core.Path.{_≡_};
 ghost use Prim.Native.Nat.{ℕ};
-ghost use lib.IntN.{pos, _+ℤ_, _-ℤ_};
 ghost use Rattle.rules.specs.Answer.{refusal, unpacked, unpackedAnswer};
 ghost use Rattle.cutborder.specs.declared.Stepped.the-variants.{Refused};
-ghost use Rattle.unpack_theory.specs.Runs.{isComplete, isAsStated, modelAnswer, Whole, Concludes, Ended, Answers};
-
-// Whether the model is complete: T triangles are built, and no loop is live.
-pub fn is_complete(s: Front) -> bool
-    ensures { λ b. ⌜ b ≡ isComplete s ⌝ }
-{
-    let stated = s.stated;
-    let loops = s.loops;
-    if s.built != stated.triangles {
-        return false;
-    }
-    loops.live == 0
-}
-
-// 19: whether the vertices and both peaks are those stated.
-pub fn is_as_stated(s: Front) -> bool
-    ensures { λ b. ⌜ b ≡ isAsStated s ⌝ }
-{
-    let stated = s.stated;
-    let peaks = s.peaks;
-    if s.used != stated.vertices {
-        return false;
-    }
-    if peaks.places != stated.places {
-        return false;
-    }
-    peaks.loops == stated.loops
-}
-
-// The Euler number: vertices minus edges plus triangles, which falls below zero with handles.
-pub fn euler(v: u16, e: u16, t: u16) -> i32
-    ensures { λ r. ⌜ r ≡ pos v -ℤ pos e +ℤ pos t ⌝ }
-{
-    let a = v as i32;
-    let b = e as i32;
-    let c = t as i32;
-    a - b + c
-}
+ghost use Rattle.unpack_theory.specs.Runs.{modelAnswer, Whole, Concludes, Ended, Answers};
 
 // What an accepted unpacking answers.
 fn model_of(s: Front) -> Model
     ensures { λ r. ⌜ unpacked r ≡ modelAnswer s ⌝ }
 {
     let stated = s.stated;
-    let totals = Totals {
-        edges: s.edges,
-        rims: s.rims,
-        unions: s.unions,
-        euler: euler(s.used, s.edges, s.built),
-    };
+    let totals = totals_of(s);
     Model {
         vertices: stated.vertices,
         triangles: stated.triangles,

@@ -2,7 +2,7 @@
 // unpacking.
 mod tidy; // what the triangle buffer is left with
 mod common; // deciding and doing, new and forward at hand
-pub mod conclude; // 19, 20, and the answer
+mod conclude; // 19, 20, and the answer
 mod meet; // the vertices that are met
 mod rule; // the edge rule
 pub mod step; // one operation, and the run of them

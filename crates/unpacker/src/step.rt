@@ -1,11 +1,12 @@
 // One operation of a pack, read and done, and the run of them until the model is complete.
 use crate::common::alter;
 use crate::common::propose;
-use crate::conclude::is_complete;
 use crate::meet::meet;
 use crate::rule::is_ruled;
 use border::count::count_built;
+use border::finish::is_complete;
 use border::mark;
+use border::triangles::put_triangle;
 use border::verdict::test_room;
 use corners::Links;
 use corners::link;
@@ -17,30 +18,18 @@ use cutborder::Progress;
 use cutborder::Stepped;
 use mesh::fans::Met;
 use rules::Operation;
-use rules::Triangle;
 use wire::reader::OperationRead;
 use wire::reader::OperationReader;
 use wire::reader::read_operation;
 ghost use mathlib.Core.Path.{_≡_};
-ghost use Prim.Native.Nat.{_+_, _*_, _<_, _≤_};
+ghost use Prim.Native.Nat.{_<_};
 ghost use lib.ListN.{length};
 ghost use Rattle.cutborder.specs.declared.Decided.the-variants.{Builds};
 ghost use Rattle.border_theory.specs.Memory.Decision.{decided};
-ghost use Rattle.rules.specs.Limits.{maxPlaces, maxTriangles};
-ghost use Rattle.unpack_theory.specs.Runs.{Held, written, Beyond, OperateOf, RunOf};
+ghost use Rattle.rules.specs.Limits.{maxPlaces};
+ghost use Rattle.unpack_theory.specs.Runs.{Held, Beyond, OperateOf, RunOf};
 ghost use Rattle.unpack_theory.specs.Progressing.{over, progressOf, HeldBy, Leads};
 ghost use Rattle.unpacker.specs.Turns.{StepRead, TurnOf};
-
-// Writes triangle n into the buffer.
-fn put_triangle(triangles: &mut [u16], n: usize, t: Triangle)
-    requires { ⌜ (3 * n + 3 ≤ length (now triangles)) × (n < maxTriangles) ⌝ }
-    ensures { λ _. ⌜ now (triangles .exit) ≡ written (now (triangles .entry)) n t ⌝ }
-{
-    let i = 3 * n;
-    triangles[i] = t.p;
-    triangles[i + 1] = t.q;
-    triangles[i + 2] = t.r;
-}
 
 // Builds a planned triangle, unless the edge rule fails (18): into the buffer, the chains and the memory. A vertex that it meets is
 // noted.

@@ -9,11 +9,14 @@ use lib.ListN.{length, getD, set, length-set, replicate, length-replicate, getD-
 use lib.Seq.{getD-set-same, getD-set-other}
 use lib.Dec.{eqb, ltb}
 use borrow.Author.Tests.{eqb-true, eqb-false, ltb-true, lt-ltb, le-ltb}
+use Rattle.rules.specs.declared.Triangle.{Triangle}
 use Rattle.rules.specs.Limits.{maxNumbers, maxTriangles, maxVertices}
+use Rattle.rules.specs.Build.{withTriangle}
 use Rattle.mesh_theory.specs.Chains.Corner.{latest}
 use Rattle.mesh_theory.specs.Chains.Linked.{Chains, linked, linkedTriangle, linkable, relinked, room}
 use Rattle.mesh_theory.proofs.Chains.Walking.{latest-here, latest-other}
 use Rattle.counting.proofs.Bools.{and-left, and-right}
+use Rattle.counting.proofs.Triangles.{written-long, written-before, written-p, written-q, written-r}
 
 -- chains of no corner
 pub chains-none : (xs cs : List ℕ) → length cs ≡ room → ((v : ℕ) → v < maxVertices → getD cs v 0 ≡ 0) → Chains xs 0 cs
@@ -185,30 +188,14 @@ chains-same xs ys n cs l h k = record {
       k .links c i ∙ ap (λ (v : ℕ). latest v xs c) (h c i) ∙ latest-same (getD ys c 0) xs ys c (λ d j. h d (omega arith));
 }
 
-pub chains-set : (xs : List ℕ) (n : ℕ) (cs : List ℕ) (i a : ℕ) → n ≤ i → Chains xs n cs → Chains (set xs i a) n cs
-chains-set xs n cs i a h k =
-    chains-same xs (set xs i a) n cs (simp length-set (k .within)) (λ c l. sym (getD-set-other xs i c a 0 (omega arith))) k
-
 -- a triangle that is written after the triangles of the chains, and linked
-module _ (xs : List ℕ) (n : ℕ) (p q r : ℕ) where
-  written : List ℕ
-  written = set (set (set xs (3 * n) p) (3 * n + 1) q) (3 * n + 2) r
-
-  pub written-linked : (cs : List ℕ) → Chains xs (3 * n) cs → 3 * n + 3 ≤ length xs → n < maxTriangles → p < maxVertices
-      → q < maxVertices → r < maxVertices
-      → Chains (set (set (set xs (3 * n) p) (3 * n + 1) q) (3 * n + 2) r) (3 * (n + 1)) (relinked cs n p q r)
-  unfolding written
-  written-linked cs k l m a b c =
-      let xs₁ = set xs (3 * n) p in
-      let xs₂ = set xs₁ (3 * n + 1) q in
-      let l₁ = length-set xs (3 * n) p in
-      let l₂ = length-set xs₁ (3 * n + 1) q in
-      let l₃ = length-set xs₂ (3 * n + 2) r in
-      let k₃ =
-      chains-set xs₂ (3 * n) cs (3 * n + 2) r (omega arith)
-      (chains-set xs₁ (3 * n) cs (3 * n + 1) q (omega arith) (chains-set xs (3 * n) cs (3 * n) p (omega arith) k)) in
-      triangle-linked written n cs k₃ (omega arith) p q r
-      (getD-set-other xs₂ (3 * n + 2) (3 * n) r 0 (omega arith) ∙ getD-set-other xs₁ (3 * n + 1) (3 * n) q 0 (omega arith)
-      ∙ getD-set-same xs (3 * n) p 0 (omega arith))
-      (getD-set-other xs₂ (3 * n + 2) (3 * n + 1) r 0 (omega arith) ∙ getD-set-same xs₁ (3 * n + 1) q 0 (omega arith))
-      (getD-set-same xs₂ (3 * n + 2) r 0 (omega arith)) m a b c (relinked cs n p q r) refl
+pub written-linked : (xs : List ℕ) (n : ℕ) (t : Triangle) → 3 * n + 3 ≤ length xs → (cs : List ℕ) → Chains xs (3 * n) cs
+    → n < maxTriangles → t .p < maxVertices → t .q < maxVertices → t .r < maxVertices
+    → Chains (withTriangle n t xs) (3 * (n + 1)) (relinked cs n (t .p) (t .q) (t .r))
+written-linked xs n t l cs k m a b c =
+    let ys : List ℕ = withTriangle n t xs in
+    let long : length ys ≡ length xs = written-long xs n t l in
+    let k′ : Chains ys (3 * n) cs =
+    chains-same xs ys (3 * n) cs (omega (arith, l, long)) (λ i j. sym (written-before xs n t l i j)) k in
+    triangle-linked ys n cs k′ (omega (arith, l, long)) (t .p) (t .q) (t .r) (written-p xs n t l) (written-q xs n t l)
+    (written-r xs n t l) m a b c (relinked cs n (t .p) (t .q) (t .r)) refl

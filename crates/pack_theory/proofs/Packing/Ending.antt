@@ -6,6 +6,7 @@ use mathlib.Core.Bool.{Bool, true, false, _&&_}
 use mathlib.Core.List.{List, [], _++_}
 use mathlib.Core.Path.{_≡_, refl, sym, ap, ap₂, _∙_, subst}
 use lib.ListN.{length, drop, replicate, length-replicate, drop-of-length-le}
+use lib.Seq.{drop-append-seam}
 use lib.Dec.{leb}
 use borrow.Author.Tests.{leb-true, le-leb, lt-leb}
 use Rattle.rules.specs.declared.Counts.{Counts}
@@ -29,7 +30,6 @@ use Rattle.choice_theory.proofs.Runs.Whole as whole
 use Rattle.choice_theory.proofs.Runs.Whole.{Complete, fits-begin, complete-all}
 use Rattle.choice_theory.proofs.Runs.Accepted.{accepted-packable, accepted-packs}
 use Rattle.roundtrip.proofs.Fitting.{accepted-count, between-of}
-use Rattle.cutborder.specs.declared.Front.{Front}
 use Rattle.border_theory.specs.Memory.Fresh.{allFree, freshFront}
 use Rattle.border_theory.specs.Memory.Keeps.{Roomy}
 use Rattle.border_theory.proofs.Memory.Fresh.{free-length, fresh-keeps}
@@ -43,7 +43,7 @@ use Rattle.pack_theory.specs.Packing.Course.{Holds, Held}
 use Rattle.pack_theory.specs.Packing.Writing.{Writes}
 use Rattle.pack_theory.specs.Packing.Steps.{Beyond, Ends, RunOf}
 use Rattle.pack_theory.specs.Packing.Finish.{countsAt, answerIf, finishAnswer, numbersIf, finishNumbers, packIf, finishPack, Sized}
-use Rattle.pack_theory.specs.Packing.Lent.{lent, packOn, PackedOn, Fitting, RunGives}
+use Rattle.pack_theory.specs.Packing.Lent.{lent, packOn, PackedOn, Fitting, emptyCourse, Begins, RunGives}
 use Rattle.pack_theory.proofs.Packing.Numbers.{entries-length, entries-none, entries-all}
 use Rattle.pack_theory.proofs.Packing.Flags.{unbuilt-all}
 use Rattle.pack_theory.proofs.Packing.Writing.{pack-length, pack-written}
@@ -57,84 +57,83 @@ flags-none zero i = refl
 flags-none (suc n) zero = refl
 flags-none (suc n) (suc i) = flags-none n i
 
-module _ (v : ℕ) (xs cs ns m : List ℕ) (h : Fitting v xs cs ns m) (k : ℕ) (ek : k ≡ length xs / 3) where
+module _ (v : ℕ) (xs : List ℕ) (a : check v xs ≡ C.Accepted) where
   triangles : (3 * length (trianglesOf xs) ≡ length xs) × (1 ≤ length (trianglesOf xs)) × (length (trianglesOf xs) ≤ maxTriangles)
-  triangles = accepted-count v xs (h .accepted)
-
-  pub count-is : k ≡ length (trianglesOf xs)
-  count-is = omega (arith, ek, triangles .0)
+  triangles = accepted-count v xs a
 
   vertices : (3 ≤ v) × (v ≤ 4096)
   vertices =
-      let p = check-accepted v xs .0 (h .accepted) .range in
+      let p = check-accepted v xs .0 a .range in
       let r = and-true (leb 3 v) (leb v 4096) p in
       (leb-true 3 v (r .0), leb-true v 4096 (r .1))
 
-  pub few-counts : (v ≤ 4096) × (k ≤ 8192)
-  few-counts = (vertices .1, omega (arith, count-is, triangles .2))
+  count-is : (k : ℕ) → k ≡ length xs / 3 → k ≡ length (trianglesOf xs)
+  count-is k ek = omega (arith, ek, triangles .0)
 
-  module _ (c : Counts) (ec : c ≡ statedFor v k) (f : Front) (ef : f ≡ freshFront maxPlaces c) (m′ : List ℕ)
-      (em : m′ ≡ allFree maxPlaces m maxPlaces)
-      (ns′ : List ℕ) (en : ns′ ≡ replicate v 65535 ++ drop v ns) where
-    start : Course
-    start = record { front = f; given = 0; lowest = 0 }
+  pub few-counts : (k : ℕ) → k ≡ length xs / 3 → (v ≤ 4096) × (k ≤ 8192)
+  few-counts k ek = (vertices .1, omega (arith, count-is k ek, triangles .2))
 
-    roomy : Roomy maxPlaces (freshFront maxPlaces c) m
-    roomy = record {
-      few = omega arith;
-      enough = omega (arith, ap (λ (x : Counts). x .places) ec);
-      long = omega (arith, h .whole, ap (λ (x : Counts). x .loops) ec);
-    }
+module _ (v : ℕ) (xs cs ns m : List ℕ) (h : Fitting v xs cs ns m) (k : ℕ) (ek : k ≡ length xs / 3) where
+  roomy : Roomy maxPlaces (freshFront maxPlaces (statedFor v k)) m
+  roomy = record { few = omega arith; enough = omega arith; long = omega (arith, h .whole) }
 
-    standing-fresh : Standing v (length (trianglesOf xs)) (freshFront maxPlaces c) (allFree maxPlaces m maxPlaces) [] 0 0
-    standing-fresh =
-        let kp = fresh-keeps maxPlaces c m roomy in
-        record {
-          vertices = between-of 3 v 4096 (vertices .0) (vertices .1);
-          triangles = between-of 1 (length (trianglesOf xs)) maxTriangles (triangles .1) (triangles .2);
-          stated = ec ∙ ap (statedFor v) count-is;
-          built = omega arith;
-          whole = free-length maxPlaces m maxPlaces ∙ h .whole;
-          stands = kp .stands;
-          loops = kp .loops;
-          few = omega arith;
-          places = refl;
-          most = refl;
-          few-places = omega arith;
-          few-loops = omega arith;
-        }
+  standing-fresh : Standing v (length (trianglesOf xs)) (freshFront maxPlaces (statedFor v k)) (allFree maxPlaces m maxPlaces) [] 0 0
+  standing-fresh =
+      let kp = fresh-keeps maxPlaces (statedFor v k) m roomy in
+      let t = triangles v xs (h .accepted) in
+      let r = vertices v xs (h .accepted) in
+      record {
+        vertices = between-of 3 v 4096 (r .0) (r .1);
+        triangles = between-of 1 (length (trianglesOf xs)) maxTriangles (t .1) (t .2);
+        stated = ap (statedFor v) (count-is v xs (h .accepted) k ek);
+        built = omega arith;
+        whole = free-length maxPlaces m maxPlaces ∙ h .whole;
+        stands = kp .stands;
+        loops = kp .loops;
+        few = omega arith;
+        places = refl;
+        most = refl;
+        few-places = omega arith;
+        few-loops = omega arith;
+      }
 
-    pub begin-holds : Holds v xs (nothingBuilt most (trianglesOf xs)) (record { front = f; given = 0; lowest = 0 })
-        (replicate maxTriangles 0) ns′ (drop v ns) m′
-    begin-holds = record {
-      accepted = h .accepted;
-      built = [];
-      rims = [];
-      fits = fits-begin most (trianglesOf xs) (accepted-packable v xs (h .accepted) .once);
-      mesh = refl;
-      limit-places = refl;
-      limit-loops = refl;
-      left = sym (unbuilt-all (replicate maxTriangles 0) 0 (trianglesOf xs) (flags-none maxTriangles));
-      lowest = λ i l e. omega (arith, l);
-      before = omega arith;
-      flags = length-replicate {A = ℕ} maxTriangles 0;
-      numbers = en ∙ ap (λ (l : List ℕ). l ++ drop v ns) (sym (entries-none v));
-      given = refl;
-      few = omega arith;
-      count = omega (arith, ap (λ (x : Front). x .built) ef);
-      standing =
-          subst (λ (x : Front). Standing v (length (trianglesOf xs)) x m′ [] 0 0) (sym ef)
-          (subst (λ (w : List ℕ). Standing v (length (trianglesOf xs)) (freshFront maxPlaces c) w [] 0 0) (sym em) standing-fresh);
-    }
+  fresh-holds : Holds v xs (nothingBuilt most (trianglesOf xs)) (emptyCourse v k) (replicate maxTriangles 0)
+      (replicate v 65535 ++ drop v ns) (drop v ns) (allFree maxPlaces m maxPlaces)
+  fresh-holds = record {
+    accepted = h .accepted;
+    built = [];
+    rims = [];
+    fits = fits-begin most (trianglesOf xs) (accepted-packable v xs (h .accepted) .once);
+    mesh = refl;
+    limit-places = refl;
+    limit-loops = refl;
+    left = sym (unbuilt-all (replicate maxTriangles 0) 0 (trianglesOf xs) (flags-none maxTriangles));
+    lowest = λ i l e. omega (arith, l);
+    before = omega arith;
+    flags = length-replicate {A = ℕ} maxTriangles 0;
+    numbers = ap (λ (l : List ℕ). l ++ drop v ns) (sym (entries-none v));
+    given = refl;
+    few = omega arith;
+    count = omega arith;
+    standing = standing-fresh;
+  }
 
-    pub begin-held : Held xs cs (record { front = f; given = 0; lowest = 0 }) (replicate maxTriangles 0) ns′ m′
-    begin-held = record {
-      linked = h .linked;
-      vertices = v;
-      packing = nothingBuilt most (trianglesOf xs);
-      rest = drop v ns;
-      holds = begin-holds;
-    }
+  -- the entries past the first v
+  past-same : drop v (replicate v 65535 ++ drop v ns) ≡ drop v ns
+  past-same = subst (λ (i : ℕ). drop i (replicate v 65535 ++ drop v ns) ≡ drop v ns) (length-replicate {A = ℕ} v 65535)
+      (drop-append-seam (replicate v 65535) (drop v ns))
+
+  pub begins : (t : Course) → t ≡ emptyCourse v k → (ns′ : List ℕ) → ns′ ≡ replicate v 65535 ++ drop v ns → (m′ : List ℕ)
+      → m′ ≡ allFree maxPlaces m maxPlaces → Begins v xs cs t ns′ m′ × (drop v ns′ ≡ drop v ns)
+  begins t et ns′ en m′ em =
+      let past : drop v ns′ ≡ drop v ns = ap (drop v) en ∙ past-same in
+      let H : Course → List ℕ → List ℕ → List ℕ → Type 0 =
+      λ t ns rest m. Holds v xs (nothingBuilt most (trianglesOf xs)) t (replicate maxTriangles 0) ns rest m in
+      let h₁ = subst (λ (x : Course). H x (replicate v 65535 ++ drop v ns) (drop v ns) (allFree maxPlaces m maxPlaces)) (sym et)
+      fresh-holds in
+      let h₂ = subst (λ (x : List ℕ). H t x (drop v ns) (allFree maxPlaces m maxPlaces)) (sym en) h₁ in
+      let h₃ = subst (λ (x : List ℕ). H t ns′ (drop v ns) x) (sym em) h₂ in
+      (record { linked = h .linked; holds = subst (λ (x : List ℕ). H t ns′ x m′) (sym past) h₃ }, past)
 
 -- ---- the end
 
@@ -264,42 +263,55 @@ module _ (v : ℕ) (xs ns bs : List ℕ) (a : check v xs ≡ C.Accepted) (n : �
 
 -- ---- the run and its end, as the code has them
 
-module _ (v : ℕ) (xs cs ns m : List ℕ) (h : Fitting v xs cs ns m) (k : ℕ) (ek : k ≡ length xs / 3) (c : Counts) (ec : c ≡ statedFor v k)
-    (f : Front)
-    (ef : f ≡ freshFront maxPlaces c) (m′ : List ℕ) (em : m′ ≡ allFree maxPlaces m maxPlaces) (ns′ : List ℕ)
-    (en : ns′ ≡ replicate v 65535 ++ drop v ns)
-    (bs : List ℕ) (end : Ran) (fs″ ns″ bs″ m″ : List ℕ)
-    (run : RunOf xs (4 * k + 1) (record { front = f; given = 0; lowest = 0 }) (replicate maxTriangles 0) ns′ bs m′ end fs″ ns″ bs″ m″) where
-  is : k ≡ length (trianglesOf xs)
-  is = count-is v xs cs ns m h k ek
+module _ (v : ℕ) (xs cs : List ℕ) (t : Course) (ns m : List ℕ) (h : Begins v xs cs t ns m) (k : ℕ) (ek : k ≡ length xs / 3) where
+  pub begin-few : (v ≤ 4096) × (k ≤ 8192)
+  begin-few = few-counts v xs (h .holds .accepted) k ek
 
-  ends : Ends v xs (chosenFor most (trianglesOf xs)) (4 * k + 1) bs end fs″ ns″ (drop v ns) bs″ m″
-  ends =
-      subst (λ (i : ℕ). Ends v xs (chooseAll (4 * i + 1) (nothingBuilt most (trianglesOf xs))) (4 * k + 1) bs end fs″ ns″ (drop v ns) bs″
-      m″) is
-      (run v (nothingBuilt most (trianglesOf xs)) (drop v ns) (begin-holds v xs cs ns m h k ek c ec f ef m′ em ns′ en))
-
-  pub run-sized : Sized end
-  run-sized = ends-sized v xs (chosenFor most (trianglesOf xs)) (4 * k + 1) bs end fs″ ns″ (drop v ns) bs″ m″ ends
-      (omega (arith, few-counts v xs cs ns m h k ek .1))
-
-  pub run-enough : v ≤ length ns″
-  run-enough = go end ends
-    where
-      go : (e : Ran) → Ends v xs (chosenFor most (trianglesOf xs)) (4 * k + 1) bs e fs″ ns″ (drop v ns) bs″ m″ → v ≤ length ns″
-      go (Refused j) (q, b) = b .enough
-      go (Ended t at) e = holds-beyond v xs (e .last) t fs″ ns″ (drop v ns) m″ (e .holds) .enough
-
-  pub run-gives : length bs″ ≡ length bs → (r : Packed) → r ≡ finishAnswer end (length bs″) → (ns‴ : List ℕ)
-      → ns‴ ≡ finishNumbers end v (length bs″) ns″
-      → (bs‴ : List ℕ) → bs‴ ≡ finishPack end v k bs″ → RunGives v xs ns bs r ns‴ bs‴
-  unfolding result
-  run-gives l r er ns‴ en‴ bs‴ eb = record {
-    answer = λ n. ap packedAnswer er ∙ ending v xs ns bs (h .accepted) n end (4 * k + 1) fs″ ns″ bs″ m″ ends l .0;
-    numbering = λ n. en‴ ∙ ending v xs ns bs (h .accepted) n end (4 * k + 1) fs″ ns″ bs″ m″ ends l .1 .0;
-    bytes = λ n. eb ∙ ap (λ (i : ℕ). finishPack end v i bs″) is
-        ∙ ending v xs ns bs (h .accepted) n end (4 * k + 1) fs″ ns″ bs″ m″ ends l .1 .1;
+  pub begin-held : Held xs cs t (replicate maxTriangles 0) ns m
+  begin-held = record {
+    linked = h .linked;
+    vertices = v;
+    packing = nothingBuilt most (trianglesOf xs);
+    rest = drop v ns;
+    holds = h .holds;
   }
+
+  module _ (bs : List ℕ) (end : Ran) (fs′ ns′ bs′ m′ : List ℕ)
+      (run : RunOf xs (4 * k + 1) t (replicate maxTriangles 0) ns bs m end fs′ ns′ bs′ m′) where
+    is : k ≡ length (trianglesOf xs)
+    is = count-is v xs (h .holds .accepted) k ek
+
+    ends : Ends v xs (chosenFor most (trianglesOf xs)) (4 * k + 1) bs end fs′ ns′ (drop v ns) bs′ m′
+    ends =
+        subst (λ (i : ℕ). Ends v xs (chooseAll (4 * i + 1) (nothingBuilt most (trianglesOf xs))) (4 * k + 1) bs end fs′ ns′ (drop v ns) bs′
+        m′) is
+        (run v (nothingBuilt most (trianglesOf xs)) (drop v ns) (h .holds))
+
+    pub run-sized : Sized end
+    run-sized = ends-sized v xs (chosenFor most (trianglesOf xs)) (4 * k + 1) bs end fs′ ns′ (drop v ns) bs′ m′ ends
+        (omega (arith, begin-few .1))
+
+    pub run-enough : v ≤ length ns′
+    run-enough = go end ends
+      where
+        go : (e : Ran) → Ends v xs (chosenFor most (trianglesOf xs)) (4 * k + 1) bs e fs′ ns′ (drop v ns) bs′ m′ → v ≤ length ns′
+        go (Refused j) (q, b) = b .enough
+        go (Ended t′ at) e = holds-beyond v xs (e .last) t′ fs′ ns′ (drop v ns) m′ (e .holds) .enough
+
+    -- of each numbering buffer that has the same entries past the first v
+    pub run-gives : length bs′ ≡ length bs → (r : Packed) → r ≡ finishAnswer end (length bs′) → (ns″ : List ℕ)
+        → ns″ ≡ finishNumbers end v (length bs′) ns′ → (bs″ : List ℕ) → bs″ ≡ finishPack end v k bs′
+        → (ns₀ : List ℕ) → drop v ns ≡ drop v ns₀ → RunGives v xs ns₀ bs r ns″ bs″
+    unfolding result
+    run-gives l r er ns″ en bs″ eb ns₀ past =
+        let e₀ = subst (λ (rest : List ℕ). Ends v xs (chosenFor most (trianglesOf xs)) (4 * k + 1) bs end fs′ ns′ rest bs′ m′) past ends in
+        let a = h .holds .accepted in
+        record {
+          answer = λ n. ap packedAnswer er ∙ ending v xs ns₀ bs a n end (4 * k + 1) fs′ ns′ bs′ m′ e₀ l .0;
+          numbering = λ n. en ∙ ending v xs ns₀ bs a n end (4 * k + 1) fs′ ns′ bs′ m′ e₀ l .1 .0;
+          bytes = λ n. eb ∙ ap (λ (i : ℕ). finishPack end v i bs′) is
+              ∙ ending v xs ns₀ bs a n end (4 * k + 1) fs′ ns′ bs′ m′ e₀ l .1 .1;
+        }
 
 -- ---- any list, in any buffers
 

@@ -2,12 +2,10 @@
 -- Assumes nothing.
 use Prim.Native.Nat.{ℕ, zero, suc, _+_, _-_, _*_, _≤_, _<_}
 use native.Mathlib.Omega.{arith}
-use mathlib.Core.Bool.{Bool, true, false, false≢true}
+use mathlib.Core.Bool.{true}
 use mathlib.Core.List.{List, [], _∷_, _++_, append-nil}
 use mathlib.Core.Path.{_≡_, refl, sym, ap, _∙_, subst}
 use lib.ListN.{length, length-append}
-use lib.Dec.{eqb}
-use borrow.Author.Tests.{eqb-true}
 use Rattle.rules.specs.declared.Triangle.{Triangle}
 use Rattle.rules.specs.declared.Counts.{Counts}
 use Rattle.rules.specs.declared.Operation.{Operation}
@@ -19,7 +17,6 @@ use Rattle.wire_theory.specs.Buffer.{writtenAt, bytesFor}
 use Rattle.wire_theory.specs.Whole.{widthOf}
 use Rattle.wire_theory.proofs.Operations.{width-most}
 use Rattle.choice_theory.proofs.Runs.Whole.{all-ended, all-taken, choose-ended}
-use Rattle.cutborder.specs.declared.Front.{Front}
 use Rattle.border_theory.specs.Memory.Stands.{ringsIn}
 use Rattle.cutborder.specs.declared.Course.{Course}
 use Rattle.cutborder.specs.declared.Taken.{Taken}
@@ -28,7 +25,9 @@ use Rattle.cutborder.specs.declared.Ran.{Ran}
 use Rattle.cutborder.specs.declared.Ran.the-variants as R
 use Rattle.pack_theory.specs.Packing.Course.{Holds, Held}
 use Rattle.pack_theory.specs.Packing.Writing.{headerBits}
-use Rattle.pack_theory.specs.Packing.Steps.{StepsTo, Steps, StepOf, isDone, EndsAt, Ends, RunOf, prepended, Comes, Loop}
+use Rattle.pack_theory.specs.Packing.Steps.{StepsTo, Steps, StepOf, EndsAt, Ends, RunOf, prepended, Comes, Loop}
+use Rattle.border_theory.specs.Memory.Finish.{isComplete}
+use Rattle.border_theory.proofs.Memory.Finish.{complete-parts}
 use Rattle.pack_theory.proofs.Packing.Reading.{live-none}
 use Rattle.pack_theory.proofs.Packing.Writing.{writes-none, writes-more}
 
@@ -69,15 +68,6 @@ all-take (suc n) s s′ o l h =
     let e : suc n - 1 ≡ n = omega arith in
     all-taken n s s′ o h ∙ ap (λ (k : ℕ). cons o (chooseAll k s′)) (sym e)
 
-is-done : (f : Front) → isDone f ≡ true → (f .built ≡ f .stated .triangles) × (f .loops .live ≡ 0)
-is-done f h = go (eqb (f .built) (f .stated .triangles)) refl h
-  where
-    go : (b : Bool) → eqb (f .built) (f .stated .triangles) ≡ b
-        → _≡_ {A = Bool} (elim b [ true ↦ eqb (f .loops .live) 0 | false ↦ false ]) true
-        → (f .built ≡ f .stated .triangles) × (f .loops .live ≡ 0)
-    go true e q = (eqb-true (f .built) (f .stated .triangles) e, eqb-true (f .loops .live) 0 q)
-    go false e q = absurd (false≢true q)
-
 -- ---- the loop
 
 module _ (xs cs : List ℕ) (budget : ℕ) (t₀ : Course) (fs₀ ns₀ buffer₀ m₀ : List ℕ) where
@@ -116,12 +106,12 @@ module _ (xs cs : List ℕ) (budget : ℕ) (t₀ : Course) (fs₀ ns₀ buffer�
     pub loop-out : left ≤ 0 → RunOf xs budget t₀ fs₀ ns₀ buffer₀ m₀ (R.Ended t at) fs ns buffer m
     loop-out q v s rest g = ends-with v s rest g fs ns m (λ p h. (all-none left p q, h))
 
-    pub loop-done : isDone (t .front) ≡ true → RunOf xs budget t₀ fs₀ ns₀ buffer₀ m₀ (R.Ended t at) fs ns buffer m
+    pub loop-done : isComplete (t .front) ≡ true → RunOf xs budget t₀ fs₀ ns₀ buffer₀ m₀ (R.Ended t at) fs ns buffer m
     loop-done q v s rest g = ends-with v s rest g fs ns m (λ p h. (all-end left p (done-ended v p rest h q), h))
       where
-        done-ended : (v : ℕ) (p : Packing) (rest : List ℕ) → Holds v xs p t fs ns rest m → isDone (t .front) ≡ true → choose p ≡ ended
+        done-ended : (v : ℕ) (p : Packing) (rest : List ℕ) → Holds v xs p t fs ns rest m → isComplete (t .front) ≡ true → choose p ≡ ended
         done-ended v p rest h d =
-            let b = is-done (t .front) d in
+            let b = complete-parts (t .front) d in
             choose-ended p
             (h .standing .loops
             ∙ live-none maxPlaces (t .front .loops) m (ringsIn maxPlaces (t .front .loops) m) (h .standing .stands) (b .1))

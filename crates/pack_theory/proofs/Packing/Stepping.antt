@@ -28,7 +28,8 @@ use Rattle.cutborder.specs.declared.Taken.the-variants as T
 use Rattle.pack_theory.specs.Packing.Numbers.{entries}
 use Rattle.pack_theory.specs.Packing.Doing.{readied, doneOf, memoryOf}
 use Rattle.pack_theory.specs.Packing.Course.{Holds, Held, moveOf, flagsOf, givenBy, numbersBy, renamed, numberedThree, Chooses}
-use Rattle.pack_theory.specs.Packing.Steps.{StepsTo, Beyond, Steps, StepOf, Alive, Resting, Lowest, isDone, Starts, Renames}
+use Rattle.pack_theory.specs.Packing.Steps.{StepsTo, Beyond, Steps, StepOf, Alive, Resting, Lowest, Starts, Renames}
+use Rattle.border_theory.specs.Memory.Finish.{isComplete}
 use Rattle.pack_theory.proofs.Packing.Numbers.{entries-length}
 use Rattle.pack_theory.proofs.Packing.Doing.{standing-ready}
 use Rattle.pack_theory.proofs.Packing.Live.{Lives, numbers-few, live-concludes}
@@ -228,7 +229,7 @@ module _ (xs : List ℕ) (t : Course) (k : ℕ) (fs ns m : List ℕ) (a : Starts
 
 -- ---- either
 
-module _ (xs cs : List ℕ) (t : Course) (fs ns m : List ℕ) (h : Held xs cs t fs ns m) (going : isDone (t .front) ≡ false) where
+module _ (xs cs : List ℕ) (t : Course) (fs ns m : List ℕ) (h : Held xs cs t fs ns m) (going : isComplete (t .front) ≡ false) where
   pub step-alive : (t .front .loops .live ≡ 0 → ⊥) → Alive xs cs t fs ns m
   step-alive l = record { held = h; live = l }
 

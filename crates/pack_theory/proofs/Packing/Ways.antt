@@ -47,7 +47,7 @@ use Rattle.pack_theory.specs.Packing.Numbers.{unnumbered}
 use Rattle.pack_theory.specs.Packing.Doing.{refusalAt, doneBy, memoryBy, doneOf, memoryOf}
 use Rattle.pack_theory.specs.Packing.Course.{startOf, endOf, isNumbered, placedBy, flagsBy, moveBy, moveOf, flagsOf, givenBy}
 use Rattle.pack_theory.specs.Packing.Course.{numbersBy, renamed, Chooses}
-use Rattle.pack_theory.specs.Packing.Steps.{isDone, Lowest, Renames}
+use Rattle.pack_theory.specs.Packing.Steps.{Lowest, Renames}
 use Rattle.pack_theory.specs.Packing.Finish.{countsAt, fitsBuffer, answerIf, finishAnswer, numbersIf, finishNumbers, packIf}
 use Rattle.pack_theory.specs.Packing.Finish.{finishPack, Sized}
 
@@ -214,16 +214,6 @@ pub gives-one : (fresh : Bool) (ns : List ℕ) (c k : ℕ) → not fresh ≡ fal
     → (k + 1 ≡ givenBy fresh k) × (set ns c k ≡ numbersBy fresh ns c k)
 gives-one fresh ns c k h =
     let e = not-false fresh h in (sym (ap (λ (b : Bool). givenBy b k) e), sym (ap (λ (b : Bool). numbersBy b ns c k) e))
-
--- ---- whether something is left to do
-
-pub not-done : (f : Front) → (f .built ≡ f .stated .triangles → ⊥) → false ≡ isDone f
-not-done f h = sym (ap (λ (b : Bool). elim b [ true ↦ eqb (f .loops .live) 0 | false ↦ false ])
-    (ne-eqb (f .built) (f .stated .triangles) h))
-
-pub all-made : (f : Front) → f .built ≡ f .stated .triangles → eqb (f .loops .live) 0 ≡ isDone f
-all-made f h = sym (ap (λ (b : Bool). elim b [ true ↦ eqb (f .loops .live) 0 | false ↦ false ])
-    (eq-eqb (f .built) (f .stated .triangles) h))
 
 -- ---- the end
 

@@ -4,20 +4,24 @@ use Prim.Native.Nat.{ℕ, _≤_}
 use mathlib.Core.Bool.{Bool, true, false, _&&_}
 use mathlib.Core.List.{List}
 use mathlib.Core.Path.{_≡_}
-use lib.ListN.{length, replicate}
+use lib.ListN.{length, replicate, drop}
 use lib.Dec.{leb}
 use Rattle.rules.specs.declared.Packed.{Packed}
 use Rattle.rules.specs.declared.Packed.the-variants as P
 use Rattle.rules.specs.declared.Checked.{Checked}
 use Rattle.rules.specs.declared.Checked.the-variants.{Accepted, Refused}
-use Rattle.rules.specs.Limits.{maxPlaces}
+use Rattle.rules.specs.Limits.{maxPlaces, maxTriangles}
 use Rattle.rules.specs.Triangle.{trianglesOf}
 use Rattle.rules.specs.Check.{check}
 use Rattle.rules.specs.Answer.{packedAnswer}
 use Rattle.rules.specs.Buffer.{freePlace}
-use Rattle.rules.specs.Pack.{most, chosenFor, PackBuffers, PackResult, packChosen, pack}
+use Rattle.rules.specs.Pack.{most, nothingBuilt, chosenFor, PackBuffers, PackResult, packChosen, pack}
 use Rattle.border_theory.specs.Records.Plain.{coreSize}
+use Rattle.border_theory.specs.Memory.Fresh.{freshFront}
 use Rattle.mesh_theory.specs.Chains.Linked.{Linked}
+use Rattle.cutborder.specs.declared.Course.{Course}
+use Rattle.pack_theory.specs.Packing.Doing.{statedFor}
+use Rattle.pack_theory.specs.Packing.Course.{Holds}
 
 abbrev pub lent : ℕ → List ℕ → List ℕ → PackBuffers
 lent n ns bs = record { numbering = ns; places = replicate n freePlace; pack = bs }
@@ -47,6 +51,15 @@ pub record Fitting (v : ℕ) (xs cs ns m : List ℕ) : Type 0 where
   pub linked : Linked xs cs
   pub enough : v ≤ length ns
   pub whole : length m ≡ coreSize
+
+-- where the packing of v vertices and k triangles begins
+abbrev pub emptyCourse : ℕ → ℕ → Course
+emptyCourse v k = record { front = freshFront maxPlaces (statedFor v k); given = 0; lowest = 0 }
+
+-- the packing of an accepted list is about to run
+pub record Begins (v : ℕ) (xs cs : List ℕ) (t : Course) (ns m : List ℕ) : Type 0 where
+  pub linked : Linked xs cs
+  pub holds : Holds v xs (nothingBuilt most (trianglesOf xs)) t (replicate maxTriangles 0) ns (drop v ns) m
 
 -- the run, with any number of place records
 pub record RunGives (v : ℕ) (xs ns bs : List ℕ) (r : Packed) (ns′ bs′ : List ℕ) : Type 0 where

@@ -1,16 +1,13 @@
 -- A step of a packing, and the run of them: what the code's answers say of the packing of the rules.
 -- Assumes nothing.
 use Prim.Native.Nat.{ℕ, _+_, _*_, _≤_, _<_}
-use mathlib.Core.Bool.{Bool, true, false}
 use mathlib.Core.List.{List, [], _∷_}
 use mathlib.Core.Path.{_≡_}
 use lib.ListN.{length, drop}
-use lib.Dec.{eqb}
 use Rattle.rules.specs.declared.Operation.{Operation}
 use Rattle.rules.specs.Triangle.{trianglesOf}
 use Rattle.rules.specs.Choice.{Packing, Next, refuses, takes, choose}
 use Rattle.rules.specs.Pack.{Chosen, stopped, chosen, cons, chooseAll}
-use Rattle.cutborder.specs.declared.Front.{Front}
 use Rattle.border_theory.specs.Memory.Layout.{afterOf}
 use Rattle.pack_theory.specs.Choosing.Choosable.{flagOf}
 use Rattle.cutborder.specs.declared.Course.{Course}
@@ -41,10 +38,6 @@ Steps v xs s t (T.Going o t′) fs′ ns′ rest m′ = StepsTo v xs (choose s) 
 -- of each packing that was held
 abbrev pub StepOf : List ℕ → Course → List ℕ → List ℕ → List ℕ → Taken → List ℕ → List ℕ → List ℕ → Type 0
 StepOf xs t fs ns m r fs′ ns′ m′ = (v : ℕ) (s : Packing) (rest : List ℕ) → Holds v xs s t fs ns rest m → Steps v xs s t r fs′ ns′ rest m′
-
--- nothing is left to do: all triangles are built, and no loop is live
-abbrev pub isDone : Front → Bool
-isDone f = elim (eqb (f .built) (f .stated .triangles)) [ true ↦ eqb (f .loops .live) 0 | false ↦ false ]
 
 -- a loop is live
 pub record Alive (xs cs : List ℕ) (t : Course) (fs ns m : List ℕ) : Type 0 where

@@ -20,33 +20,41 @@ refusal-of-requires : tie.Need-refusal-of-requires
 refusal-of-requires c κs = search needs
 
 returns : tie.Need-returns
-returns c = let a = c .before .before .before .before .before .before .before .before .args in
-    packed-unfit (a .v) (a .list .now) (a .numbering .now) (a .buffer .now) (a .n) _ (c .before .before .before .check-into .ensures .right)
-    _ (c .before .enum-told2 .given .1) _ (c .refusal-of .ensures _ (c .before .enum-told2 .given .1))
+returns c =
+    let d = c .before .before .before in
+    let a = d .before .before .before .before .before .args in
+    let e = c .before .enum-told2 .given .1 in
+    packed-unfit (a .v) (a .list .now) (a .numbering .now) (a .buffer .now) (a .n) _ (d .check-into .ensures .right) _ e _
+    (c .refusal-of .ensures _ e)
 
 returns-2 : tie.Need-returns-2
-returns-2 c = let a = c .before .before .before .before .before .before .before .before .args in
-    packed-few (a .v) (a .list .now) (a .numbering .now) (a .buffer .now) (a .n) _ (c .before .before .before .check-into .ensures .right)
+returns-2 c =
+    let d = c .before .before .before in
+    let a = d .before .before .before .before .before .args in
+    packed-few (a .v) (a .list .now) (a .numbering .now) (a .buffer .now) (a .n) _ (d .check-into .ensures .right)
     (c .before .enum-told .given .1) (c .if1 .taken)
 
 returns-3 : tie.Need-returns-3
-returns-3 c = let a = c .before .before .before .before .before .before .before .before .before .args in
-    packed-list (a .v) (a .list .now) (a .numbering .now) (a .buffer .now) (a .n) _
-    (c .before .before .before .before .check-into .ensures .right) (c .before .before .enum-told .given .1) (c .before .if1 .left)
-    (c .if2 .taken)
+returns-3 c =
+    let i = c .before in
+    let d = i .before .before .before in
+    let a = d .before .before .before .before .before .args in
+    packed-list (a .v) (a .list .now) (a .numbering .now) (a .buffer .now) (a .n) _ (d .check-into .ensures .right)
+    (i .before .enum-told .given .1) (i .if1 .left) (c .if2 .taken)
 
 slice-aggregate-pack-accepted : tie.Need-slice-aggregate-pack-accepted
 slice-aggregate-pack-accepted c = search needs
 
 pack-accepted-requires : tie.Need-pack-accepted-requires
-pack-accepted-requires c κs = let a =
-    c .before .before .before .before .before .before .before .before .before .before .before .before .before .args in
-    packed-fitting (a .v) (a .list .now) (a .numbering .now) (a .buffer .now) (a .n) _
-    (c .before .before .before .before .before .before .before .before .check-into .ensures .right)
-    (c .before .before .before .before .before .before .enum-told .given .1)
-    (c .before .before .before .before .before .if1 .left) (c .before .before .before .before .if2 .left) _ _
-    (c .before .before .before .before .before .before .before .before .check-into .ensures .chained
-    (c .before .before .before .before .before .before .enum-told .given .1)) (search needs)
+pack-accepted-requires c κs =
+    let j = c .before .before .before .before in
+    let i = j .before in
+    let d = i .before .before .before in
+    let a = d .before .before .before .before .before .args in
+    let e = i .before .enum-told .given .1 in
+    packed-fitting (a .v) (a .list .now) (a .numbering .now) (a .buffer .now) (a .n) _ (d .check-into .ensures .right) e (i .if1 .left)
+    (j .if2 .left) _ _ (d .check-into .ensures .chained e)
+    (search needs)
 
 same-length : tie.Need-same-length
 same-length c = search needs
@@ -55,14 +63,15 @@ same-length-2 : tie.Need-same-length-2
 same-length-2 c = search needs
 
 returns-4 : tie.Need-returns-4
-returns-4 c = let a = c .before .before .before .before .before .before .before .before .before .before .before .before .before .before
-    .before .before .before .before .before .args in
-    packed-ran (a .v) (a .list .now) (a .numbering .now) (a .buffer .now) (a .n) _
-    (c .before .before .before .before .before .before .before .before .before .before .before .before .before .before .check-into
-    .ensures .right) (c .before .before .before .before .before .before .before .before .before .before .before .before
-    .enum-told .given .1) (c .before .before .before .before .before .before .before .before .before .before .before .if1
-    .left) (c .before .before .before .before .before .before .before .before .before .before .if2 .left) _ _ _
-    (c .before .before .before .before .before .pack-accepted .ensures)
+returns-4 c =
+    let r = c .before .before .before .before .before in
+    let j = r .before .before .before .before .before in
+    let i = j .before in
+    let d = i .before .before .before in
+    let a = d .before .before .before .before .before .args in
+    packed-ran (a .v) (a .list .now) (a .numbering .now) (a .buffer .now) (a .n) _ (d .check-into .ensures .right)
+    (i .before .enum-told .given .1) (i .if1 .left) (j .if2 .left) _ _ _
+    (r .pack-accepted .ensures)
 
 pub pack-on-spec : {M : Type 1} → statement M
 pack-on-spec =

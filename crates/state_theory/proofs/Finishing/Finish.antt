@@ -7,11 +7,7 @@ use mathlib.Core.List.{List}
 use mathlib.Core.Path.{_≡_, refl, sym, ap, ap₂, _∙_, subst}
 use lib.ListN.{length}
 use lib.Dec.{leb}
-use lib.IntN.{ℤ, pos, _+ℤ_, _-ℤ_}
 use borrow.Author.Tests.{not-true, not-false, leb-true}
-use mir.Syntax.{w32}
-use mir.Val.{SFits, toZ, ofZ}
-use mir.Facts.{toZ-ofZ}
 use Rattle.rules.specs.declared.Builder.{Builder}
 use Rattle.rules.specs.declared.Place.{Place}
 use Rattle.rules.specs.declared.Totals.{Totals}
@@ -31,9 +27,9 @@ use Rattle.border_theory.specs.Memory.Keeps.{Keeps}
 use Rattle.cutborder.specs.declared.Opened.{Opened}
 use Rattle.cutborder.specs.declared.Opened.the-variants.{Passed, Failed}
 use Rattle.state_theory.specs.Reading.Opens.{lent, Passes, Opens}
-use Rattle.unpack_theory.specs.Runs.{isComplete, isAsStated}
-use Rattle.unpack_theory.proofs.Ending.{complete-same, stated-same}
-use Rattle.state_theory.specs.Finishing.Core.{FinishesOn, Fits, FinishesFront, totalsOf}
+use Rattle.border_theory.specs.Memory.Finish.{isComplete, isAsStated, totalsOf}
+use Rattle.border_theory.proofs.Memory.Finish.{complete-same, stated-same, totals-same}
+use Rattle.state_theory.specs.Finishing.Core.{FinishesOn, Fits, FinishesFront}
 use Rattle.counting.proofs.Bools.{and-left, and-right}
 use Rattle.promises.proofs.Kept.{built-long}
 
@@ -53,10 +49,6 @@ finish-ended M true false c e f g = rw (finishing, test, e, f)
 finish-ended M false b c e f g = rw (finishing, test, e)
 
 module _ (f : Front) (xs : List ℕ) where
-  totals-same : (M : Machine) (m : List ℕ) → Keeps maxPlaces f m M → totalsOf f ≡ totals M
-  unfolding totalsOf
-  totals-same M m k = sym (rw (k .edges, k .rims, k .unions, k .used, k .triangles) refl)
-
   fan-same : (M : Machine) (m : List ℕ) → Keeps maxPlaces f m M → M .triangles ≡ trianglesBuilt xs (f .built)
       → oneFanEach (M .used) (M .triangles) ≡ oneFanEach (f .used) (trianglesBuilt xs (f .built))
   fan-same M m k t = ap₂ oneFanEach (k .used) t
@@ -82,17 +74,10 @@ module _ (f : Front) (xs : List ℕ) where
       front-20 l M m k t =
           sym (finish-ended M true true false (all M m k) (stated M m k) (fan-same M m k t ∙ sym fans ∙ not-true c l))
 
-      pub front-done : not c ≡ false → (x : Totals) → numbers x ≡ numbers (totalsOf f) → FinishesFront f xs (F.Totals x)
+      pub front-done : not c ≡ false → (x : Totals) → x ≡ totalsOf f → FinishesFront f xs (F.Totals x)
       front-done l x q M m k t =
-          q ∙ ap numbers (totals-same M m k)
+          ap numbers (q ∙ sym (totals-same maxPlaces f m M k))
           ∙ sym (finish-ended M true true true (all M m k) (stated M m k) (fan-same M m k t ∙ sym fans ∙ not-false c l))
-
--- the numbers with the Euler number in 32 bits
-pub totals-is : (f : Front) (z : ℤ) → SFits w32 z → z ≡ pos (f .used) -ℤ pos (f .edges) +ℤ pos (f .built)
-    → numbers (record { edges = f .edges; rims = f .rims; unions = f .unions; euler = toZ w32 (ofZ w32 z) }) ≡ numbers (totalsOf f)
-unfolding totalsOf
-totals-is f z h e =
-    ap (λ (x : ℤ). numbers (record { edges = f .edges; rims = f .rims; unions = f .unions; euler = x })) (toZ-ofZ h ∙ e)
 
 -- ---- 21
 

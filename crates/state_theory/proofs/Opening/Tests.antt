@@ -6,14 +6,12 @@ use mathlib.Core.Bool.{Bool, true, false, _&&_}
 use mathlib.Core.List.{List}
 use mathlib.Core.Path.{_≡_, refl, sym, ap, _∙_}
 use lib.Dec.{leb}
-use lib.ListN.{length, getD, drop, drop-of-length-le}
-use lib.Seq.{drop-cons}
-use borrow.Author.Tests.{leb-true, le-leb, lt-leb, lt-ltb, le-ltb}
+use lib.ListN.{length, getD}
+use borrow.Author.Tests.{leb-true, le-leb, lt-leb}
 use Rattle.rules.specs.declared.Builder.{Builder}
 use Rattle.rules.specs.declared.Counts.{Counts}
 use Rattle.rules.specs.Limits.{inRange, vertexRange, between, minPlaces, maxPlaces, maxTriangles}
 use Rattle.rules.specs.Machine.{longEnough}
-use Rattle.rules.specs.Check.{allBelow}
 use Rattle.rules.specs.Sound.{sizesOf, countsFit, sumsFit, trianglesFit}
 use Rattle.state_theory.specs.Opening.Marks.{numbersFit}
 use Rattle.counting.proofs.Bools.{and-left, and-right, and-no, and-both, same-test}
@@ -252,19 +250,3 @@ module _ (b : Builder) (n p : ℕ) where
   unfolding sizesOf
   size-done zero left e h = sym (le-leb 0 left (omega arith)) ∙ e
   size-done (suc w) left e h = absurd (omega arith)
-
--- numbers below v, the first i of a list found so
-module _ (v : ℕ) (xs : List ℕ) (i : ℕ) (same : allBelow v (drop i xs) ≡ allBelow v xs) where
-  pub below-more : i < length xs → getD xs i 0 < v → allBelow v (drop (i + 1) xs) ≡ allBelow v xs
-  unfolding allBelow
-  below-more h l =
-      let s : i + 1 ≡ suc i = omega arith in
-      ap (λ (j : ℕ). allBelow v (drop j xs)) s ∙ sym (rw (drop-cons xs i 0 h, lt-ltb (getD xs i 0) v l)) ∙ same
-
-  pub below-not : i < length xs → v ≤ getD xs i 0 → false ≡ allBelow v xs
-  unfolding allBelow
-  below-not h l = sym (rw (drop-cons xs i 0 h, le-ltb (getD xs i 0) v l)) ∙ same
-
-  pub below-all : length xs ≤ i → true ≡ allBelow v xs
-  unfolding allBelow
-  below-all h = sym (rw (drop-of-length-le xs h)) ∙ same

@@ -49,7 +49,8 @@ use Rattle.state_theory.proofs.Reading.Closing.{closes}
 use Rattle.state_theory.proofs.Reading.Sound.{closes-sound}
 use Rattle.state_theory.specs.Performing.Core.{Written, Accepts, Done, OperatesOn, Open, refusedWith, builtWith, markedWith, MarkedIn}
 use Rattle.state_theory.proofs.Performing.Sound.{parts, sound-ranges, sound-below, sound-current}
-use Rattle.state_theory.proofs.Performing.Writing.{written-next, written-long, below-more, written-below}
+use Rattle.state_theory.proofs.Performing.Writing.{written-next, below-more, written-below}
+use Rattle.counting.proofs.Triangles.{written-long}
 use Rattle.state_theory.proofs.Performing.After.{Next, Built, Declared, Follows, follows}
 use Rattle.rules.specs.declared.Operation.the-variants.{New, Forward, Backward, Border, Split, Close, Union, Start}
 use Rattle.cutborder.specs.declared.Loops.{Loops}

@@ -5,10 +5,8 @@ use Prim.Native.Nat.{ℕ, _*_, _≤_}
 use mathlib.Core.List.{List}
 use mathlib.Core.Path.{_≡_}
 use lib.ListN.{length}
-use lib.IntN.{pos, _+ℤ_, _-ℤ_}
 use Rattle.rules.specs.declared.Counts.{Counts}
 use Rattle.rules.specs.declared.Builder.{Builder}
-use Rattle.rules.specs.declared.Totals.{Totals}
 use Rattle.rules.specs.declared.Begun.{Begun}
 use Rattle.rules.specs.declared.Checked.{Checked}
 use Rattle.rules.specs.declared.Checked.the-variants.{Accepted, Refused}
@@ -70,12 +68,3 @@ pub record Fits (f : Front) (xs : List ℕ) : Type 0 where
 abbrev pub FinishesFront : Front → List ℕ → Finished → Type 0
 FinishesFront f xs r = (M : Machine) (m : List ℕ) → Keeps maxPlaces f m M → M .triangles ≡ trianglesBuilt xs (f .built)
     → finishedAnswer r ≡ answerOf (finishing M)
-
--- what a finish gives, of a core's state
-unfoldable pub totalsOf : Front → Totals
-totalsOf f = record {
-  edges = f .edges;
-  rims = f .rims;
-  unions = f .unions;
-  euler = pos (f .used) -ℤ pos (f .edges) +ℤ pos (f .built);
-}

@@ -20,8 +20,8 @@ loop-holds c = let a = c .before .before .before .before .args in
     loop-first (a .list .now) (a .chains .now) (a .budget) (a .start) (a .built .now) (a .numbering .now) (a .buffer .now) (a .m .now)
     (c .before .before .before .before .pre .0)
 
-is-done-requires : tie.Need-is-done-requires Inv-loop μ-loop
-is-done-requires c κs = search needs
+is-complete-requires : tie.Need-is-complete-requires Inv-loop μ-loop
+is-complete-requires c κs = search needs
 
 same-length : tie.Need-same-length Inv-loop μ-loop
 same-length c = search needs
@@ -35,13 +35,13 @@ same-length-3 c = search needs
 returns : tie.Need-returns Inv-loop μ-loop
 returns c = let a = c .before .before .before .before .before .before .before .before .args in let l = c .before .before .before .loop in
     loop-done (a .list .now) (a .chains .now) (a .budget) (a .start) (a .built .now) (a .numbering .now) (a .buffer .now) (a .m .now)
-    (l .left) (l .t) (l .at) (l .built) (l .numbering) (l .buffer) (l .m) (l .inv) (sym (c .before .is-done .ensures) ∙ c .if1 .taken)
+    (l .left) (l .t) (l .at) (l .built) (l .numbering) (l .buffer) (l .m) (l .inv) (sym (c .before .is-complete .ensures) ∙ c .if1 .taken)
 
 step-requires : tie.Need-step-requires Inv-loop μ-loop
 step-requires c κs = (
   c .before .before .before .before .before .before .loop .inv .held,
   sym
-      (c .before .before .before .before .is-done .ensures) ∙ c .before .before .before .if1 .left,
+      (c .before .before .before .before .is-complete .ensures) ∙ c .before .before .before .if1 .left,
 )
 
 enum-known-r : tie.Need-enum-known-r Inv-loop μ-loop
@@ -125,7 +125,7 @@ run-spec =
     Inv-loop
     μ-loop
     loop-holds
-    is-done-requires
+    is-complete-requires
     same-length
     same-length-2
     same-length-3

@@ -1,4 +1,4 @@
--- `opener::counts::triangles_fit` meets its contract.
+-- `state::counts::triangles_fit` meets its contract.
 -- Assumes nothing.
 use borrow.Author.Needs.{needs}
 use mathlib.Core.Path.{sym}

@@ -1,9 +1,9 @@
--- `calls::finish::totals_of` meets its contract: the Euler number is a field like the others.
+-- `border::finish::totals_of` meets its contract: the Euler number is a field like the others.
 -- Assumes nothing.
 use borrow.Author.Needs.{needs}
-use Rattle.state_theory.proofs.Finishing.Finish.{totals-is}
-use Rattle.builder.proofs.finish.totals_of.Statement.{statement}
-use Rattle.builder.proofs.finish.totals_of.Tie as tie
+use Rattle.border_theory.proofs.Memory.Euler.{totals-is}
+use Rattle.border.proofs.finish.totals_of.Statement.{statement}
+use Rattle.border.proofs.finish.totals_of.Tie as tie
 
 euler-requires : tie.Need-euler-requires
 euler-requires c κs = search needs

@@ -1,10 +1,11 @@
--- `unpacker::step::put_triangle` meets its contract: three stores.
+-- `border::triangles::put_triangle` meets its contract: three stores.
 -- Assumes nothing.
 use native.Mathlib.Omega.{arith}
 use lib.ListN.{length-set}
 use borrow.Author.Needs.{needs}
-use Rattle.unpacker.proofs.step.put_triangle.Statement.{statement}
-use Rattle.unpacker.proofs.step.put_triangle.Tie as tie
+use Rattle.counting.proofs.Triangles.{three-stores}
+use Rattle.border.proofs.triangles.put_triangle.Statement.{statement}
+use Rattle.border.proofs.triangles.put_triangle.Tie as tie
 
 mul-i : tie.Need-mul-i
 mul-i c = search needs
@@ -37,7 +38,7 @@ same-length : tie.Need-same-length
 same-length c = search needs
 
 returns : tie.Need-returns
-returns c = search needs
+returns c = three-stores (c .args .triangles .now) (c .args .n) (c .args .t) (c .pre .0)
 
 pub put-triangle-spec : {M : Type 1} → statement M
 put-triangle-spec =

@@ -4,16 +4,16 @@ use Prim.Native.Nat.{ℕ, zero, suc, _+_, _-_, _<_, _^_}
 use native.Mathlib.Nat.{lt-trans}
 use native.Mathlib.Omega.{arith}
 use mathlib.Core.Bool.{Bool, true, false, cond}
-use mathlib.Core.Path.{_≡_, sym, ap, ap₂, _∙_, subst}
+use mathlib.Core.Path.{_≡_, sym, ap₂, _∙_, subst}
 use lib.Dec.{ltb, lit<}
 use lib.IntN.{ℤ, pos, negsuc, subℕ, _+ℤ_, _-ℤ_}
 use lib.Signed.{mag}
 use mir.Syntax.{w32}
 use mir.Val.{SFits, toZ, ofZ}
 use mir.Facts.{toZ-pos, toZ-ofZ}
-use Rattle.rules.specs.Answer.{unpacked}
+use Rattle.rules.specs.declared.Totals.{Totals}
 use Rattle.cutborder.specs.declared.Front.{Front}
-use Rattle.unpack_theory.specs.Runs.{modelAnswer}
+use Rattle.border_theory.specs.Memory.Finish.{totalsOf}
 
 by-test : (t : Bool) (a b n : ℕ) → a < n → b < n → mag (cond t (negsuc (b - suc a)) (pos (a - b))) < n
 by-test true a b n h k = omega arith
@@ -47,18 +47,8 @@ module _ (v e t : ℕ) (hv : v < 2 ^ 16) (he : e < 2 ^ 16) (ht : t < 2 ^ 16) whe
   pub is : toZ w32 (ofZ w32 (toZ w32 (ofZ w32 (toZ w32 v -ℤ toZ w32 e)) +ℤ toZ w32 t)) ≡ (pos v -ℤ pos e) +ℤ pos t
   is = toZ-ofZ add-fits ∙ ap₂ _+ℤ_ back (z t ht)
 
--- the answer with it
-pub model-is : (s : Front) (z : ℤ) → SFits w32 z → z ≡ pos (s .used) -ℤ pos (s .edges) +ℤ pos (s .built)
-    → unpacked (record {
-      vertices = s .stated .vertices;
-      triangles = s .stated .triangles;
-      totals = record { edges = s .edges; rims = s .rims; unions = s .unions; euler = toZ w32 (ofZ w32 z) };
-    })
-    ≡ modelAnswer s
-model-is s z h e =
-    ap (λ (x : ℤ). unpacked (record {
-      vertices = s .stated .vertices;
-      triangles = s .stated .triangles;
-      totals = record { edges = s .edges; rims = s .rims; unions = s .unions; euler = x };
-    }))
-    (toZ-ofZ h ∙ e)
+-- the four numbers with it
+pub totals-is : (f : Front) (z : ℤ) → SFits w32 z → z ≡ pos (f .used) -ℤ pos (f .edges) +ℤ pos (f .built)
+    → _≡_ {A = Totals} (record { edges = f .edges; rims = f .rims; unions = f .unions; euler = toZ w32 (ofZ w32 z) }) (totalsOf f)
+unfolding totalsOf
+totals-is f z h e i = record { edges = f .edges; rims = f .rims; unions = f .unions; euler = (toZ-ofZ h ∙ e) i }

@@ -1,9 +1,9 @@
--- `unpacker::conclude::euler` meets its contract: the sums fit 32 bits.
+-- `border::finish::euler` meets its contract: the sums fit 32 bits.
 -- Assumes nothing.
 use borrow.Author.Needs.{needs}
-use Rattle.unpack_theory.proofs.Euler.{sub-fits, add-fits, is}
-use Rattle.unpacker.proofs.conclude.euler.Statement.{statement}
-use Rattle.unpacker.proofs.conclude.euler.Tie as tie
+use Rattle.border_theory.proofs.Memory.Euler.{sub-fits, add-fits, is}
+use Rattle.border.proofs.finish.euler.Statement.{statement}
+use Rattle.border.proofs.finish.euler.Tie as tie
 
 cast-a : tie.Need-cast-a
 cast-a c = search needs
