@@ -45,17 +45,6 @@ module _ {M : Type 1} (𝓤 : URA M) where
   pub and-nothing : (P : SProp 𝓤) → ent 𝓤 P (sep 𝓤 P (emp 𝓤))
   and-nothing P = via 𝓤 (sep 𝓤 (emp 𝓤) P) (emp∗ 𝓤 P) (comm∗ 𝓤 (emp 𝓤) P)
 
-  -- plain arguments are owned for nothing
-  pub plainly : (H : Heap 𝓤) (A : Atoms 𝓤) (T : Ended) (φ : Said T) (x : Bound 𝓤 H A (T .signature))
-      → Makess 𝓤 H A (typesAt (T .signature .params) (x .0)) (Ises (typesAt (T .signature .params) (x .0)))
-      → Are (typesAt (T .signature .params) (x .0)) (Ises (typesAt (T .signature .params) (x .0))) (x .3) (x .4)
-      → ent 𝓤 (alive 𝓤 H A (T .signature) (x .0) (x .1)) (meant H A T φ .pre (x, tt))
-  plainly H A T φ x makes are =
-      let P : SProp 𝓤 = alive 𝓤 H A (T .signature) (x .0) (x .1) in
-      let Q : SProp 𝓤 = onEntry 𝓤 H A (T .signature) (x .0) (x .1) (x .3) (x .4) in
-      let Rs : List RattleType = typesAt (T .signature .params) (x .0) in
-      via 𝓤 Q (via 𝓤 (sep 𝓤 P (emp 𝓤)) (and-nothing P) (monoR 𝓤 P (owns-make 𝓤 H A Rs (Ises Rs) makes (x .3) (x .4) are))) (and-nothing Q)
-
 module _ {M : Type 1} {𝓤 : URA M} {H : Heap 𝓤} {A : Atoms 𝓤} {K : Type 0} {W : Given 𝓤 H A} {Γ : List (Item 𝓤)} {E : Env 𝓤 H}
     {C : Calls 𝓤 H} {Λ : Loops 𝓤 H} {f : Name} {xs : List Opd} {q : Post 𝓤 H} {d : Place} where
   -- the call: the result's machine value is known, and the tokens come back
@@ -80,18 +69,25 @@ module _ {M : Type 1} {𝓤 : URA M} {H : Heap 𝓤} {A : Atoms 𝓤} {K : Type 
       subst (λ (v : Val). Seq K W (‵ (R .own r (v ∷ [])) ∷ Token ∷ Γ) (lands C Λ E d v rest q)) (sym same)
       (k r e (subst (λ (v : Val). Is R r (v ∷ [])) same is))))))
 
-  -- the same where what is asked is had for nothing
+  -- the same of a function with no lifetime over plain arguments: what it asks is had for nothing
   pub asks-plain : K → FmC 𝓤 H (W .laws) C → {rest : Body} (T : Ended) (φ : Said T) → Triple 𝓤 (C f) (meant 𝓤 H A T φ)
       → (x : Bound 𝓤 H A (T .signature)) (val : Res (T .signature) (x .0) → Val)
       → Tells (typeAt (T .signature .result) (x .0)) (Is (typeAt (T .signature .result) (x .0))) (λ r. val r ∷ [])
-      → ent 𝓤 (emp 𝓤) (meant 𝓤 H A T φ .pre (x, tt))
+      → ent 𝓤 (emp 𝓤) (alive 𝓤 H A (T .signature) (x .0) (x .1))
+      → Makess 𝓤 H A (typesAt (T .signature .params) (x .0)) (Ises (typesAt (T .signature .params) (x .0)))
+      → Are (typesAt (T .signature .params) (x .0)) (Ises (typesAt (T .signature .params) (x .0))) (x .3) (x .4)
       → Opds K W (raw (meant 𝓤 H A T φ .pre (x, tt)) ∷ Γ) E xs (passed 𝓤 H A (T .signature) x)
       → ((r : Res (T .signature) (x .0)) → φ (x .0) (x .3) r → Is (typeAt (T .signature .result) (x .0)) r (val r ∷ [])
       → Seq K W (‵ (typeAt (T .signature .result) (x .0) .own r (val r ∷ [])) ∷ Γ) (lands C Λ E d (val r) rest q))
       → Seq K W Γ (runs C Λ E (seq (call f xs d) rest) q)
-  asks-plain t fm T φ met x val tells free os k =
-      use0 W (raw (meant 𝓤 H A T φ .pre (x, tt))) free $ asks t fm T φ met x val tells os
-      (λ r e is. move t (1 ∷ []) $ drop t $ k r e is)
+  asks-plain t fm T φ met x val tells free makes are os k =
+      let P : SProp 𝓤 = alive 𝓤 H A (T .signature) (x .0) (x .1) in
+      let Q : SProp 𝓤 = onEntry 𝓤 H A (T .signature) (x .0) (x .1) (x .3) (x .4) in
+      let Rs : List RattleType = typesAt (T .signature .params) (x .0) in
+      use0 W (raw P) free $ use1 W (raw (meant 𝓤 H A T φ .pre (x, tt)))
+      (via 𝓤 Q (via 𝓤 (sep 𝓤 P (emp 𝓤)) (and-nothing 𝓤 P) (monoR 𝓤 P (owns-make 𝓤 H A Rs (Ises Rs) makes (x .3) (x .4) are)))
+      (and-nothing 𝓤 Q))
+      $ asks t fm T φ met x val tells os (λ r e is. move t (1 ∷ []) $ drop t $ k r e is)
 
 module _ {M : Type 1} (𝓤 : URA M) (H : Heap 𝓤) (𝓜 : Model 𝓤 H) (𝓖 : GhostRules 𝓤 H) (𝓡 : Running 𝓤 H 𝓜) where
   -- a walk of the code, where its calls mean env, is the function's contract
