@@ -4,7 +4,7 @@ use Prim.Native.Nat.{ℕ}
 use mathlib.Core.Bool.{Bool, true, false, not, true≢false}
 use mathlib.Core.List.{List}
 use mathlib.Core.Logic.{inl, inr}
-use mathlib.Core.Path.{_≡_, refl, sym, ap, _∙_, subst}
+use mathlib.Core.Path.{_≡_, refl, sym, ap, ap₂, _∙_, subst}
 use borrow.Author.Tests.{ne-eqb}
 use Rattle.rules.specs.declared.Operation.{Operation}
 use Rattle.rules.specs.Code.{kinds, kindIn}
@@ -67,3 +67,10 @@ indices-read bs at (Value c next) b r e h t g =
       | inl x ↦ by-split bs at c next (sym e) x r (g ∙ split-indices bs c next x)
       | inr x ↦ by-union bs at c next (sym e) x r (g ∙ union-indices bs c next x)
     ])
+
+-- the indices as they are read: each position, and the number there
+pub indices-by : (bs : List ℕ) (n : Number) (k i : ℕ) (p j : Number) (r : OperationRead) → k ≡ nextOf n → p ≡ numberAt 7 bs k → i ≡ placeAt n p
+    → j ≡ numberAt 10 bs i → r ≡ indexedOf n p j → r ≡ indicesAt bs n
+indices-by bs n k i p j r e-k e-p e-i e-j e-r =
+    let f : p ≡ numberAt 7 bs (nextOf n) = e-p ∙ ap (numberAt 7 bs) e-k in
+    e-r ∙ ap₂ (indexedOf n) f (e-j ∙ ap (numberAt 10 bs) (e-i ∙ ap (placeAt n) f))
