@@ -1,6 +1,7 @@
 //! Values in the prover's notation.
 
 use crate::expected::LIMITS;
+use crate::lines::record;
 use crate::second::{Building, PackBuffers, Packing, UnpackBuffers, Unpacking};
 use cutborder::across::across;
 use cutborder::book::Book;
@@ -17,7 +18,7 @@ fn list<T: PartialEq>(xs: &[T], show: impl Fn(&T) -> String) -> String {
         let n = xs[i..].iter().take_while(|x| **x == xs[i]).count();
         if n >= 8 {
             flush(&mut single, &mut parts);
-            parts.push(format!("replicate {n} {}", show(&xs[i])));
+            parts.push(format!("replicate {n} {}", argument(show(&xs[i]))));
             i += n;
         } else {
             single.push(show(&xs[i]));
@@ -25,11 +26,16 @@ fn list<T: PartialEq>(xs: &[T], show: impl Fn(&T) -> String) -> String {
         }
     }
     flush(&mut single, &mut parts);
-    match parts.len() {
-        0 => "[]".into(),
-        1 => format!("({})", parts[0]),
+    match parts.as_slice() {
+        [] => "[]".into(),
+        [one] if one.starts_with('(') => one.clone(),
         _ => format!("({})", parts.join(" ++ ")),
     }
+}
+
+/// A value as an argument.
+fn argument(value: String) -> String {
+    if value.contains(' ') { format!("({value})") } else { value }
 }
 
 fn flush(single: &mut Vec<String>, parts: &mut Vec<String>) {
@@ -44,7 +50,7 @@ fn numbers<T: Copy + PartialEq + Into<u64>>(xs: &[T]) -> String {
 }
 
 fn places(ps: &[Place]) -> String {
-    list(ps, |p| format!("(place {} {} {} {})", p.vertex, p.before, p.after, p.open))
+    list(ps, |p| format!("place {} {} {} {}", p.vertex, p.before, p.after, p.open))
 }
 
 fn pack_buffers(r: &PackBuffers) -> String {
@@ -68,24 +74,26 @@ pub fn packing(x: &Packing) -> String {
         LIMITS => "most".to_owned(),
         (places, loops) => format!("record {{ places = {places}; loops = {loops} }}"),
     };
-    format!(
-        "record {{ limits = {limits}; vertices = {}; list = {}; lent = {}; answer = {answer}; left = {} }}",
-        x.v, numbers(&x.list), pack_buffers(&x.lent), pack_buffers(&x.left)
-    )
+    record(&[
+        ("limits", limits),
+        ("vertices", x.v.to_string()),
+        ("list", numbers(&x.list)),
+        ("lent", pack_buffers(&x.lent)),
+        ("answer", answer),
+        ("left", pack_buffers(&x.left)),
+    ])
 }
 
 /// Counts and operations, and the pack that has them.
 pub fn fields(c: Counts, ops: &[u8]) -> String {
-    format!(
-        "record {{ stated = counts {} {} {} {}; ops = {}; bytes = {} }}",
-        c.v, c.t, c.places, c.loops, numbers(ops), numbers(&pack_bytes(c, ops))
-    )
+    let stated = format!("counts {} {} {} {}", c.v, c.t, c.places, c.loops);
+    record(&[("stated", stated), ("ops", numbers(ops)), ("bytes", numbers(&pack_bytes(c, ops)))])
 }
 
 /// A look across an edge: the triangle's number, the corner and the vertex there, or nothing.
 pub fn look(list: &[u16], p: u16, q: u16) -> String {
     let found: Vec<u32> = across(list, p, q).map_or(vec![], |x| vec![x.triangle as u32, x.corner as u32, x.c.into()]);
-    format!("record {{ list = {}; from = {p}; to = {q}; told = {} }}", numbers(list), numbers(&found))
+    record(&[("list", numbers(list)), ("from", p.to_string()), ("to", q.to_string()), ("told", numbers(&found))])
 }
 
 fn model(a: &Answer) -> String {
@@ -97,10 +105,7 @@ pub fn unpacking(x: &Unpacking) -> String {
         Ok(a) => model(a),
         Err(n) => format!("refusal {n}"),
     };
-    format!(
-        "record {{ bytes = {}; lent = {}; answer = {answer}; left = {} }}",
-        numbers(&x.bytes), unpack_buffers(&x.lent), unpack_buffers(&x.left)
-    )
+    record(&[("bytes", numbers(&x.bytes)), ("lent", unpack_buffers(&x.lent)), ("answer", answer), ("left", unpack_buffers(&x.left))])
 }
 
 fn call(line: &str) -> String {
@@ -135,10 +140,13 @@ pub fn building(x: &Building) -> String {
         let _ = write!(calls, "{} ∷ ", call(c));
         let _ = write!(told, "{} ∷ ", answer(c, t));
     }
-    format!(
-        "record {{ lengths = lengths {} {}; calls = {calls}[]; told = {told}[]; machine = {}; borders = {} }}",
-        x.lengths.0, x.lengths.1, numbers(&machine(&x.book)), numbers(&borders(&x.book))
-    )
+    record(&[
+        ("lengths", format!("lengths {} {}", x.lengths.0, x.lengths.1)),
+        ("calls", calls + "[]"),
+        ("told", told + "[]"),
+        ("machine", numbers(&machine(&x.book))),
+        ("borders", numbers(&borders(&x.book))),
+    ])
 }
 
 /// What the book holds, as numbers: the counts, the triangles as built, then each loop's length and places.

@@ -60,7 +60,7 @@ pub fn building(rng: &mut Rng, max_t: usize) -> Building {
 
 /// A theorem for each case, so that a refusal names it.
 pub fn module(seed: u64, count: usize) -> String {
-    let (uses, unfolding) = prelude(&Home::Outside);
+    let (uses, unfolding) = prelude(&Home::Outside, &[]);
     let mut out = format!("-- Cases of seed {seed}, drawn by tests/definitions.\n-- Assumes nothing.\n{uses}");
     let mut rng = Rng::new(seed);
     for i in 0..count {

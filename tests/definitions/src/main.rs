@@ -11,6 +11,7 @@ mod cases;
 mod edit;
 #[path = "../../expected.rs"]
 mod expected;
+mod lines;
 mod prelude;
 mod second;
 mod table;

@@ -1,5 +1,6 @@
 //! The lines that every module of rows begins with, and the definitions that its theorems compute.
 
+use crate::lines;
 use std::fs;
 use std::path::PathBuf;
 
@@ -33,8 +34,8 @@ fn modules() -> Vec<String> {
     text.lines().filter_map(|l| l.strip_prefix("pub mod ")).map(str::to_owned).collect()
 }
 
-/// The `use` lines, and the line that opens the definitions under a theorem.
-pub fn prelude(home: &Home) -> (String, String) {
+/// The `use` lines, and the line that opens the definitions and these rows under a theorem.
+pub fn prelude(home: &Home, rows: &[&str]) -> (String, String) {
     let (specs, proofs) = roots(home);
     let mut uses = format!(
         "use Prim.Native.Nat.{{ℕ}}
@@ -48,17 +49,19 @@ use {specs}.Triangle.{{tri}}
 use {specs}.Answer.{{refusal, accepted, triangle, no-triangle, numbers, packed}}
 use {specs}.Book.{{begin, operate, finish}}
 use {specs}.Pack.{{most}}
-use {proofs}.Rows.{{PackRow, UnpackRow, CallRow, FieldsRow, LookRow, place, packLent, unpackLent, lengths, counts, totalsOf, modelOf}}
+use {proofs}.Rows.{{PackRow, UnpackRow, CallRow, FieldsRow, LookRow}}
+use {proofs}.Rows.{{place, packLent, unpackLent, lengths, counts, totalsOf, modelOf}}
 "
     );
     let mut names = unfoldable("proofs", "Rows");
-    uses += &format!("use {proofs}.Rows.{{{}}}\n", names.join(", "));
+    uses += &lines::uses(&format!("{proofs}.Rows"), &names);
     for m in modules() {
         let found = unfoldable("specs", &m);
         if !found.is_empty() {
-            uses += &format!("use {specs}.{m}.{{{}}}\n", found.join(", "));
+            uses += &lines::uses(&format!("{specs}.{m}"), &found);
             names.extend(found);
         }
     }
-    (uses, format!("unfolding {}", names.join(" ")))
+    names.extend(rows.iter().map(|r| r.to_string()));
+    (uses, lines::broken(&format!("unfolding {}", names.join(" ")), &[lines::AT_WORD], 4))
 }

@@ -2,6 +2,7 @@
 
 use crate::antt;
 use crate::expected::{self, LIMITS};
+use crate::lines;
 use crate::prelude::{prelude, Home};
 use crate::second::{Building, PackBuffers, Packing, UnpackBuffers, Unpacking};
 use cutborder::gen::op_words;
@@ -25,7 +26,10 @@ const NOW: [(&str, &str); 8] = [
         "smallest backward; c is reached from the edge that leaves its place only",
         "backward at three places; c is reached from the edge that leaves its place only",
     ),
-    ("smallest split; equal halves, next to a marked edge", "split k - 2 across a link; the second part has fewer places, in full loops as many"),
+    (
+        "smallest split; equal halves, next to a marked edge",
+        "split k - 2 across a link; the second part has fewer places, in full loops as many",
+    ),
     ("split, the second part is smaller", "split k - 2, the second part is smaller"),
     ("union to c that has a place in the current loop too", "union from a loop of two places"),
     ("split to c that has an earlier place after f", "union from a loop of two places, then a split past links"),
@@ -89,36 +93,37 @@ const SHORT: &str = "4 0 2 1 1 3 0";
 /// A split makes two loops and a seventh place.
 const SPLIT: &str = "6 1 3 2 2 4 5 2 3 4 1 0 3 2 5 0 0 1 2";
 
+/// Lists, each refused or packed in ample buffers.
+const LISTS: [(&str, &str); 23] = [
+    ("union from a loop with a link; the peak of places is reached by it", "7 0 1 2 3 1 4 1 5 6 5 1 3 5 0 2 4 5 2 1 0 4 6 5 4 0 6 4"),
+    ("1: four numbers", "4 0 1 2 3"),
+    ("1 before 2", "2"),
+    ("2: V 2", "2 0 1 0"),
+    ("2: V 4,097", "4097 0 1 2"),
+    ("V 4,096", "4096 0 1 2"),
+    ("2 before 3", "2 0 1 2"),
+    ("3: a number is V", "3 0 1 3"),
+    ("3 before 4", "3 0 3 3"),
+    ("4: first and second corner", "3 0 0 1 0 1 2"),
+    ("4: second and third corner", "3 0 1 2 0 1 1"),
+    ("4: third and first corner", "3 0 1 2 2 0 2"),
+    ("4 before 5", "4 0 1 2 0 1 3 3 3 0"),
+    ("5: second edges", "5 0 1 2 3 1 2 0 4 3"),
+    ("5: a first and a third edge", "4 0 1 2 1 3 0 2 3 1"),
+    ("5 before 6", "5 0 1 2 0 1 3"),
+    ("6 before 7", "6 0 1 2 0 3 4"),
+    ("6: vertex 0", "4 1 2 3"),
+    ("7: a closed fan and an open one", "6 0 1 2 0 2 3 0 3 1 0 4 5"),
+    ("7: two closed fans", "7 0 1 2 0 2 3 0 3 1 0 4 5 0 5 6 0 6 4"),
+    ("7: vertex 1", "5 1 0 2 1 3 4"),
+    ("7: the last vertex", "5 4 0 1 4 2 3"),
+    ("one fan, listed from its middle", "5 0 2 3 0 1 2 0 3 4"),
+];
+
 fn packings() -> Vec<(String, String)> {
     let same = |_: &mut PackBuffers| ();
     let mut rows: Vec<_> = models().iter().map(|(name, line)| pack_row(name, LIMITS, line, same)).collect();
-    for (name, line) in [
-        ("union from a loop with a link; the peak of places is reached by it", "7 0 1 2 3 1 4 1 5 6 5 1 3 5 0 2 4 5 2 1 0 4 6 5 4 0 6 4"),
-        ("1: four numbers", "4 0 1 2 3"),
-        ("1 before 2", "2"),
-        ("2: V 2", "2 0 1 0"),
-        ("2: V 4,097", "4097 0 1 2"),
-        ("V 4,096", "4096 0 1 2"),
-        ("2 before 3", "2 0 1 2"),
-        ("3: a number is V", "3 0 1 3"),
-        ("3 before 4", "3 0 3 3"),
-        ("4: first and second corner", "3 0 0 1 0 1 2"),
-        ("4: second and third corner", "3 0 1 2 0 1 1"),
-        ("4: third and first corner", "3 0 1 2 2 0 2"),
-        ("4 before 5", "4 0 1 2 0 1 3 3 3 0"),
-        ("5: second edges", "5 0 1 2 3 1 2 0 4 3"),
-        ("5: a first and a third edge", "4 0 1 2 1 3 0 2 3 1"),
-        ("5 before 6", "5 0 1 2 0 1 3"),
-        ("6 before 7", "6 0 1 2 0 3 4"),
-        ("6: vertex 0", "4 1 2 3"),
-        ("7: a closed fan and an open one", "6 0 1 2 0 2 3 0 3 1 0 4 5"),
-        ("7: two closed fans", "7 0 1 2 0 2 3 0 3 1 0 4 5 0 5 6 0 6 4"),
-        ("7: vertex 1", "5 1 0 2 1 3 4"),
-        ("7: the last vertex", "5 4 0 1 4 2 3"),
-        ("one fan, listed from its middle", "5 0 2 3 0 1 2 0 3 4"),
-    ] {
-        rows.push(pack_row(name, LIMITS, line, same));
-    }
+    rows.extend(LISTS.iter().map(|(name, line)| pack_row(name, LIMITS, line, same)));
     let long = |n: usize| format!("3{}", " 0".repeat(n));
     rows.push(pack_row("24,576 numbers", LIMITS, &long(24_576), same));
     rows.push(pack_row("1: 24,579 numbers", LIMITS, &long(24_579), same));
@@ -154,8 +159,44 @@ fn unpack_row(name: &str, hex: &str, triangles: usize, places: usize) -> (String
     (format!("{name}: {told}"), antt::unpacking(&x))
 }
 
+const M1: &str = "0100080003000100030001020002edb0";
+
+/// Packs, and how many numbers and records are lent for each.
+const BYTES: [(&str, &str, usize, usize); 29] = [
+    ("buffers just long enough", M1, 3, 1_024),
+    ("12 before 13", "0100080002000100030001020002edb000", 32, 1_024),
+    ("13 before 14", "0100080002000100030001020002edb0", 0, 1_024),
+    ("14: triangles", M1, 2, 1_024),
+    ("14: places", M1, 3, 1_023),
+    ("14 before 15", "0100080003000100030001020000", 2, 1_024),
+    ("16 before 17: forward in a loop of three", "0100080003000100030001020001e4", 3, 1_024),
+    ("17 before 18: M10 with too few places", "0100080005000400050002020003e04008", 12, 1_024),
+    ("18 before 19: M10 with a vertex too many", "0100080006000400060002020003e04008", 12, 1_024),
+    ("a field after tag 02", "0100080003000100030001020002edb0030000", 32, 1_024),
+    ("counts of 4,096, 8,192, 1,024 and 100, and no operations", "0100081000200004000064020000", 24_576, 1_024),
+    ("eight bits left over", "0100080006000200030001020004edbedb00", 32, 1_024),
+    ("five fill bits, the first is one", "0100080003000200030001020001f5", 32, 1_024),
+    ("20: the shortest", "0100080005000400050002020005e0370026db", 32, 1_024),
+    ("20: the shortest", "0100080005000400050002020005e186e004db", 32, 1_024),
+    ("20: the shortest", "0100080005000400060002020005e1880136db", 32, 1_024),
+    ("20: the shortest", "0100080005000400050002020005ec30e004db", 32, 1_024),
+    ("20: the shortest", "0100080005000400060002020005ec310026db", 32, 1_024),
+    ("20: a place of the vertex left, the other ended in a rim later", "0100080006000500070002020006e1862006db6c", 32, 1_024),
+    ("20: both places of the vertex left", "0100080007000600080002020007e1880100db6db0", 32, 1_024),
+    ("19 before 20: a vertex too many", "0100080006000400050002020005e186e004db", 32, 1_024),
+    ("19: the peak in full loops is stated", "0100080004000200040001020003ed86c0", 32, 1_024),
+    ("12: tag 00 for 01", "0000080003000100030001020002edb0", 32, 1_024),
+    ("12: tag 01 for 02", "0100080003000100030001010002edb0", 32, 1_024),
+    ("12: tag 03 for 02", "0100080003000100030001030002edb0", 32, 1_024),
+    ("12: a length of 264", "0101080003000100030001020002edb0", 32, 1_024),
+    ("12: a length of 258", "0100080003000100030001020102edb0", 32, 1_024),
+    ("15: a union breaks off inside p", "0100080009000900090009020001f8", 32, 1_024),
+    ("15: a union breaks off inside j", "0100080009000900090009020002f808", 32, 1_024),
+];
+
 fn unpackings() -> Vec<(String, String)> {
-    let mut rows: Vec<_> = lines(PACKS).iter().map(|(name, hex)| unpack_row(name, hex, if name == "18: M10" { 24_577 } else { 32 }, 1_026)).collect();
+    let triangles = |name: &str| if name == "18: M10" { 24_577 } else { 32 };
+    let mut rows: Vec<_> = lines(PACKS).iter().map(|(name, hex)| unpack_row(name, hex, triangles(name), 1_026)).collect();
     // The packs of the models.
     for (name, line) in models() {
         let (v, list) = model(&line);
@@ -165,40 +206,7 @@ fn unpackings() -> Vec<(String, String)> {
             rows.push(unpack_row(&name, &hex, list.len() + 1, 1_024));
         }
     }
-    const M1: &str = "0100080003000100030001020002edb0";
-    for (name, hex, triangles, places) in [
-        ("buffers just long enough", M1, 3, 1_024),
-        ("12 before 13", "0100080002000100030001020002edb000", 32, 1_024),
-        ("13 before 14", "0100080002000100030001020002edb0", 0, 1_024),
-        ("14: triangles", M1, 2, 1_024),
-        ("14: places", M1, 3, 1_023),
-        ("14 before 15", "0100080003000100030001020000", 2, 1_024),
-        ("16 before 17: forward in a loop of three", "0100080003000100030001020001e4", 3, 1_024),
-        ("17 before 18: M10 with too few places", "0100080005000400050002020003e04008", 12, 1_024),
-        ("18 before 19: M10 with a vertex too many", "0100080006000400060002020003e04008", 12, 1_024),
-        ("a field after tag 02", "0100080003000100030001020002edb0030000", 32, 1_024),
-        ("counts of 4,096, 8,192, 1,024 and 100, and no operations", "0100081000200004000064020000", 24_576, 1_024),
-        ("eight bits left over", "0100080006000200030001020004edbedb00", 32, 1_024),
-        ("five fill bits, the first is one", "0100080003000200030001020001f5", 32, 1_024),
-        ("20: the shortest", "0100080005000400050002020005e0370026db", 32, 1_024),
-        ("20: the shortest", "0100080005000400050002020005e186e004db", 32, 1_024),
-        ("20: the shortest", "0100080005000400060002020005e1880136db", 32, 1_024),
-        ("20: the shortest", "0100080005000400050002020005ec30e004db", 32, 1_024),
-        ("20: the shortest", "0100080005000400060002020005ec310026db", 32, 1_024),
-        ("20: a place of the vertex left, the other ended in a rim later", "0100080006000500070002020006e1862006db6c", 32, 1_024),
-        ("20: both places of the vertex left", "0100080007000600080002020007e1880100db6db0", 32, 1_024),
-        ("19 before 20: a vertex too many", "0100080006000400050002020005e186e004db", 32, 1_024),
-        ("19: the peak in full loops is stated", "0100080004000200040001020003ed86c0", 32, 1_024),
-        ("12: tag 00 for 01", "0000080003000100030001020002edb0", 32, 1_024),
-        ("12: tag 01 for 02", "0100080003000100030001010002edb0", 32, 1_024),
-        ("12: tag 03 for 02", "0100080003000100030001030002edb0", 32, 1_024),
-        ("12: a length of 264", "0101080003000100030001020002edb0", 32, 1_024),
-        ("12: a length of 258", "0100080003000100030001020102edb0", 32, 1_024),
-        ("15: a union breaks off inside p", "0100080009000900090009020001f8", 32, 1_024),
-        ("15: a union breaks off inside j", "0100080009000900090009020002f808", 32, 1_024),
-    ] {
-        rows.push(unpack_row(name, hex, triangles, places));
-    }
+    rows.extend(BYTES.iter().map(|&(name, hex, triangles, places)| unpack_row(name, hex, triangles, places)));
     let long = "0100080003000100030001020100edb0".to_owned() + &"00".repeat(254);
     rows.push(unpack_row("a field of 256 bytes", &long, 32, 1_024));
     rows
@@ -262,6 +270,7 @@ fn looks() -> Vec<(String, String)> {
     edges.iter().map(|&(name, p, q)| (name.to_owned(), antt::look(&list, p, q))).collect()
 }
 
+/// A list of rows, each with its remark.
 fn section(name: &str, kind: &str, rows: &[(String, String)]) -> String {
     let mut out = format!("\nunfoldable pub {name} : List {kind}\n{name} =\n");
     for (remark, row) in rows {
@@ -271,7 +280,14 @@ fn section(name: &str, kind: &str, rows: &[(String, String)]) -> String {
 }
 
 pub fn module() -> String {
-    let (uses, unfolding) = prelude(&Home::Rules);
+    let sections = [
+        ("packRows", "PackRow", "packRight", packings()),
+        ("unpackRows", "UnpackRow", "unpackRight", unpackings()),
+        ("callRows", "CallRow", "callsRight", buildings()),
+        ("fieldsRows", "FieldsRow", "fieldsRight", packs()),
+        ("lookRows", "LookRow", "lookRight", looks()),
+    ];
+    let (uses, unfolding) = prelude(&Home::Rules, &sections.each_ref().map(|s| s.0));
     let mut out = String::from(
         "-- Models, packs and lists of calls that pin the rules, with the answers of the second program: one table, by computation.
 -- Written by tests/definitions, never by hand; Bench has M1 to M10 as the rules write them, States the states of 21.
@@ -279,13 +295,10 @@ pub fn module() -> String {
 ",
     );
     out += &uses;
-    out += &section("packRows", "PackRow", &packings());
-    out += &section("unpackRows", "UnpackRow", &unpackings());
-    out += &section("callRows", "CallRow", &buildings());
-    out += &section("fieldsRows", "FieldsRow", &packs());
-    out += &section("lookRows", "LookRow", &looks());
-    out += &format!(
-        "\npub table : T (allRight packRight packRows && allRight unpackRight unpackRows && allRight callsRight callRows && allRight fieldsRight fieldsRows && allRight lookRight lookRows)\n{unfolding} packRows unpackRows callRows fieldsRows lookRows\ntable = tt\n"
-    );
-    out
+    for (name, kind, _, rows) in &sections {
+        out += &section(name, kind, rows);
+    }
+    let all = sections.each_ref().map(|(name, _, right, _)| format!("allRight {right} {name}")).join(" && ");
+    let claim = lines::broken(&format!("pub table : T ({all})"), &[lines::AT_OPERATOR], 4);
+    out + &format!("\n{claim}\n{unfolding}\ntable = tt\n")
 }
