@@ -1,5 +1,5 @@
--- Small examples of what the tables do not reach: the model's open edges, the state last returned, an open and a closed fan, and the
--- right place.
+-- Small examples of what the tables do not reach: the model's open edges, the state last returned, an open and a closed fan, the right
+-- place, and a record that is a place.
 -- Assumes nothing.
 use Prim.Native.Nat.{ℕ}
 use native.Mathlib.Omega.{arith}
@@ -10,14 +10,16 @@ use lib.Dec.{T, eqb}
 use Rattle.rules.specs.declared.Triangle.{Triangle}
 use Rattle.rules.specs.declared.Checked.the-variants.{Accepted, Refused}
 use Rattle.rules.specs.Triangle.{tri, edge, edgesOf, at-p, at-q, at-r, here, there, Free}
-use Rattle.rules.specs.Count.{same, hit, count}
+use Rattle.rules.specs.Count.{same, hit, occurs, count}
 use Rattle.rules.specs.Fan.{Linked, Closed, Open}
 use Rattle.rules.specs.Ring.{opened, loopAt}
 use Rattle.rules.specs.Right.{stop, RightPlace, by-entering}
 use Rattle.rules.specs.Book.{modelOpen}
 use Rattle.rules.specs.Calls.{lastState}
-use Rattle.rules.specs.Build.{begunBuilder, emptyBuilder}
+use Rattle.rules.specs.View.{follow, placesOf}
+use Rattle.rules.specs.Build.{begunBuilder, emptyBuilder, InLoop, NoPlace}
 use Rattle.rules.proofs.Rows.{counts}
+use Rattle.rules.proofs.States.{good, whole}
 
 -- of the triangles 0 1 2 and 1 0 3, where 2→0 is declared border: 0→1 is glued, and 1→2, 0→3 and 3→1 are open
 abbrev pub openIn : ℕ → ℕ → ℕ
@@ -61,3 +63,8 @@ closed-fan = ((here (at-p refl refl refl), (there (here (at-q refl refl refl)), 
 pub right-place : RightPlace (tri 0 2 3 ∷ []) ((opened 3 ∷ (opened 1 ∷ (opened 2 ∷ (opened 0 ∷ [])))) ∷ []) 3 1 2 0 2
 unfolding loopAt
 right-place = by-entering 1 1 (refl, refl, refl) refl stop
+
+-- in the state that passes 21 record 4 is a place of a live loop, and 6 is none
+pub in-loops : InLoop good whole 4 × NoPlace good whole 6
+unfolding same occurs follow placesOf
+in-loops = (omega arith, refl)

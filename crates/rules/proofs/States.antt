@@ -318,6 +318,20 @@ loneRight =
     && eqb (stepNumber (operates lone lonely New)) 18 && eqb (stepNumber (operates lone lonely (Union 1 0))) 18
     && eqb (stepNumber (operates lone lonely Border)) 0
 
+-- a lent state may have peaks below what it holds: a border takes them too, here of six places and two loops
+abbrev pub below : Builder
+below = builder stated (parts 5 4 0 0 2 first three) 9 1 0 0
+
+abbrev pub peaksAfter : Step → List ℕ
+peaksAfter (refused n) = []
+peaksAfter (begun m) = []
+peaksAfter (built t m) = []
+peaksAfter (declared d m) = m .mostPlaces ∷ m .mostLoops ∷ []
+peaksAfter (finished x) = []
+
+unfoldable pub peaksRight : Bool
+peaksRight = equal (peaksAfter (operates below whole Border)) (6 ∷ 2 ∷ [])
+
 -- a complete model, two triangles that share nothing; a vertex that is in no triangle has no second fan
 abbrev pub resting : ℕ → Builder
 resting v = builder (counts v 2 3 1) (parts v 2 3 1 0 (0 ∷ 0 ∷ 0 ∷ 0 ∷ []) (0 ∷ 0 ∷ 0 ∷ 0 ∷ [])) 0 2 0 2
@@ -340,9 +354,9 @@ callsRight =
     && equal (withTriangle 1 (tri 7 8 9) (0 ∷ 1 ∷ 2 ∷ 3 ∷ 4 ∷ 5 ∷ 6 ∷ [])) (0 ∷ 1 ∷ 2 ∷ 7 ∷ 8 ∷ 9 ∷ 6 ∷ [])
     && equal (begunBuffers whole .triangles) numbers && equalPlaces (begunBuffers whole .places) (replicate 1024 freePlace)
 
-pub calls : T (callsRight && differRight && loneRight && fansRight)
-unfolding differRight loneRight fansRight about leaving entering turnOn turnBack oneRun oneFanEach same hit corners edgesOf numbersOf occurs
-    count allBelow allOpen vertexAt lastOpen lastVertex front onward reached places loopAt without allowed inOrder atEdge atRest
+pub calls : T (callsRight && differRight && loneRight && peaksRight && fansRight)
+unfolding differRight loneRight peaksRight fansRight about leaving entering turnOn turnBack oneRun oneFanEach same hit corners edgesOf
+    numbersOf occurs count allBelow allOpen vertexAt lastOpen lastVertex front onward reached places loopAt without allowed inOrder atEdge atRest
     effect test done beginning finishing follow followed placesOf nodes loopsOf trianglesBuilt view sizesOf apart placesFit loopsFit
     linksFit sound equal equalPlaces cleared callsRight
 calls = tt
