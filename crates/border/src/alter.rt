@@ -1,13 +1,13 @@
 // The surgery of a planned operation.
 use cutborder::Loops;
-use rings::surgery::cut_current;
-use rings::surgery::cut_next;
-use rings::surgery::end_loop;
-use rings::surgery::grow;
-use rings::surgery::join_loop;
+use rings::surgery::backward;
+use rings::surgery::close;
+use rings::surgery::forward;
 use rings::surgery::mark_border;
-use rings::surgery::split_loop;
-use rings::surgery::start_loop;
+use rings::surgery::new_vertex;
+use rings::surgery::split;
+use rings::surgery::start;
+use rings::surgery::union;
 use rules::Operation;
 ghost use mathlib.Core.Path.{_≡_};
 ghost use Rattle.border_theory.specs.Memory.Decision.{heldBy};
@@ -20,9 +20,9 @@ pub fn alter(m: &mut [u16], n: usize, l: Loops, u: u16, o: Operation, c: u16) ->
     ensures memory { λ _. ⌜ now (m .exit) ≡ heldBy n l (now (m .entry)) u o c .memory ⌝ }
 {
     match o {
-        Operation::New => grow(m, n, l, u),
-        Operation::Forward => cut_next(m, n, l),
-        Operation::Backward => cut_current(m, n, l),
+        Operation::New => new_vertex(m, n, l, u),
+        Operation::Forward => forward(m, n, l),
+        Operation::Backward => backward(m, n, l),
         // Never met: an edge that is marked has no plan.
         Operation::Border => {
             let k = mark_border(m, n, l);
@@ -33,9 +33,9 @@ pub fn alter(m: &mut [u16], n: usize, l: Loops, u: u16, o: Operation, c: u16) ->
                 free: k.free,
             }
         }
-        Operation::Split(i) => split_loop(m, n, l, i, c),
-        Operation::Close => end_loop(m, n, l),
-        Operation::Union(k, _) => join_loop(m, n, l, k, c),
-        Operation::Start => start_loop(m, n, l, u),
+        Operation::Split(i) => split(m, n, l, i, c),
+        Operation::Close => close(m, n, l),
+        Operation::Union(k, _) => union(m, n, l, k, c),
+        Operation::Start => start(m, n, l, u),
     }
 }

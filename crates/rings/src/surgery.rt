@@ -21,7 +21,7 @@ ghost use Rattle.border_theory.specs.Memory.Moves.{doubled, splitHeld, unionHel
 ghost use Rattle.border_theory.specs.Memory.Near.{Near, Borders, Doubles, Starts};
 
 // New: a free place goes between the current place and the next. It gets vertex u and is current.
-pub fn grow(m: &mut [u16], n: usize, l: Loops, u: u16) -> Loops
+pub fn new_vertex(m: &mut [u16], n: usize, l: Loops, u: u16) -> Loops
     requires { ⌜ Near n l (now m) × (1 ≤ l .free) ⌝ }
     ensures loops { λ r. ⌜ r ≡ newHeld n l (now (m .entry)) u .loops ⌝ }
     ensures memory { λ _. ⌜ now (m .exit) ≡ newHeld n l (now (m .entry)) u .memory ⌝ }
@@ -42,7 +42,7 @@ pub fn grow(m: &mut [u16], n: usize, l: Loops, u: u16) -> Loops
 }
 
 // Forward: the place after the current one leaves.
-pub fn cut_next(m: &mut [u16], n: usize, l: Loops) -> Loops
+pub fn forward(m: &mut [u16], n: usize, l: Loops) -> Loops
     requires { ⌜ Near n l (now m) ⌝ }
     ensures loops { λ r. ⌜ r ≡ forwardHeld n l (now (m .entry)) .loops ⌝ }
     ensures memory { λ _. ⌜ now (m .exit) ≡ forwardHeld n l (now (m .entry)) .memory ⌝ }
@@ -62,7 +62,7 @@ pub fn cut_next(m: &mut [u16], n: usize, l: Loops) -> Loops
 }
 
 // Backward: the current place leaves, and the one before it is current.
-pub fn cut_current(m: &mut [u16], n: usize, l: Loops) -> Loops
+pub fn backward(m: &mut [u16], n: usize, l: Loops) -> Loops
     requires { ⌜ Near n l (now m) ⌝ }
     ensures loops { λ r. ⌜ r ≡ backwardHeld n l (now (m .entry)) .loops ⌝ }
     ensures memory { λ _. ⌜ now (m .exit) ≡ backwardHeld n l (now (m .entry)) .memory ⌝ }
@@ -82,7 +82,7 @@ pub fn cut_current(m: &mut [u16], n: usize, l: Loops) -> Loops
 }
 
 // The current loop ends: its places are freed, and the latest waiting loop goes on.
-pub fn end_loop(m: &mut [u16], n: usize, l: Loops) -> Loops
+pub fn close(m: &mut [u16], n: usize, l: Loops) -> Loops
     requires { ⌜ Near n l (now m) ⌝ }
     ensures loops { λ r. ⌜ r ≡ endedHeld n l (now (m .entry)) .loops ⌝ }
     ensures memory { λ _. ⌜ now (m .exit) ≡ endedHeld n l (now (m .entry)) .memory ⌝ }
@@ -138,7 +138,7 @@ fn leave_next(m: &mut [u16], n: usize, l: Loops) -> Loops
     let e = l.current;
     let f = after_of(m, e);
     if open_of(m, f) == 0 {
-        return cut_next(m, n, l);
+        return forward(m, n, l);
     }
     l
 }
@@ -152,7 +152,7 @@ fn leave_current(m: &mut [u16], n: usize, l: Loops) -> Loops
     let e = l.current;
     let c = before_of(m, e);
     if open_of(m, c) == 0 {
-        return cut_current(m, n, l);
+        return backward(m, n, l);
     }
     l
 }
@@ -178,7 +178,7 @@ fn mark_edge(m: &mut [u16], n: usize, l: Loops) -> Loops
     let f = after_of(m, e);
     store_edge(m, e, f, 0);
     if open_of(m, f) == 0 {
-        return end_loop(m, n, l);
+        return close(m, n, l);
     }
     Loops {
         live: l.live,
@@ -189,7 +189,7 @@ fn mark_edge(m: &mut [u16], n: usize, l: Loops) -> Loops
 }
 
 // Split: the loop falls in two, of i + 1 places and of the others. The shorter goes on; the other waits.
-pub fn split_loop(m: &mut [u16], n: usize, l: Loops, i: u16, c: u16) -> Loops
+pub fn split(m: &mut [u16], n: usize, l: Loops, i: u16, c: u16) -> Loops
     requires { ⌜ Near n l (now m) × Doubles n l (now m) c ⌝ }
     requires { ⌜ (i + 2 ≤ l .size) × (l .live < 65535) × (5 * n + 2 * (l .live + 1) ≤ length (now m)) ⌝ }
     ensures loops { λ r. ⌜ r ≡ splitHeld n l (now (m .entry)) i c .loops ⌝ }
@@ -220,7 +220,7 @@ pub fn split_loop(m: &mut [u16], n: usize, l: Loops, i: u16, c: u16) -> Loops
 }
 
 // Union: waiting loop p, joined at its place c, becomes part of the current one.
-pub fn join_loop(m: &mut [u16], n: usize, l: Loops, p: u16, c: u16) -> Loops
+pub fn union(m: &mut [u16], n: usize, l: Loops, p: u16, c: u16) -> Loops
     requires { ⌜ Near n l (now m) × Doubles n l (now m) c ⌝ }
     requires { ⌜ (1 ≤ p) × (p + 1 ≤ l .live) ⌝ }
     ensures loops { λ r. ⌜ r ≡ unionHeld n l (now (m .entry)) p c .loops ⌝ }
@@ -242,7 +242,7 @@ pub fn join_loop(m: &mut [u16], n: usize, l: Loops, p: u16, c: u16) -> Loops
 }
 
 // Start: a loop of three free places, with the vertices u, u + 1 and u + 2.
-pub fn start_loop(m: &mut [u16], n: usize, l: Loops, u: u16) -> Loops
+pub fn start(m: &mut [u16], n: usize, l: Loops, u: u16) -> Loops
     requires { ⌜ Starts n l (now m) × (u ≤ maxVertices) ⌝ }
     ensures loops { λ r. ⌜ r ≡ startHeld n l (now (m .entry)) u .loops ⌝ }
     ensures memory { λ _. ⌜ now (m .exit) ≡ startHeld n l (now (m .entry)) u .memory ⌝ }

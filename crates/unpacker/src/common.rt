@@ -4,8 +4,8 @@ use border::plan::forward_plan;
 use border::plan::new_plan;
 use cutborder::Decided;
 use cutborder::Loops;
-use rings::surgery::cut_next;
-use rings::surgery::grow;
+use rings::surgery::forward;
+use rings::surgery::new_vertex;
 use rules::Operation;
 ghost use mathlib.Core.Path.{_≡_};
 ghost use Rattle.border_theory.specs.Memory.Decision.{proposedAt, heldBy};
@@ -33,8 +33,8 @@ pub(crate) fn alter(m: &mut [u16], n: usize, l: Loops, u: u16, o: Operation, c: 
     ensures memory { λ _. ⌜ now (m .exit) ≡ heldBy n l (now (m .entry)) u o c .memory ⌝ }
 {
     match o {
-        Operation::New => grow(m, n, l, u),
-        Operation::Forward => cut_next(m, n, l),
+        Operation::New => new_vertex(m, n, l, u),
+        Operation::Forward => forward(m, n, l),
         // Made anew, so that the compiler keeps the loops of the other two in registers.
         _ => {
             let k = border::alter::alter(m, n, l, u, o, c);

@@ -8,20 +8,20 @@ use Rattle.border.proofs.alter.alter.Tie as tie
 enum-told : tie.Need-enum-told
 enum-told c = search needs
 
-grow-requires : tie.Need-grow-requires
-grow-requires c κs = performs-as _ _ _ _ _ _ _ (c .before .enum-told .given .1) (c .before .before .before .before .pre)
+new-vertex-requires : tie.Need-new-vertex-requires
+new-vertex-requires c κs = performs-as _ _ _ _ _ _ _ (c .before .enum-told .given .1) (c .before .before .before .before .pre)
 
 enum-told-2 : tie.Need-enum-told-2
 enum-told-2 c = search needs
 
-cut-next-requires : tie.Need-cut-next-requires
-cut-next-requires c κs = performs-as _ _ _ _ _ _ _ (c .before .enum-told2 .given .1) (c .before .before .before .before .pre)
+forward-requires : tie.Need-forward-requires
+forward-requires c κs = performs-as _ _ _ _ _ _ _ (c .before .enum-told2 .given .1) (c .before .before .before .before .pre)
 
 enum-told-3 : tie.Need-enum-told-3
 enum-told-3 c = search needs
 
-cut-current-requires : tie.Need-cut-current-requires
-cut-current-requires c κs = performs-as _ _ _ _ _ _ _ (c .before .enum-told3 .given .1) (c .before .before .before .before .pre)
+backward-requires : tie.Need-backward-requires
+backward-requires c κs = performs-as _ _ _ _ _ _ _ (c .before .enum-told3 .given .1) (c .before .before .before .before .pre)
 
 enum-told-4 : tie.Need-enum-told-4
 enum-told-4 c = search needs
@@ -32,44 +32,44 @@ mark-border-requires c κs = performs-as _ _ _ _ _ _ _ (c .before .enum-told4 .g
 enum-known-o : tie.Need-enum-known-o
 enum-known-o c = search needs
 
-split-loop-requires : tie.Need-split-loop-requires
-split-loop-requires c κs = performs-as _ _ _ _ _ _ _ (c .before .before .o .given .1) (c .before .before .before .before .before .pre)
+split-requires : tie.Need-split-requires
+split-requires c κs = performs-as _ _ _ _ _ _ _ (c .before .before .o .given .1) (c .before .before .before .before .before .pre)
 
 enum-told-5 : tie.Need-enum-told-5
 enum-told-5 c = search needs
 
-end-loop-requires : tie.Need-end-loop-requires
-end-loop-requires c κs = performs-as _ _ _ _ _ _ _ (c .before .enum-told5 .given .1) (c .before .before .before .before .pre)
+close-requires : tie.Need-close-requires
+close-requires c κs = performs-as _ _ _ _ _ _ _ (c .before .enum-told5 .given .1) (c .before .before .before .before .pre)
 
 enum-known-o-2 : tie.Need-enum-known-o-2
 enum-known-o-2 c = search needs
 
-join-loop-requires : tie.Need-join-loop-requires
-join-loop-requires c κs = performs-as _ _ _ _ _ _ _ (c .before .before .o2 .given .1) (c .before .before .before .before .before .pre)
+union-requires : tie.Need-union-requires
+union-requires c κs = performs-as _ _ _ _ _ _ _ (c .before .before .o2 .given .1) (c .before .before .before .before .before .pre)
 
 enum-told-6 : tie.Need-enum-told-6
 enum-told-6 c = search needs
 
-start-loop-requires : tie.Need-start-loop-requires
-start-loop-requires c κs = performs-as _ _ _ _ _ _ _ (c .before .enum-told6 .given .1) (c .before .before .before .before .pre)
+start-requires : tie.Need-start-requires
+start-requires c κs = performs-as _ _ _ _ _ _ _ (c .before .enum-told6 .given .1) (c .before .before .before .before .pre)
 
 same-length : tie.Need-same-length
-same-length c = (c .before .before .grow .kept .0)
+same-length c = (c .before .before .new-vertex .kept .0)
 
 returns : tie.Need-returns
-returns c = altered _ _ _ _ _ _ _ _ _ (c .before .before .before .before .enum-told .given .1) (c .before .before .grow .ensures)
+returns c = altered _ _ _ _ _ _ _ _ _ (c .before .before .before .before .enum-told .given .1) (c .before .before .new-vertex .ensures)
 
 same-length-2 : tie.Need-same-length-2
-same-length-2 c = (c .before .before .cut-next .kept .0)
+same-length-2 c = (c .before .before .forward .kept .0)
 
 returns-2 : tie.Need-returns-2
-returns-2 c = altered _ _ _ _ _ _ _ _ _ (c .before .before .before .before .enum-told2 .given .1) (c .before .before .cut-next .ensures)
+returns-2 c = altered _ _ _ _ _ _ _ _ _ (c .before .before .before .before .enum-told2 .given .1) (c .before .before .forward .ensures)
 
 same-length-3 : tie.Need-same-length-3
-same-length-3 c = (c .before .before .cut-current .kept .0)
+same-length-3 c = (c .before .before .backward .kept .0)
 
 returns-3 : tie.Need-returns-3
-returns-3 c = altered _ _ _ _ _ _ _ _ _ (c .before .before .before .before .enum-told3 .given .1) (c .before .before .cut-current .ensures)
+returns-3 c = altered _ _ _ _ _ _ _ _ _ (c .before .before .before .before .enum-told3 .given .1) (c .before .before .backward .ensures)
 
 same-length-4 : tie.Need-same-length-4
 same-length-4 c = (c .before .before .mark-border .kept .0)
@@ -78,49 +78,49 @@ returns-4 : tie.Need-returns-4
 returns-4 c = altered _ _ _ _ _ _ _ _ _ (c .before .before .before .before .enum-told4 .given .1) (c .before .before .mark-border .ensures)
 
 same-length-5 : tie.Need-same-length-5
-same-length-5 c = (c .before .before .split-loop .kept .0)
+same-length-5 c = (c .before .before .split .kept .0)
 
 returns-5 : tie.Need-returns-5
-returns-5 c = altered _ _ _ _ _ _ _ _ _ (c .before .before .before .before .before .o .given .1) (c .before .before .split-loop .ensures)
+returns-5 c = altered _ _ _ _ _ _ _ _ _ (c .before .before .before .before .before .o .given .1) (c .before .before .split .ensures)
 
 same-length-6 : tie.Need-same-length-6
-same-length-6 c = (c .before .before .end-loop .kept .0)
+same-length-6 c = (c .before .before .close .kept .0)
 
 returns-6 : tie.Need-returns-6
-returns-6 c = altered _ _ _ _ _ _ _ _ _ (c .before .before .before .before .enum-told5 .given .1) (c .before .before .end-loop .ensures)
+returns-6 c = altered _ _ _ _ _ _ _ _ _ (c .before .before .before .before .enum-told5 .given .1) (c .before .before .close .ensures)
 
 same-length-7 : tie.Need-same-length-7
-same-length-7 c = (c .before .before .join-loop .kept .0)
+same-length-7 c = (c .before .before .union .kept .0)
 
 returns-7 : tie.Need-returns-7
-returns-7 c = altered _ _ _ _ _ _ _ _ _ (c .before .before .before .before .before .o2 .given .1) (c .before .before .join-loop .ensures)
+returns-7 c = altered _ _ _ _ _ _ _ _ _ (c .before .before .before .before .before .o2 .given .1) (c .before .before .union .ensures)
 
 same-length-8 : tie.Need-same-length-8
-same-length-8 c = (c .before .before .start-loop .kept .0)
+same-length-8 c = (c .before .before .start .kept .0)
 
 returns-8 : tie.Need-returns-8
-returns-8 c = altered _ _ _ _ _ _ _ _ _ (c .before .before .before .before .enum-told6 .given .1) (c .before .before .start-loop .ensures)
+returns-8 c = altered _ _ _ _ _ _ _ _ _ (c .before .before .before .before .enum-told6 .given .1) (c .before .before .start .ensures)
 
 pub alter-spec : {M : Type 1} → statement M
 alter-spec =
     tie.close
     (tie.spec
     enum-told
-    grow-requires
+    new-vertex-requires
     enum-told-2
-    cut-next-requires
+    forward-requires
     enum-told-3
-    cut-current-requires
+    backward-requires
     enum-told-4
     mark-border-requires
     enum-known-o
-    split-loop-requires
+    split-requires
     enum-told-5
-    end-loop-requires
+    close-requires
     enum-known-o-2
-    join-loop-requires
+    union-requires
     enum-told-6
-    start-loop-requires
+    start-requires
     same-length
     returns
     same-length-2

@@ -13,8 +13,8 @@ before-of-requires c κs = omega (arith, near-e _ _ _ (c .before .before .pre))
 open-of-requires : tie.Need-open-of-requires
 open-of-requires c κs = search needs
 
-cut-current-requires : tie.Need-cut-current-requires
-cut-current-requires c κs = search needs
+backward-requires : tie.Need-backward-requires
+backward-requires c κs = search needs
 
 same-length : tie.Need-same-length
 same-length c = search needs
@@ -22,7 +22,7 @@ same-length c = search needs
 returns : tie.Need-returns
 returns c = last-leaves _ _ _ _ _ _ _ (c .before .before .before .before .before .before .before .before-of .ensures)
     (c .before .before .before .before .before .open-of .ensures) (c .before .before .before .before .if1 .taken)
-    (c .before .before .cut-current .ensures)
+    (c .before .before .backward .ensures)
 
 same-length-2 : tie.Need-same-length-2
 same-length-2 c = search needs
@@ -32,4 +32,4 @@ returns-2 c = last-stays _ _ _ _ _ (c .before .before .before .before-of .ensure
 
 pub leave-current-spec : {M : Type 1} → statement M
 leave-current-spec = tie.close
-    (tie.spec before-of-requires open-of-requires cut-current-requires same-length returns same-length-2 returns-2)
+    (tie.spec before-of-requires open-of-requires backward-requires same-length returns same-length-2 returns-2)

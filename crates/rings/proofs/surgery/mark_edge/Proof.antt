@@ -22,8 +22,8 @@ open-of-requires c κs =
     let after = store .before .before in
     mark-next _ _ _ _ _ (after .before .before .before .pre) (after .after-of .ensures) (store .store-edge .ensures)
 
-end-loop-requires : tie.Need-end-loop-requires
-end-loop-requires c κs =
+close-requires : tie.Need-close-requires
+close-requires c κs =
     let look = c .before .before in
     let store = look .before .before .before .before in
     let after = store .before .before in
@@ -41,7 +41,7 @@ returns c =
     let after = store .before .before in
     mark-ended _ _ _ _ _ (after .before .before .before .pre) (after .after-of .ensures) (store .store-edge .ensures) _ _ _
     (look .open-of .ensures)
-    (then .if1 .taken) (end .end-loop .ensures .0) (end .end-loop .ensures .1)
+    (then .if1 .taken) (end .close .ensures .0) (end .close .ensures .1)
 
 same-length-2 : tie.Need-same-length-2
 same-length-2 c = search needs
@@ -61,7 +61,7 @@ mark-edge-spec =
     after-of-requires
     store-edge-requires
     open-of-requires
-    end-loop-requires
+    close-requires
     same-length
     returns
     same-length-2

@@ -8,14 +8,14 @@ use Rattle.unpacker.proofs.common.alter.Tie as tie
 enum-told : tie.Need-enum-told
 enum-told c = search needs
 
-grow-requires : tie.Need-grow-requires
-grow-requires c κs = performs-as _ _ _ _ _ _ _ (c .before .enum-told .given .1) (c .before .before .before .before .pre)
+new-vertex-requires : tie.Need-new-vertex-requires
+new-vertex-requires c κs = performs-as _ _ _ _ _ _ _ (c .before .enum-told .given .1) (c .before .before .before .before .pre)
 
 enum-told-2 : tie.Need-enum-told-2
 enum-told-2 c = search needs
 
-cut-next-requires : tie.Need-cut-next-requires
-cut-next-requires c κs = performs-as _ _ _ _ _ _ _ (c .before .enum-told2 .given .1) (c .before .before .before .before .pre)
+forward-requires : tie.Need-forward-requires
+forward-requires c κs = performs-as _ _ _ _ _ _ _ (c .before .enum-told2 .given .1) (c .before .before .before .before .pre)
 
 alter-requires : tie.Need-alter-requires
 alter-requires c κs = search needs
@@ -24,13 +24,13 @@ same-length : tie.Need-same-length
 same-length c = search needs
 
 returns : tie.Need-returns
-returns c = altered _ _ _ _ _ _ _ _ _ (c .before .before .before .before .enum-told .given .1) (c .before .before .grow .ensures)
+returns c = altered _ _ _ _ _ _ _ _ _ (c .before .before .before .before .enum-told .given .1) (c .before .before .new-vertex .ensures)
 
 same-length-2 : tie.Need-same-length-2
 same-length-2 c = search needs
 
 returns-2 : tie.Need-returns-2
-returns-2 c = altered _ _ _ _ _ _ _ _ _ (c .before .before .before .before .enum-told2 .given .1) (c .before .before .cut-next .ensures)
+returns-2 c = altered _ _ _ _ _ _ _ _ _ (c .before .before .before .before .enum-told2 .given .1) (c .before .before .forward .ensures)
 
 same-length-3 : tie.Need-same-length-3
 same-length-3 c = search needs
@@ -43,9 +43,9 @@ alter-spec =
     tie.close
     (tie.spec
     enum-told
-    grow-requires
+    new-vertex-requires
     enum-told-2
-    cut-next-requires
+    forward-requires
     alter-requires
     same-length
     returns

@@ -1,9 +1,9 @@
--- `rings::surgery::split_loop` meets its contract.
+-- `rings::surgery::split` meets its contract.
 -- Assumes nothing.
 use Rattle.rings.proofs.Storing.{split-first, split-second}
 use borrow.Author.Needs.{needs}
-use Rattle.rings.proofs.surgery.split_loop.Statement.{statement}
-use Rattle.rings.proofs.surgery.split_loop.Tie as tie
+use Rattle.rings.proofs.surgery.split.Statement.{statement}
+use Rattle.rings.proofs.surgery.split.Tie as tie
 
 sub-rest : tie.Need-sub-rest
 sub-rest c = search needs
@@ -63,8 +63,8 @@ returns-2 c = split-second _ _ _ _ _ _ _ _ (c .before .before .before .before .b
     (c .before .before .before .before .before .before .before .double .ensures) (c .before .before .before .before .if1 .left)
     (c .before .before .wait-at2 .ensures)
 
-pub split-loop-spec : {M : Type 1} → statement M
-split-loop-spec =
+pub split-spec : {M : Type 1} → statement M
+split-spec =
     tie.close
     (tie.spec
     sub-rest

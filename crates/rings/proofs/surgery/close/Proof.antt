@@ -1,10 +1,10 @@
--- `rings::surgery::end_loop` meets its contract.
+-- `rings::surgery::close` meets its contract.
 -- Assumes nothing.
 use native.Mathlib.Omega.{arith}
 use Rattle.rings.proofs.Storing.{ended-last, ended-more}
 use borrow.Author.Needs.{needs}
-use Rattle.rings.proofs.surgery.end_loop.Statement.{statement}
-use Rattle.rings.proofs.surgery.end_loop.Tie as tie
+use Rattle.rings.proofs.surgery.close.Statement.{statement}
+use Rattle.rings.proofs.surgery.close.Tie as tie
 
 release-requires : tie.Need-release-requires
 release-requires c κs = ((search needs), (λ i h. c .before .before .before .pre .ahead i (omega (arith, h))))
@@ -63,8 +63,8 @@ same-length-2 c = search needs
 returns-2 : tie.Need-returns-2
 returns-2 c = ended-more _ _ _ _ (c .before .before .before .before .before .before .if1 .left) (c .before .before .release2 .ensures)
 
-pub end-loop-spec : {M : Type 1} → statement M
-end-loop-spec =
+pub close-spec : {M : Type 1} → statement M
+close-spec =
     tie.close
     (tie.spec
     release-requires

@@ -1,11 +1,11 @@
--- `rings::surgery::start_loop` meets its contract.
+-- `rings::surgery::start` meets its contract.
 -- Assumes nothing.
 use native.Mathlib.Omega.{arith}
 use mathlib.Core.Path.{_∙_}
 use Rattle.rings.proofs.Storing.{ends-near, start-done}
 use borrow.Author.Needs.{needs}
-use Rattle.rings.proofs.surgery.start_loop.Statement.{statement}
-use Rattle.rings.proofs.surgery.start_loop.Tie as tie
+use Rattle.rings.proofs.surgery.start.Statement.{statement}
+use Rattle.rings.proofs.surgery.start.Tie as tie
 
 free-at-requires : tie.Need-free-at-requires
 free-at-requires c κs = search needs
@@ -164,8 +164,8 @@ returns c = start-done _ _ _ _ _ _ _ _ _ _ _ _ _
     .store-edge .ensures) (c .before .before .before .before .before .before
     .store-edge2 .ensures) (c .before .before .store-edge3 .ensures)
 
-pub start-loop-spec : {M : Type 1} → statement M
-start-loop-spec =
+pub start-spec : {M : Type 1} → statement M
+start-spec =
     tie.close
     (tie.spec
     free-at-requires

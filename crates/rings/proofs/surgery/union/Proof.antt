@@ -1,10 +1,10 @@
--- `rings::surgery::join_loop` meets its contract.
+-- `rings::surgery::union` meets its contract.
 -- Assumes nothing.
 use native.Mathlib.Omega.{arith}
 use Rattle.rings.proofs.Storing.{join-fits, join-done}
 use borrow.Author.Needs.{needs}
-use Rattle.rings.proofs.surgery.join_loop.Statement.{statement}
-use Rattle.rings.proofs.surgery.join_loop.Tie as tie
+use Rattle.rings.proofs.surgery.union.Statement.{statement}
+use Rattle.rings.proofs.surgery.union.Tie as tie
 
 sub-w : tie.Need-sub-w
 sub-w c = search needs
@@ -55,8 +55,8 @@ returns c = join-done _ _ _ _ _ _ _ _ _
     (c .before .before .before .before .before .before .before .before .before .size-at .ensures)
     (c .before .before .before .before .before .before .before .double .ensures) (c .before .before .before .move-down .ensures)
 
-pub join-loop-spec : {M : Type 1} → statement M
-join-loop-spec =
+pub union-spec : {M : Type 1} → statement M
+union-spec =
     tie.close
     (tie.spec
     sub-w

@@ -1,11 +1,11 @@
--- `rings::surgery::grow` meets its contract.
+-- `rings::surgery::new_vertex` meets its contract.
 -- Assumes nothing.
 use native.Mathlib.Omega.{arith}
 use Rattle.border_theory.proofs.Memory.Near.{near-e, near-f}
 use Rattle.rings.proofs.Storing.{new-memory, new-loops}
 use borrow.Author.Needs.{needs}
-use Rattle.rings.proofs.surgery.grow.Statement.{statement}
-use Rattle.rings.proofs.surgery.grow.Tie as tie
+use Rattle.rings.proofs.surgery.new_vertex.Statement.{statement}
+use Rattle.rings.proofs.surgery.new_vertex.Tie as tie
 
 free-at-requires : tie.Need-free-at-requires
 free-at-requires c κs = search needs
@@ -89,8 +89,8 @@ returns c = (
       (c .before .before .before .store-edge2 .ensures),
 )
 
-pub grow-spec : {M : Type 1} → statement M
-grow-spec =
+pub new-vertex-spec : {M : Type 1} → statement M
+new-vertex-spec =
     tie.close
     (tie.spec
     free-at-requires

@@ -1,11 +1,11 @@
--- `rings::surgery::cut_next` meets its contract.
+-- `rings::surgery::forward` meets its contract.
 -- Assumes nothing.
 use native.Mathlib.Omega.{arith}
 use Rattle.border_theory.proofs.Memory.Near.{near-e, near-f, near-next}
 use Rattle.rings.proofs.Storing.{forward-memory, forward-loops}
 use borrow.Author.Needs.{needs}
-use Rattle.rings.proofs.surgery.cut_next.Statement.{statement}
-use Rattle.rings.proofs.surgery.cut_next.Tie as tie
+use Rattle.rings.proofs.surgery.forward.Statement.{statement}
+use Rattle.rings.proofs.surgery.forward.Tie as tie
 
 after-of-requires : tie.Need-after-of-requires
 after-of-requires c κs = omega (arith, near-e _ _ _ (c .before .before .pre))
@@ -47,8 +47,8 @@ returns c = (
       (c .before .before .before .free-place .ensures),
 )
 
-pub cut-next-spec : {M : Type 1} → statement M
-cut-next-spec =
+pub forward-spec : {M : Type 1} → statement M
+forward-spec =
     tie.close
     (tie.spec
     after-of-requires

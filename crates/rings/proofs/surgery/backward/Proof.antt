@@ -1,11 +1,11 @@
--- `rings::surgery::cut_current` meets its contract.
+-- `rings::surgery::backward` meets its contract.
 -- Assumes nothing.
 use native.Mathlib.Omega.{arith}
 use Rattle.border_theory.proofs.Memory.Near.{near-e, near-f}
 use Rattle.rings.proofs.Storing.{backward-memory, backward-loops}
 use borrow.Author.Needs.{needs}
-use Rattle.rings.proofs.surgery.cut_current.Statement.{statement}
-use Rattle.rings.proofs.surgery.cut_current.Tie as tie
+use Rattle.rings.proofs.surgery.backward.Statement.{statement}
+use Rattle.rings.proofs.surgery.backward.Tie as tie
 
 after-of-requires : tie.Need-after-of-requires
 after-of-requires c κs = omega (arith, near-e _ _ _ (c .before .before .pre))
@@ -42,8 +42,8 @@ returns c = (
       (c .before .before .before .free-place .ensures),
 )
 
-pub cut-current-spec : {M : Type 1} → statement M
-cut-current-spec =
+pub backward-spec : {M : Type 1} → statement M
+backward-spec =
     tie.close
     (tie.spec
     after-of-requires
