@@ -1,84 +1,78 @@
-"""The body of a walk, cut into stretches: one from each call on, the last first."""
-from pieces import Context, chain, closed, items, local, sub
-from signature import bare
+"""The body of a call of the service, cut into stretches: one from each call on, the last first."""
+from pieces import Context, bare, chain, contract, local, paren, stretch
 
 
-def cells(b, filled, without=()):
-    """The locals' cells: what each filled one holds, and buffer in the others."""
-    out = []
-    for i in range(b.many):
-        if i in without:
-            continue
-        out.append(f'‵ (fat fullShare (ty {i}) {local(i)} 0 ({filled[i]}))' if i in filled else f'‵ (froom (ty {i}) {local(i)} 0)')
-    return out
+def text(b):
+    """All stretches."""
+    if b.shape == 'clears':
+        parts = [clearing, stepping, beginning]
+    else:
+        parts = ([freeing, linking] if b.shape == 'touches' else []) + [stepping, loading, beginning]
+    return ''.join(part(b) for part in parts)
 
 
-def cell_names(b, without=()):
-    """The names of the locals' cells in a context, and of that each local dies."""
-    return [f'_{i}' for i in range(b.many) if i not in without] + [f'dies{i}' for i in range(b.many)]
+def lemma(name, comment, context, items, piece, c, args='', types='', binders='', names=''):
+    """A stretch: its context, which may depend on arguments, and the lemma about the body from a piece on."""
+    return f'''    -- {comment}
+    abbrev {context} : {types}List (Item 𝓤)
+    {context} {args} = {items}
+
+''' + stretch(name, binders, names, paren(f'{context} {args}'.strip()), piece, c.text)
 
 
-def passed(b):
-    """The filled locals once the parameters are passed."""
-    out = {p.i: p.machine() for p in b.params}
-    out[b.list] = 'sp'
-    return out
-
-
-def look(b, c, name):
-    """A filled local."""
-    return f'(look ! {c.at(f"_{b.at(name)}")} refl)'
-
-
-def load_of(b, c, name):
-    """The operand that copies a local."""
-    return f'(load ! (from ! (stop !)) {look(b, c, name)})'
-
-
-def arguments(b, c, names):
-    """A call's arguments, each a local."""
-    out = '(no-more !)'
-    for name in reversed(names):
-        out = f'(and-then ! {load_of(b, c, name)} {out})'
-    return out
-
-
-def initial(b, c, name, why):
-    """A local as the target of the first assignment to it."""
-    return f'(from ! (stop !)) (init ! {c.at(f"_{b.at(name)}")} refl {why})'
-
-
-def reborrow(b, c, slice_, ptr, to, fits):
-    """`&mut *s` or `&*s` of a slice: its pointer, then the pair of that and its length."""
-    s = c.at(f'_{slice_}')
-    c.step(f'assigns ! (addr ! (from ! (fld ! refl (hop ! (look-in ! {s} (sub ! 0 refl (whole !))) (stop !))))) {initial(b, c, ptr, "(tt, tt)")}')
-    c.line()
-    length = f'(load ! (from ! (fld ! refl (stop !))) (look-in ! {s} (sub ! 1 refl (whole !))))'
-    c.step(f'assigns ! (agg ! (and-then ! {load_of(b, c, ptr)} (and-then ! {length} (no-more !)))) {initial(b, c, to, f"(tt, (tt, (record {{ fits = {fits} }}, tt)))")}')
-    c.line()
+# ---- what the stretches share
+def asks(c, name, to, goes, takes=1, rule='use1'):
+    """What a callee asks is put in front."""
+    c.step(f'{rule} W (raw ({contract(name)} .pre {to})) {goes}', takes, ['asked'])
 
 
 def address(b, c, to):
     """`&m` or `&mut m` of the local array."""
-    c.step(f'assigns ! (addr ! (from ! (stop !))) {initial(b, c, to, "(tt, tt)")}')
+    c.step(f'assigns ! (addr ! (from ! (stop !))) {c.init(b.at(to), "(tt, tt)")}')
     c.line()
 
 
-def forget(b, c, names):
-    """Filled locals become buffer again."""
-    for name in names:
-        c.step(f'forget ! {c.at(f"_{b.at(name)}")} refl')
+def reborrow_list(b, c, call):
+    """The list as a callee is lent it."""
+    c.reborrow(b.list.i, b.at(f'{call}-ptr'), b.at(f'{call}-slice'), 'gn .0')
 
 
-def unit_answer(b, c, ghosts, ensured, tokens, zs_type, lasts, fact):
-    """From a unit function's answer to its last values and its clause; the tokens and the last values are left in front."""
-    c.line(f'use1 W (later (some (λ ({ghosts} : Unit {{0}}). ({tokens} ⊛ ‵ (feq (List Val) (w ∷ []) (vunit ∷ []))) ⊛ raw ({ensured} tt {ghosts})))) (id⊢ 𝓤 _) $ await ! tt $ pick ! (λ {ghosts}.')
-    c.step('split !', 1, ['answer', 'ensured'])
-    c.move('ensured')
-    c.step(f'use1 W (some (λ (zs : {zs_type}). ‵ ({lasts} zs) ⊛ raw (fact 𝓤 ({fact})))) (id⊢ 𝓤 _)', 1, ['both'])
-    c.bind('pick ! (λ zs.')
-    c.split('both', 'lasts', 'fact')
-    c.move('fact')
+def lent_memory(c, own, lent, law):
+    """The array is lent: the reference, and what comes back when its lifetime ends."""
+    c.move('lies')
+    c.step(f'use1 W (later (some (λ (ε : GName). ‵ ({own}) ⊛ ‵ (flent {lent})))) ({law})', 1, ['m'])
+    c.bind('await ! tt $ pick ! (λ ε.')
+    c.split('m', 'm', 'm-lent')
+    c.line()
+
+
+def lend_memory(b, c, j, m):
+    """The array is lent as a `&mut`, lifetime j of the callee, for a lifetime μ of the call."""
+    lm = local(b.at('m'))
+    lent_memory(c, f'MutRef (named {j}) (μ ∷ []) N .own (ref {lm} ε {m}) (vptr {lm} 0 ∷ [])', f'(μ ∷ []) (Body (mem N) {lm} 0 ε)',
+                f'lends-ref 𝓤 H A W N (named {j}) (μ ∷ []) {m} {lm} 0')
+
+
+def share_memory(b, c):
+    """The array is lent as a `&`, for a lifetime ν of the call."""
+    lm = local(b.at('m'))
+    c.bind('lft-new ! tt (λ ν.', 0, ['tν'])
+    lent_memory(c, f'ShrRef (named 0) (ν ∷ []) N .own (ref {lm} ε m′) (vptr {lm} 0 ∷ [])', '(ν ∷ []) (Lies m′)',
+                f'lends-shr 𝓤 H A W N (named 0) (ν ∷ []) fullShare m′ {lm} 0')
+
+
+def memory_back(b, c, m):
+    """The lifetime μ ends: the array is back, with its last value."""
+    c.step('lft-end ! tt', 1, ['dead'])
+    c.move('dead', 'm-lent', 'm-last')
+    c.step(f'use3 W (later (‵ (Lies {m}))) (ref-back 𝓤 H A W N (μ ∷ []) ε {m} {local(b.at("m"))} 0)', 3, ['lies'])
+    c.step('await ! tt')
+
+
+def unit_answer(c, name, z, kappas, x, tokens, ends, fact, e):
+    """From a unit function's answer to its last values and its clause."""
+    c.answer(name, z, 'Unit {0}', tokens, 'feq (List Val) (w ∷ []) (vunit ∷ [])', kappas, x, lines=False)
+    c.ensured(name, 'zs', ends, kappas, x, fact, e, lines=False)
 
 
 def unit_lands(b, c):
@@ -87,490 +81,319 @@ def unit_lands(b, c):
     c.move('is-unit')
     c.bind('feqL ! (λ ew.', 1)
     c.line()
-    c.step(f'land ! {initial(b, c, "unit", "(nothing-lawful 𝓤 H A W .typed tt (w ∷ []) ew .0)")}')
+    c.step(f'land ! {c.init(b.at("unit"), "(nothing-lawful 𝓤 H A W .typed tt (w ∷ []) ew .0)")}')
 
 
-def returning(b, c, exit_):
-    """The array's local is a cell again, `_0` is returned, each local dies, and what is left is what the exit asks."""
-    filled = [0] + [p.i for p in b.params] + [b.list, b.locals['n']]
-    if b.clears:
-        filled += [b.locals[x] for x in ('r', 'unit', 'clear-ptr', 'clear-slice', 'len')]
-    else:
-        m = b.locals['m']
-        c.step(f'use1 W (some (λ (v : Val). ‵ (fat fullShare (ty {m}) {local(m)} 0 v) ⊛ ‵ (N .own m′ (v ∷ [])))) (part-out 𝓤 H A W N refl fullShare m′ {local(m)} 0)', 1, ['cell'])
-        c.bind('pick ! (λ v.')
-        c.split('cell', f'_{m}', 'm-owns')
-        c.line()
-        call = 'free' if b.touches else 'save'
-        filled += [m] + ([b.locals[x] for x in ('r', 'unit', f'{call}-m', f'{call}-ptr', f'{call}-slice')] if b.saves else [])
-    if b.saves:
-        c.step(f'assigns ! (of-opd ! {load_of(b, c, "r")}) {initial(b, c, 0, "wu")}')
-        c.line()
-    c.step(f'returns ! {look(b, c, 0)}')
-    forget(b, c, filled)
-    c.line()
-    for i in range(b.many):
-        c.move(f'_{i}', f'dies{i}')
-        c.step('free1 !', 2)
-    c.step('free0 !')
-    c.line()
-    c.keep(b.token_names() + [f's{p.i}' for p in b.slices] + ['list', 'result'])
-    c.say(exit_)
-
-
-def saving(b):
-    """From `save` on."""
-    lm, j = local(b.locals['m']), b.last
-    k = b.kappa(j)
-    binders, ys, lengths, ls = b.ends()
-    filled = passed(b)
-    filled[b.locals['n']], filled[b.locals['r']] = 'vint w64 n', 'u'
-    owned = ['‵ (Lies m′)'] + [b.token(i) for i in range(b.lives)] + [f'‵ ({b.result.row()} .own r (u ∷ []))']
-    owned += [f'‵ (finally {p.type} γ{p.s} ys{p.s})' for p in b.buffers] + [f'‵ ({p.own(b)})' for p in b.shared] + ['‵ Lent']
-    names = ['lies'] + b.token_names() + ['result'] + [f's{p.i}' for p in b.buffers] + [f's{p.i}' for p in b.shared] + ['lent']
-    without = (b.locals['m'],)
-    c = Context(names + cell_names(b, without))
-    address(b, c, 'save-m')
-    reborrow(b, c, b.list, 'save-ptr', 'save-slice', 'gn .0')
-    c.bind('lft-new ! tt (λ ν.', 0, ['tν'])
-    c.move('lies')
-    c.step(f'use1 W (later (some (λ (ε : GName). ‵ (ShrRef (named 0) (ν ∷ []) N .own (ref {lm} ε m′) (vptr {lm} 0 ∷ [])) ⊛ ‵ (flent (ν ∷ []) (Lies m′))))) (lends-shr 𝓤 H A W N (named 0) (ν ∷ []) fullShare m′ {lm} 0)', 1, ['m'])
-    c.bind('await ! tt $ pick ! (λ ε.')
-    c.split('m', 'm', 'm-lent')
-    c.line()
-    c.move('tν', 'tP', 'm', 'lent')
-    c.step('join !', 2, ['tokens'])
-    c.step(f'use3 W (raw (Save 𝓤 H A at-mem run .pre (to-save {lm} m′ ν ε))) (goes-save {lm} m′ ν ε)', 3, ['asked'])
-    c.line()
-    c.bind(f'calls-at ! fm (Save 𝓤 H A at-mem run) k-save (to-save {lm} m′ ν ε) {arguments(b, c, ["save-m", "save-slice", "n"])} (λ w.')
-    kappas, x = f'(ν ∷ [], ({k}, tt))', f'(ref {lm} ε m′, (rp γ, (n, tt)))'
-    unit_answer(b, c, 'z', f'ensured 𝓤 H A save′.ended (save′.clauses 𝓤 H A at-mem run) {kappas} {x}', f'(‵ (flft (ν ∷ []) fullShare) ⊛ ({b.token(j)} ⊛ ‵ ftrue))',
-                'Unit {0} × (List Place × (Unit {0} × Unit {0}))', f'lasts save′.ended {kappas} {x}', 'zs .1 .0 ≡ saved n m′ ps')
-    c.bind('heard ! (zs .1 .0 ≡ saved n m′ ps) (λ ep.', 1)
-    c.split('lasts', 'none', 'lasts', rule='fsplit')
-    c.drop('none')
-    c.split('lasts', 'last', 'lasts', rule='fsplit')
-    c.split('last', 'list', 'long', rule='fsplit')
-    c.move('long')
-    c.bind('feqL ! (λ lp.', 1)
-    unit_lands(b, c)
-    c.split('tokens', 'tν', 'rest')
-    c.step('lft-end ! tt', 1, ['dead'])
-    c.split('rest', 'tP', 'true')
-    c.move('dead', 'm-lent')
-    c.step('lent-back ! tt', 2, ['lies'])
-    returning(b, c, f'by ! (exits r {ys} m′ (zs .1 .0) u e ep {ls} lp)')
-    return closed(f'''    -- `save`, and the return
-    abbrev Ctx-save : {b.result.name} →{' List ℕ →' * len(b.buffers)} List ℕ → Val → List (Item 𝓤)
-    Ctx-save r {ys} m′ u = {' ∷ '.join(owned + cells(b, filled, without))} ∷ Dies
-
-    saving : (r : {b.result.name}){binders} (m′ : List ℕ) (u : Val) → {b.promised('r', ys.split(), 'm′')}{lengths} → Holds (hasTy (ty {b.locals['r']}) u) × WT u → ent 𝓤 (⋆ 𝓤 H A (Ctx-save r {ys} m′ u)) (Wp 𝓤 H C Λ En pieces.t-{b.at_last} (atReturn 𝓤 H En Post))
-    saving r {ys} m′ u e {ls} wu =
-        qed W (Ctx-save r {ys} m′ u) ∵ exec ! C Λ En pieces.t-{b.at_last} (atRet En Post) $
-        ''' + c.text)
-
-
-def after_core(b, lent):
-    """The items and their names once the core has answered, with the list as it is then, and the filled locals."""
-    filled = passed(b)
-    filled[b.locals['n']], filled[b.locals['r']] = 'vint w64 n', 'u'
-    owned = ['‵ (Lies m′)'] + [b.token(i) for i in range(b.lives)] + [f'‵ ({b.result.row()} .own r (u ∷ []))']
-    owned += [f'‵ (finally {p.type} γ{p.s} ys{p.s})' for p in b.buffers] + [f'‵ ({p.own(b)})' for p in b.shared] + [f'‵ ({lent})']
-    names = ['lies'] + b.token_names() + ['result'] + [f's{p.i}' for p in b.buffers] + [f's{p.i}' for p in b.shared] + ['lent']
-    return owned, names, filled
-
-
-def lend_memory(b, c):
-    """The array is lent as a `&` for a lifetime ν of the call."""
-    lm = local(b.locals['m'])
-    c.bind('lft-new ! tt (λ ν.', 0, ['tν'])
-    c.move('lies')
-    c.step(f'use1 W (later (some (λ (ε : GName). ‵ (ShrRef (named 0) (ν ∷ []) N .own (ref {lm} ε m′) (vptr {lm} 0 ∷ [])) ⊛ ‵ (flent (ν ∷ []) (Lies m′))))) (lends-shr 𝓤 H A W N (named 0) (ν ∷ []) fullShare m′ {lm} 0)', 1, ['m'])
-    c.bind('await ! tt $ pick ! (λ ε.')
-    c.split('m', 'm', 'm-lent')
-    c.line()
-
-
-def touched(b, c, contract, args, kappas, x, tokens, fact, call):
-    """The call of `link_all` or `free_all`, as far as the list's last value and its length."""
-    s = contract.lower()
-    c.line()
-    c.bind(f'calls-at ! fm ({contract} 𝓤 H A at-mem run) k-{s} {args} {arguments(b, c, [f"{call}-m", f"{call}-slice"])} (λ w.')
-    unit_answer(b, c, 'z', f'ensured 𝓤 H A {s}′.ended ({s}′.clauses 𝓤 H A at-mem run) {kappas} {x}', tokens,
-                'Unit {0} × (List Place × Unit {0})', f'lasts {s}′.ended {kappas} {x}', fact)
-    c.bind(f'heard ! ({fact}) (λ ep.', 1)
-    c.split('lasts', 'none', 'lasts', rule='fsplit')
-    c.drop('none')
-    c.split('lasts', 'last', 'lasts', rule='fsplit')
-    c.split('last', 'list', 'long', rule='fsplit')
-    c.move('long')
-    c.bind('feqL ! (λ lp.', 1)
-    unit_lands(b, c)
-    c.split('tokens', 'tν', 'rest')
-    c.step('lft-end ! tt', 1, ['dead'])
-    c.move('dead', 'm-lent')
-    c.step('lent-back ! tt', 2, ['lies'])
-
-
-def linking(b):
-    """From `link_all` on: the list is lent again, and comes back."""
-    lm, j = local(b.locals['m']), b.last
-    k, q = b.kappa(j), b.share(j)
-    binders, ys, lengths, ls = b.ends()
-    owned, names, filled = after_core(b, 'Lent')
-    without = (b.locals['m'],)
-    c = Context(names + cell_names(b, without))
-    address(b, c, 'link-m')
-    reborrow(b, c, b.list, 'link-ptr', 'link-slice', 'gn .0')
-    lend_memory(b, c)
-    c.bind('lft-new ! tt (λ ν′.', 0, ['tν′'])
-    c.move('lent', 'tP')
-    c.step(f'use2 W (later (some (λ (δ : GName). ‵ (MutSlice (named 1) (ν′ ∷ []) R .own (rp δ) (sp ∷ [])) ⊛ ‵ (LentList R {k} (ν′ ∷ []) {q} γ b o δ ps)))) (lends-list R {k} (ν′ ∷ []) {q} γ b o 𝓤 H A W (named {j}) (named 1) ps)', 2, ['list'])
-    c.bind('await ! tt $ pick ! (λ δ.')
-    c.split('list', 'list', 'list-lent')
-    c.line()
-    c.move('tν', 'tν′', 'm', 'list')
-    c.step('join !', 2, ['tokens'])
-    a = ' '.join(p.plain() for p in b.params)
-    c.step(f'use3 W (raw (Link 𝓤 H A at-mem run .pre (to-link {lm} m′ ν ν′ ε δ))) (goes-link {lm} m′ ν ν′ ε δ ({bare(b.touches)} {a} ps r {ys} m′ e .0))', 3, ['asked'])
-    touched(b, c, 'Link', f'(to-link {lm} m′ ν ν′ ε δ)', '(ν ∷ [], (ν′ ∷ [], tt))', f'(ref {lm} ε m′, (rp δ, tt))', '(‵ (flft (ν ∷ []) fullShare) ⊛ (‵ (flft (ν′ ∷ []) fullShare) ⊛ ‵ ftrue))',
-            'zs .1 .0 ≡ linkedAll m′ ps', 'link')
-    c.line()
-    c.split('rest', 'tν′', 'true')
-    c.step('lft-end ! tt', 1, ['dead'])
-    c.move('dead', 'list-lent', 'list')
-    c.step(f'use3 W (later (‵ (MutSlice (named {j}) {k} R .own (at-list {lm} (zs .1 .0)) (sp ∷ [])) ⊛ {b.token(j)})) (list-back R {k} (ν′ ∷ []) {q} γ b o 𝓤 H A W (named {j}) (named 1) ps δ (zs .1 .0) lp gn)', 3, ['back'])
-    c.step('await ! tt')
-    c.split('back', 'lent', 'tP')
-    c.line()
-    forget(b, c, ['unit', 'link-m', 'link-ptr', 'link-slice'])
-    c.line()
-    c.keep(names + cell_names(b, without))
-    c.say(f'by ! (freeing r {ys} m′ (zs .1 .0) u e {ls} ep lp wu)')
-    return closed(f'''    -- `link_all`
-    abbrev Ctx-link : {b.result.name} →{' List ℕ →' * len(b.buffers)} List ℕ → Val → List (Item 𝓤)
-    Ctx-link r {ys} m′ u = {' ∷ '.join(owned + cells(b, filled, without))} ∷ Dies
-
-    linking : (r : {b.result.name}){binders} (m′ : List ℕ) (u : Val) → {b.promised('r', ys.split(), 'm′')}{lengths} → Holds (hasTy (ty {b.locals['r']}) u) × WT u → ent 𝓤 (⋆ 𝓤 H A (Ctx-link r {ys} m′ u)) (Wp 𝓤 H C Λ En pieces.t-{b.at_last} (atReturn 𝓤 H En Post))
-    linking r {ys} m′ u e {ls} wu =
-        qed W (Ctx-link r {ys} m′ u) ∵ exec ! C Λ En pieces.t-{b.at_last} (atRet En Post) $
-        ''' + c.text)
-
-
-def freeing(b):
-    """From `free_all` on."""
-    lm, j = local(b.locals['m']), b.last
-    k = b.kappa(j)
-    binders, ys, lengths, ls = b.ends()
-    owned, names, filled = after_core(b, f'MutSlice (named {j}) {k} R .own (at-list {lm} ps₁) (sp ∷ [])')
-    without = (b.locals['m'],)
-    c = Context(names + cell_names(b, without))
-    address(b, c, 'free-m')
-    reborrow(b, c, b.list, 'free-ptr', 'free-slice', 'gn .0')
-    lend_memory(b, c)
-    c.move('tν', 'tP', 'm', 'lent')
-    c.step('join !', 2, ['tokens'])
-    a = ' '.join(p.plain() for p in b.params)
-    can = f'(subst (λ (z : ℕ). Freeable m′ z) (sym l₁) ({bare(b.touches)} {a} ps r {ys} m′ e .1))'
-    c.step(f'use3 W (raw (Free 𝓤 H A at-mem run .pre (to-free {lm} m′ ps₁ ν ε))) (goes-free {lm} m′ ps₁ ν ε {can})', 3, ['asked'])
-    touched(b, c, 'Free', f'(to-free {lm} m′ ps₁ ν ε)', f'(ν ∷ [], ({k}, tt))', f'(ref {lm} ε m′, (at-list {lm} ps₁, tt))', f'(‵ (flft (ν ∷ []) fullShare) ⊛ ({b.token(j)} ⊛ ‵ ftrue))',
-            'zs .1 .0 ≡ freedAll m′ ps₁', 'free')
-    c.split('rest', 'tP', 'true')
-    c.move('lies')
-    returning(b, c, f'by ! (exits r {ys} m′ (zs .1 .0) u e (ep ∙ ap (freedAll m′) e₁) {ls} (lp ∙ l₁))')
-    return closed(f'''    -- `free_all`, and the return
-    abbrev Ctx-free : {b.result.name} →{' List ℕ →' * len(b.buffers)} List ℕ → List Place → Val → List (Item 𝓤)
-    Ctx-free r {ys} m′ ps₁ u = {' ∷ '.join(owned + cells(b, filled, without))} ∷ Dies
-
-    freeing : (r : {b.result.name}){binders} (m′ : List ℕ) (ps₁ : List Place) (u : Val) → {b.promised('r', ys.split(), 'm′')}{lengths} → ps₁ ≡ linkedAll m′ ps → length ps₁ ≡ length ps → Holds (hasTy (ty {b.locals['r']}) u) × WT u → ent 𝓤 (⋆ 𝓤 H A (Ctx-free r {ys} m′ ps₁ u)) (Wp 𝓤 H C Λ En pieces.t-{b.at_last + 4} (atReturn 𝓤 H En Post))
-    freeing r {ys} m′ ps₁ u e {ls} e₁ l₁ wu =
-        qed W (Ctx-free r {ys} m′ ps₁ u) ∵ exec ! C Λ En pieces.t-{b.at_last + 4} (atRet En Post) $
-        ''' + c.text)
-
-
-def number_answer(b, c, contract, of, x, to, law, fact, names):
+def number_answer(b, c, name, of, x, to, fact, names):
     """From the answer of a function that gives a number to the local that it goes to; `fact` is what the number is."""
     k, v, e, known = names
-    s = contract.lower()
-    c.step(f'use1 W (later (some (λ ({k} : ℕ). (‵ ftrue ⊛ ‵ (usize .own {k} ({v} ∷ []))) ⊛ raw (ensured 𝓤 H A {s}′.ended ({s}′.clauses 𝓤 H A at-mem run) tt {x} tt {k})))) (id⊢ 𝓤 _)', 1, ['got'])
-    c.bind(f'await ! tt $ pick ! (λ {k}.')
-    c.line()
-    c.split('got', 'answer', 'ensured')
-    c.move('ensured')
-    c.step(f'use1 W (raw (fact 𝓤 ({k} ≡ {fact}))) ({law} 𝓤 H A at-mem run {of} {k})')
+    c.answer(name, k, 'ℕ', '‵ ftrue', f'usize .own {k} ({v} ∷ [])', 'tt', x)
+    c.step(f'use1 W (raw (fact 𝓤 ({k} ≡ {fact}))) ({name.lower()}-of 𝓤 H A at-mem run {of} {k})')
     c.bind(f'heard ! ({k} ≡ {fact}) (λ {e}.', 1)
     c.split('answer', 'true', 'own')
     c.drop('true')
     c.line()
     c.bind(f'peeks ! usize (Is usize) (shows 𝓤 H A usize) {k} ({v} ∷ []) (λ {known}.')
-    c.step(f'land ! {initial(b, c, to, f"(uint-lawful 𝓤 H A W w64 .typed {k} _ {known} .0)")}')
+    i = b.at(to)
+    c.step(f'land ! {c.init(i, f"(uint-lawful 𝓤 H A W w64 .typed {k} _ {known} .0)")}')
     c.line()
-    i = b.locals[to]
-    c.step(f'rewrite ! {c.at(f"_{i}")} (λ (v : Val). ‵ (fat fullShare (ty {i}) {local(i)} 0 v)) (ap only ({known} .0) ∙ ap (λ (k : ℕ). vint w64 k) {e}) refl')
+    same = f'(ap only ({known} .0) ∙ ap (λ (k : ℕ). vint w64 k) {e})'
+    c.step(f'rewrite ! {c.at(f"_{i}")} (λ (v : Val). ‵ (fat fullShare (ty {i}) {local(i)} 0 v)) {same} refl')
     c.drop('own')
     c.line()
 
 
+def returning(b, c, filled, exit_):
+    """The array's local is a cell again, `_0` is returned, each local dies, and what is left is what the exit asks."""
+    filled = [0] + [p.i for p in b.params] + [b.at(name) for name in ['n'] + ['m'] * b.array + filled]
+    if b.array:
+        m = b.at('m')
+        cell = f'‵ (fat fullShare (ty {m}) {local(m)} 0 v) ⊛ ‵ (N .own m′ (v ∷ []))'
+        c.step(f'use1 W (some (λ (v : Val). {cell})) (part-out 𝓤 H A W N refl fullShare m′ {local(m)} 0)', 1, ['cell'])
+        c.bind('pick ! (λ v.')
+        c.split('cell', f'_{m}', 'm-owns')
+        c.line()
+    if b.changes:
+        c.step(f'assigns ! (of-opd ! {c.load(b.at("r"))}) {c.init(0, "wu")}')
+        c.line()
+    c.step(f'returns ! {c.look(0)}')
+    c.forget(filled)
+    c.free(b.many)
+    c.keep(b.tokens() + [f's{p.i}' for p in b.slices] + ['list', 'result'])
+    c.say(f'by ! (exits {exit_})')
+
+
+def before_core(b, m):
+    """The items while the core is still to be called, by name: the array, the tokens, the slices, a copy of each `&`, the list."""
+    out = {'lies': f'‵ (Lies {m})'} if b.array else {}
+    out |= {f't{p.j}': p.token() for p in b.refs} | {f'give{p.i}': p.owns() for p in b.slices}
+    return out | {f's{p.i}': p.owns() for p in b.shared} | {'lent': '‵ Lent'}
+
+
+def after_core(b, lent='‵ Lent'):
+    """The items once the core has answered, by name, with the list as it is then."""
+    out = {'lies': '‵ (Lies m′)'} if b.array else {}
+    out |= {f't{p.j}': p.token() for p in b.refs} | {'result': f'‵ ({b.result.row()} .own r (u ∷ []))'}
+    out |= {f's{p.i}': p.finally_(f'ys{p.s}') for p in b.buffers} | {f's{p.i}': p.owns() for p in b.shared}
+    return out | {'lent': lent}
+
+
+def after(b, name, comment, context, c, binders='', args='', types='', known=('', ''), lent='‵ Lent', further=0):
+    """A stretch after the core's call: its lemma is about any answer of which the promise holds, and what else is known, with names."""
+    ends, ys, lengths, ls = b.ends()
+    args = ' '.join(['r', ys] + ['m′'] * b.array + [args, 'u'])
+    types = f'{b.result.name} → {"List ℕ → " * (len(b.buffers) + b.array)}{types}Val → '
+    bound = f'(r : {b.result.name}){ends}{" (m′ : List ℕ)" * b.array}{binders} (u : Val) → {b.promised("r", ys.split(), "m′")}{lengths}'
+    bound += f'{known[0]} → Holds (hasTy (ty {b.at("r")}) u) × WT u'
+    items = b.context(list(after_core(b, lent).values()), {'n': 'vint w64 n', 'r': 'u'}, b.apart())
+    return lemma(name, comment, context, items, f'pieces.t-{b.at_last + further}', c, args, types, bound, f'{args} e {ls} {known[1]} wu')
+
+
+# ---- the stretches
 def clearing(b):
     """From `clear` on."""
-    d, j, many = b.result, b.last, bare(b.cleared)
-    k = b.kappa(j)
-    binders, ys, lengths, ls = b.ends()
-    filled = passed(b)
-    filled[b.locals['n']], filled[b.locals['r']] = 'vint w64 n', 'u'
-    owned = [b.token(i) for i in range(b.lives)] + [f'‵ ({d.row()} .own r (u ∷ []))']
-    owned += [f'‵ (finally {p.type} γ{p.s} ys{p.s})' for p in b.buffers] + [f'‵ ({p.own(b)})' for p in b.shared] + ['‵ Lent']
-    names = b.token_names() + ['result'] + [f's{p.i}' for p in b.buffers] + [f's{p.i}' for p in b.shared] + ['lent']
-    c = Context(names + cell_names(b))
-    reborrow(b, c, b.list, 'clear-ptr', 'clear-slice', 'gn .0')
+    many, p, (_, ys, _, ls) = b.cleared, b.list, b.ends()
+    c = Context(list(after_core(b)) + b.cells())
+    reborrow_list(b, c, 'clear')
     c.step('nothing !', 0, ['true'])
-    c.step('use1 W (raw (Cleared 𝓤 H A at-mem run .pre (to-cleared r u))) (goes-cleared r u is)', 1, ['asked'])
-    c.line()
-    c.bind(f'calls-at ! fm (Cleared 𝓤 H A at-mem run) k-cleared (to-cleared r u) {arguments(b, c, ["r"])} (λ v.')
-    c.line()
-    number_answer(b, c, 'Cleared', 'r', '(r, tt)', 'len', 'cleared-of', f'{many} r', ('k', 'v', 'ek', 'isk'))
-    c.move('tP', 'lent')
-    c.step('use2 W (raw (Clear 𝓤 H A at-mem run .pre (to-clear r))) (goes-clear r (fits r ' + f'{ys} e))', 2, ['asked'])
-    c.line()
-    c.bind(f'calls-at ! fm (Clear 𝓤 H A at-mem run) k-clear (to-clear r) {arguments(b, c, ["clear-slice", "len"])} (λ w.')
-    kappas, x = f'({k}, tt)', f'(rp γ, ({many} r, tt))'
-    unit_answer(b, c, 'z', f'ensured 𝓤 H A clear′.ended (clear′.clauses 𝓤 H A at-mem run) {kappas} {x}', f'({b.token(j)} ⊛ ‵ ftrue)',
-                'List Place × (Unit {0} × Unit {0})', f'lasts clear′.ended {kappas} {x}', f'zs .0 ≡ clearedTo ({many} r) ps')
-    c.bind(f'heard ! (zs .0 ≡ clearedTo ({many} r) ps) (λ ep.', 1)
-    c.split('lasts', 'last', 'lasts', rule='fsplit')
-    c.split('last', 'list', 'long', rule='fsplit')
-    c.move('long')
-    c.bind('feqL ! (λ lp.', 1)
+    asks(c, 'Cleared', '(to-cleared r u)', '(goes-cleared r u is)')
+    c.call('Cleared', 'k-cleared', '(to-cleared r u)', [b.at('r')], 'v')
+    number_answer(b, c, 'Cleared', 'r', '(r, tt)', 'len', f'{many} r', ('k', 'v', 'ek', 'isk'))
+    c.move(f't{p.j}', 'lent')
+    asks(c, 'Clear', '(to-clear r)', f'(goes-clear r (fits r {ys} e))', 2, 'use2')
+    c.call('Clear', 'k-clear', '(to-clear r)', [b.at('clear-slice'), b.at('len')], 'w')
+    unit_answer(c, 'Clear', 'z', f'({p.k}, tt)', f'(rp γ, ({many} r, tt))', f'({p.token()} ⊛ ‵ ftrue)',
+                'List Place × (Unit {0} × Unit {0})', f'zs .0 ≡ clearedTo ({many} r) ps', 'ep')
+    c.last('list', 'lp')
     unit_lands(b, c)
-    c.split('tokens', 'tP', 'true')
-    returning(b, c, f'by ! (exits r {ys} (zs .0) u e ep {ls} lp)')
-    return closed(f'''    -- `clear`, and the return
-    abbrev Ctx-clear : {d.name} →{' List ℕ →' * len(b.buffers)} Val → List (Item 𝓤)
-    Ctx-clear r {ys} u = {' ∷ '.join(owned + cells(b, filled))} ∷ Dies
-
-    clearing : (r : {d.name}){binders} (u : Val) → {b.promised('r', ys.split(), '')}{lengths} → Is {d.row()} r (u ∷ []) → Holds (hasTy (ty {b.locals['r']}) u) × WT u → ent 𝓤 (⋆ 𝓤 H A (Ctx-clear r {ys} u)) (Wp 𝓤 H C Λ En pieces.t-{b.at_last} (atReturn 𝓤 H En Post))
-    clearing r {ys} u e {ls} is wu =
-        qed W (Ctx-clear r {ys} u) ∵ exec ! C Λ En pieces.t-{b.at_last} (atRet En Post) $
-        ''' + c.text)
+    c.split('tokens', f't{p.j}', 'true')
+    returning(b, c, ['r', 'unit', 'clear-ptr', 'clear-slice', 'len'], f'r {ys} (zs .0) u e ep {ls} lp')
+    return after(b, 'clearing', '`clear`, and the return', 'Ctx-clear', c, known=(f' → Is {b.result.row()} r (u ∷ [])', 'is'))
 
 
-def holding(b, m):
-    """The items and their names while the core is still to be called: the array, the tokens, the slices, a copy of each `&`, the list."""
-    array = not b.clears
-    owned = [f'‵ (Lies {m})'] * array + [b.token(i) for i in range(b.lives)] + [f'‵ ({p.own(b)})' for p in b.slices]
-    owned += [f'‵ ({p.own(b)})' for p in b.shared] + ['‵ Lent']
-    names = ['lies'] * array + b.token_names() + [f'give{p.i}' for p in b.slices] + [f's{p.i}' for p in b.shared] + ['lent']
-    return owned, names
+def touched(b, c, name, to, kappas, x, token, fact):
+    """The call of `link_all` or `free_all`, as far as the list's last value and its length."""
+    s = name.lower()
+    c.call(name, f'k-{s}', to, [b.at(f'{s}-m'), b.at(f'{s}-slice')], 'w')
+    unit_answer(c, name, 'z', kappas, x, f'(‵ (flft (ν ∷ []) fullShare) ⊛ ({token} ⊛ ‵ ftrue))',
+                'Unit {0} × (List Place × Unit {0})', fact, 'ep')
+    c.none()
+    c.last('list', 'lp')
+    unit_lands(b, c)
+    c.split('tokens', 'tν', 'rest')
+    c.step('lft-end ! tt', 1, ['dead'])
+    c.move('dead', 'm-lent')
+    c.step('lent-back ! tt', 2, ['lies'])
 
 
-def stepping(b):
-    """From the core's call on."""
-    j, d, array = b.last, b.result, not b.clears
-    lm = local(b.locals['m']) if array else ''
-    kappas, _, x, _ = b.to_core()
-    x = x.replace('ref ε', f'ref {lm} ε')
-    filled = passed(b)
-    filled[b.locals['n']] = 'vint w64 n'
-    owned, names = holding(b, 'm₁')
-    without = (b.locals['m'],) if array else ()
-    to = f'(to-core {lm} μ ε)' if array else 'to-core'
-    goes = f'(goes-core {lm} μ ε)' if array else 'goes-core'
-    c = Context(names + cell_names(b, without))
+def touches(b, ys):
+    """What `link_all` and `free_all` ask of the memory, as a pair."""
+    return f'{bare(b.touches)} {b.arguments()} r {ys} m′ e'
+
+
+def lend_list(b, c, lent, kind, name, law):
+    """The list is lent again, for a lifetime of the call: as a slice of this kind, and what comes back when the lifetime ends."""
+    own = f'‵ ({kind} .own (rp δ) (sp ∷ []))'
+    c.move('lent', f't{b.list.j}')
+    c.step(f'use2 W (later (some (λ (δ : GName). {own} ⊛ ‵ ({lent})))) ({law})', 2, ['list'])
+    c.bind('await ! tt $ pick ! (λ δ.')
+    c.split('list', name, 'list-lent')
+    c.line()
+
+
+def list_back(b, c, takes, own, law):
+    """That lifetime ends: the list is back."""
+    c.step('lft-end ! tt', 1, ['dead'])
+    c.move(*takes)
+    c.step(f'use{len(takes)} W (later (‵ {own} ⊛ {b.list.token()})) ({law})', len(takes), ['back'])
+    c.step('await ! tt')
+    c.split('back', 'lent', f't{b.list.j}')
+    c.line()
+
+
+def linking(b):
+    """From `link_all` on: the list is lent again, and comes back."""
+    lm, p, (_, ys, _, ls) = local(b.at('m')), b.list, b.ends()
+    lends = f'R {p.k} (ν′ ∷ []) {p.q} γ b o'
+    to = f'(to-link {lm} m′ ν ν′ ε δ)'
+    c = Context(list(after_core(b)) + b.cells(b.apart()))
+    address(b, c, 'link-m')
+    reborrow_list(b, c, 'link')
+    share_memory(b, c)
+    c.bind('lft-new ! tt (λ ν′.', 0, ['tν′'])
+    lend_list(b, c, f'LentList {lends} δ ps', 'MutSlice (named 1) (ν′ ∷ []) R', 'list',
+              f'lends-list {lends} 𝓤 H A W (named {p.j}) (named 1) ps')
+    c.move('tν', 'tν′', 'm', 'list')
+    c.step('join !', 2, ['tokens'])
+    asks(c, 'Link', to, f'(goes-link {lm} m′ ν ν′ ε δ ({touches(b, ys)} .0))', 3, 'use3')
+    touched(b, c, 'Link', to, '(ν ∷ [], (ν′ ∷ [], tt))', f'(ref {lm} ε m′, (rp δ, tt))', '‵ (flft (ν′ ∷ []) fullShare)',
+            'zs .1 .0 ≡ linkedAll m′ ps')
+    c.line()
+    c.split('rest', 'tν′', 'true')
+    list_back(b, c, ['dead', 'list-lent', 'list'], f'({p.row()} .own (at-list {lm} (zs .1 .0)) (sp ∷ []))',
+              f'list-back {lends} 𝓤 H A W (named {p.j}) (named 1) ps δ (zs .1 .0) lp gn')
+    c.forget(b.at(x) for x in ('unit', 'link-m', 'link-ptr', 'link-slice'))
+    c.line()
+    c.keep(list(after_core(b)) + b.cells(b.apart()))
+    c.say(f'by ! (freeing r {ys} m′ (zs .1 .0) u e {ls} ep lp wu)')
+    return after(b, 'linking', '`link_all`', 'Ctx-link', c)
+
+
+def freeing(b):
+    """From `free_all` on."""
+    lm, p, (_, ys, _, ls) = local(b.at('m')), b.list, b.ends()
+    to = f'(to-free {lm} m′ ps₁ ν ε)'
+    c = Context(list(after_core(b)) + b.cells(b.apart()))
+    address(b, c, 'free-m')
+    reborrow_list(b, c, 'free')
+    share_memory(b, c)
+    c.move('tν', f't{p.j}', 'm', 'lent')
+    c.step('join !', 2, ['tokens'])
+    can = f'(subst (λ (z : ℕ). Freeable m′ z) (sym l₁) ({touches(b, ys)} .1))'
+    asks(c, 'Free', to, f'(goes-free {lm} m′ ps₁ ν ε {can})', 3, 'use3')
+    touched(b, c, 'Free', to, f'(ν ∷ [], ({p.k}, tt))', f'(ref {lm} ε m′, (at-list {lm} ps₁, tt))', p.token(), 'zs .1 .0 ≡ freedAll m′ ps₁')
+    c.split('rest', f't{p.j}', 'true')
+    c.move('lies')
+    returning(b, c, ['r', 'unit', 'free-m', 'free-ptr', 'free-slice'],
+              f'r {ys} m′ (zs .1 .0) u e (ep ∙ ap (freedAll m′) e₁) {ls} (lp ∙ l₁)')
+    return after(b, 'freeing', '`free_all`, and the return', 'Ctx-free', c, ' (ps₁ : List Place)', args='ps₁', types='List Place → ',
+                 known=(' → ps₁ ≡ linkedAll m′ ps → length ps₁ ≡ length ps', 'e₁ l₁'),
+                 lent=f'‵ ({p.row()} .own (at-list {lm} ps₁) (sp ∷ []))', further=4)
+
+
+def call_core(b, c):
+    """The core is called, and what it gives is told apart."""
+    m, lm, j = b.array, local(b.at('m')) if b.array else '', b.list.j
+    to, goes = (f'(to-core {lm} μ ε)', f'(goes-core {lm} μ ε)') if m else ('to-core', 'goes-core')
     for p in b.buffers:
-        reborrow(b, c, p.i, f'ptr{p.i}', f'slice{p.i}', f'g{p.s} .0')
-    if array:
+        c.reborrow(p.i, b.at(f'ptr{p.i}'), b.at(f'slice{p.i}'), f'g{p.s} .0')
+    if m:
         address(b, c, 'core-m')
         c.bind('lft-new ! tt (λ μ.', 0, ['tμ'])
-        c.move('lies')
-        c.step(f'use1 W (later (some (λ (ε : GName). ‵ (MutRef (named {j}) (μ ∷ []) N .own (ref {lm} ε m₁) (vptr {lm} 0 ∷ [])) ⊛ ‵ (flent (μ ∷ []) (Body (mem N) {lm} 0 ε))))) (lends-ref 𝓤 H A W N (named {j}) (μ ∷ []) m₁ {lm} 0)', 1, ['m'])
-        c.bind('await ! tt $ pick ! (λ ε.')
-        c.split('m', 'm', 'm-lent')
-        c.line()
-    given = [f't{i}' for i in range(j)] + ['tμ'] * array + [f'give{p.i}' for p in b.slices] + ['m'] * array
-    whole = given[-1]
-    for name in reversed(given[:-1]):
-        c.join(name, whole, 'asked')
-        whole = 'asked'
-    c.step(f'use1 W (raw (Core 𝓤 H A at-mem run .pre {to})) {goes}', 1, ['asked'])
-    c.line()
-    given = [f'slice{p.i}' if p.kind == 'buffer' else p.i for p in b.params] + ['core-m'] * array + ['n']
-    c.bind(f'calls-at ! fm (Core 𝓤 H A at-mem run) k-core {to} {arguments(b, c, given)} (λ u.')
-    c.line()
-    tokens = chain([b.token(i) for i in range(j)] + ['‵ (flft (μ ∷ []) fullShare)'] * array + ['‵ ftrue'], '⊛')
-    c.step(f'use1 W (later (some (λ (r : {d.name}). (({tokens}) ⊛ ‵ ({d.row()} .own r (u ∷ []))) ⊛ raw (ensured 𝓤 H A core′.ended (core′.clauses 𝓤 H A at-mem run) {kappas} {x} tt r)))) (id⊢ 𝓤 _)', 1, ['got'])
-    c.bind('await ! tt $ pick ! (λ r.')
-    c.line()
-    # the last values of the buffers and of the memory, and what is promised of them
-    ends = ['List ℕ' if p.kind == 'buffer' else 'Unit {0}' for p in b.params] + ['List ℕ'] * array + ['Unit {0}', 'Unit {0}']
-    def end(i):
-        return '(zs' + ' .1' * (i - 1) + ' .0)'
-    memory = end(b.list)
-    promised = b.promised('r', [end(p.i) for p in b.buffers], memory)
-    c.split('got', 'answer', 'ensured')
-    c.move('ensured')
-    c.step(f'use1 W (some (λ (zs : {chain(ends, "×")}). ‵ (lasts core′.ended {kappas} {x} zs) ⊛ raw (fact 𝓤 ({promised})))) (id⊢ 𝓤 _)', 1, ['both'])
-    c.bind('pick ! (λ zs.')
-    c.line()
-    c.split('both', 'lasts', 'fact')
-    c.move('fact')
-    c.bind(f'heard ! ({promised}) (λ e.', 1)
-    for p in b.params:
-        if p.kind == 'buffer':
-            c.split('lasts', 'last', 'lasts', rule='fsplit')
-            c.split('last', f's{p.i}', 'long', rule='fsplit')
-            c.move('long')
-            c.bind(f'feqL ! (λ l′{p.s}.', 1)
+        lend_memory(b, c, j, 'm₁')
+    c.join_all([f't{p.j}' for p in b.slices] + ['tμ'] * m + [f'give{p.i}' for p in b.slices] + ['m'] * m, 'asked')
+    asks(c, 'Core', to, goes)
+    given = [b.at(f'slice{p.i}') if p.given else p.i for p in b.others] + [b.at(x) for x in ['core-m'] * m + ['n']]
+    c.call('Core', 'k-core', to, given, 'u')
+    kappas, _, x, _ = b.to_core()
+    x = x.replace('ref ε', f'ref {lm} ε')
+    tokens = chain([p.token() for p in b.slices] + ['‵ (flft (μ ∷ []) fullShare)'] * m + ['‵ ftrue'], '⊛')
+    c.answer('Core', 'r', b.result.name, f'({tokens})', f'{b.result.row()} .own r (u ∷ [])', kappas, x)
+    ends = ['List ℕ' if p.given else 'Unit {0}' for p in b.others] + ['List ℕ'] * m + ['Unit {0}', 'Unit {0}']
+    c.ensured('Core', 'zs', chain(ends, '×'), kappas, x, b.promised('r', [end(p.i) for p in b.buffers], end(b.list.i)), 'e')
+    for p in b.others:
+        if p.given:
+            c.last(f's{p.i}', f'l′{p.s}')
         else:
-            c.split('lasts', 'none', 'lasts', rule='fsplit')
-            c.drop('none')
-    if array:
-        c.split('lasts', 'm-last', 'lasts', rule='fsplit')
+            c.none()
+    if m:
+        c.last('m-last')
     c.line()
-    # the answer goes to its local
+
+
+def end(i):
+    """The last value of the core's parameter i."""
+    return f'(zs{" .1" * (i - 1)} .0)'
+
+
+def core_lands(b, c):
+    """The core's answer goes to its local, and the array comes back."""
+    d = b.result
     c.split('answer', 'tokens', 'result')
     c.move('result')
     c.bind(f'peeks ! {d.row()} (Is {d.row()}) (shows 𝓤 H A {d.row()}) r (u ∷ []) (λ is.')
     c.line(f'let wu : Holds (hasTy (ty {b.answered}) u) × WT u = {d.typed()} r (u ∷ []) is .0 in')
     c.line()
-    c.step(f'land ! {initial(b, c, b.answered, "wu")}')
+    c.step(f'land ! {c.init(b.answered, "wu")}')
     c.line()
-    for i in range(j):
-        c.split('tokens', f't{i}', 'tokens')
-    if array:
+    for p in b.slices:
+        c.split('tokens', f't{p.j}', 'tokens')
+    if b.array:
         c.split('tokens', 'tμ', 'true')
-        c.step('lft-end ! tt', 1, ['dead'])
-        c.move('dead', 'm-lent', 'm-last')
-        c.step(f'use3 W (later (‵ (Lies {memory}))) (ref-back 𝓤 H A W N (μ ∷ []) ε {memory} {lm} 0)', 3, ['lies'])
-        c.step('await ! tt')
+        memory_back(b, c, end(b.list.i))
         c.line()
-    forget(b, c, [x for p in b.buffers for x in (f'ptr{p.i}', f'slice{p.i}')] + ['core-m'] * array)
+    c.forget([b.at(x) for p in b.buffers for x in (f'ptr{p.i}', f'slice{p.i}')] + [b.at(x) for x in ['core-m'] * b.array])
     c.line()
-    binders, ys, _, ls = b.ends()
-    ends = ' '.join(end(p.i) for p in b.buffers)
-    if b.clears:
-        c.keep(b.token_names() + ['result'] + [f's{p.i}' for p in b.buffers] + [f's{p.i}' for p in b.shared] + ['lent'] + cell_names(b))
-        c.say(f'by ! (clearing r {ends} u e {ls} is wu)')
-    elif b.touches:
-        c.keep(['lies'] + b.token_names() + ['result'] + [f's{p.i}' for p in b.buffers] + [f's{p.i}' for p in b.shared] + ['lent']
-               + cell_names(b, without))
-        c.say(f'by ! (linking r {ends} {memory} u e {ls} wu)')
-    elif b.saves:
-        c.keep(['lies'] + b.token_names() + ['result'] + [f's{p.i}' for p in b.buffers] + [f's{p.i}' for p in b.shared] + ['lent']
-               + cell_names(b, without))
-        c.say(f'by ! (saving r {ends} {memory} u e {ls} wu)')
-    else:
-        # nothing is saved: the return
-        c.names[c.at('lent')] = 'list'
-        c.say(f'let m′ : List ℕ = {memory} in')
-        returning(b, c, f'by ! (exits r {ends} m′ u e {ls})')
-    return closed(f'''    -- the core{'' if b.saves else ', and the return'}
-    abbrev Ctx-core : List (Item 𝓤)
-    Ctx-core = {' ∷ '.join(owned + cells(b, filled, without))} ∷ Dies
 
-    stepping : ent 𝓤 (⋆ 𝓤 H A Ctx-core) (Wp 𝓤 H C Λ En pieces.t-{b.at_core} (atReturn 𝓤 H En Post))
-    stepping =
-        qed W Ctx-core ∵ exec ! C Λ En pieces.t-{b.at_core} (atRet En Post) $
-        ''' + c.text)
+
+def stepping(b):
+    """From the core's call on."""
+    had, ls = before_core(b, 'm₁'), b.ends()[3]
+    c = Context(list(had) + b.cells(b.apart()))
+    call_core(b, c)
+    core_lands(b, c)
+    ends = ' '.join(end(p.i) for p in b.buffers)
+    if b.changes:
+        c.keep(list(after_core(b)) + b.cells(b.apart()))
+        c.say(f'by ! (clearing r {ends} u e {ls} is wu)' if b.shape == 'clears' else f'by ! (linking r {ends} {end(b.list.i)} u e {ls} wu)')
+    else:
+        c.names[c.at('lent')] = 'list'
+        c.say(f'let m′ : List ℕ = {end(b.list.i)} in')
+        returning(b, c, [], f'r {ends} m′ u e {ls}')
+    return lemma('stepping', 'the core' if b.changes else 'the core, and the return', 'Ctx-core',
+                 b.context(list(had.values()), {'n': 'vint w64 n'}, b.apart()), f'pieces.t-{b.at_core}', c)
+
+
+def call_load(b, c):
+    """`load` is called with the array and the list, which is lent again where the caller lent it to be changed."""
+    lm, p = local(b.at('m')), b.list
+    if b.changes:
+        life, token, of, args, first = 'ν ∷ []', 'tν', 'rp δ', 'ν μ δ ε', '‵ (flft (ν ∷ []) fullShare)'
+        lends = f'R {p.k} (ν ∷ []) {p.q} γ b o'
+        lend_list(b, c, f'LentShared {lends} ps', 'ShrSlice (named 0) (ν ∷ []) R', 'lent-load',
+                  f'lends-shared {lends} 𝓤 H A W (named {p.j}) (named 0) ps')
+    else:
+        life, token, of, args, first = p.k, f't{p.j}', 'rp γ', 'μ ε', p.token()
+    lend_memory(b, c, 1, 'blank')
+    c.move(token, 'tμ', 'lent-load', 'm')
+    c.step('join !', 2, ['tokens'])
+    asks(c, 'Load', f'(to-load {lm} {args})', f'(goes-load {lm} {args})', 3, 'use3')
+    given = [b.at(x) for x in ('load-slice' if b.changes else 'places', 'load-m', 'n')]
+    c.call('Load', 'k-load', f'(to-load {lm} {args})', given, 'w')
+    unit_answer(c, 'Load', 'r', f'({life}, (μ ∷ [], tt))', f'({of}, (ref {lm} ε blank, (n, tt)))',
+                f'({first} ⊛ (‵ (flft (μ ∷ []) fullShare) ⊛ ‵ ftrue))', 'Unit {0} × (List ℕ × (Unit {0} × Unit {0}))', 'zs .1 .0 ≡ m₁', 'e')
+    c.none()
+    c.last('m-last')
+    unit_lands(b, c)
+    c.line()
+    c.split('tokens', token, 'rest')
+    if b.changes:
+        list_back(b, c, ['dead', 'list-lent'], 'Lent', f'shared-back {lends} 𝓤 H A W (named {p.j}) (named 0) ps gn')
 
 
 def loading(b):
     """From `load` on."""
-    lm, j = local(b.locals['m']), b.last
-    k, q = b.kappa(j), b.share(j)
-    filled = passed(b)
-    filled[b.locals['n']] = 'vint w64 n'
-    owned, names = holding(b, 'blank')
-    if not b.saves:
+    had = before_core(b, 'blank')
+    if not b.changes:
         # a copy of the list's `&` is for `load`
-        owned, names = owned + ['‵ Lent'], names + ['lent-load']
-    without = (b.locals['m'],)
-    c = Context(names + cell_names(b, without))
-    if b.saves:
-        reborrow(b, c, b.list, 'load-ptr', 'load-slice', 'gn .0')
+        had['lent-load'] = '‵ Lent'
+    c = Context(list(had) + b.cells(b.apart()))
+    if b.changes:
+        reborrow_list(b, c, 'load')
     address(b, c, 'load-m')
-    if b.saves:
+    if b.changes:
         c.bind('lft-new ! tt (λ ν.', 0, ['tν'])
     c.bind('lft-new ! tt (λ μ.', 0, ['tμ'])
     c.line()
-    if b.saves:
-        c.move('lent', 'tP')
-        c.step(f'use2 W (later (some (λ (δ : GName). ‵ (ShrSlice (named 0) (ν ∷ []) R .own (rp δ) (sp ∷ [])) ⊛ ‵ (LentShared R {k} (ν ∷ []) {q} γ b o ps)))) (lends-shared R {k} (ν ∷ []) {q} γ b o 𝓤 H A W (named {j}) (named 0) ps)', 2, ['list'])
-        c.bind('await ! tt $ pick ! (λ δ.')
-        c.split('list', 'lent-load', 'list-lent')
-        c.line()
-    c.move('lies')
-    c.step(f'use1 W (later (some (λ (ε : GName). ‵ (MutRef (named 1) (μ ∷ []) N .own (ref {lm} ε blank) (vptr {lm} 0 ∷ [])) ⊛ ‵ (flent (μ ∷ []) (Body (mem N) {lm} 0 ε))))) (lends-ref 𝓤 H A W N (named 1) (μ ∷ []) blank {lm} 0)', 1, ['m'])
-    c.bind('await ! tt $ pick ! (λ ε.')
-    c.split('m', 'm', 'm-lent')
-    c.line()
-    token = 'tν' if b.saves else 'tP'
-    c.move(token, 'tμ', 'lent-load', 'm')
-    c.step('join !', 2, ['tokens'])
-    args = 'ν μ δ ε' if b.saves else 'μ ε'
-    c.step(f'use3 W (raw (Load 𝓤 H A at-mem run .pre (to-load {lm} {args}))) (goes-load {lm} {args})', 3, ['asked'])
-    c.line()
-    given = ['load-slice' if b.saves else b.list, 'load-m', 'n']
-    c.bind(f'calls-at ! fm (Load 𝓤 H A at-mem run) k-load (to-load {lm} {args}) {arguments(b, c, given)} (λ w.')
-    if b.saves:
-        kappas, x, first = '(ν ∷ [], (μ ∷ [], tt))', f'(rp δ, (ref {lm} ε blank, (n, tt)))', '‵ (flft (ν ∷ []) fullShare)'
-    else:
-        kappas, x, first = f'({k}, (μ ∷ [], tt))', f'(rp γ, (ref {lm} ε blank, (n, tt)))', b.token(j)
-    unit_answer(b, c, 'r', f'ensured 𝓤 H A load′.ended (load′.clauses 𝓤 H A at-mem run) {kappas} {x}', f'({first} ⊛ (‵ (flft (μ ∷ []) fullShare) ⊛ ‵ ftrue))',
-                'Unit {0} × (List ℕ × (Unit {0} × Unit {0}))', f'lasts load′.ended {kappas} {x}', 'zs .1 .0 ≡ m₁')
-    c.bind('heard ! (zs .1 .0 ≡ m₁) (λ e.', 1)
-    c.split('lasts', 'none', 'lasts', rule='fsplit')
-    c.drop('none')
-    c.split('lasts', 'm-last', 'lasts', rule='fsplit')
-    unit_lands(b, c)
-    c.line()
-    c.split('tokens', token, 'rest')
-    if b.saves:
-        c.step('lft-end ! tt', 1, ['dead'])
-        c.move('dead', 'list-lent')
-        c.step(f'use2 W (later (‵ Lent ⊛ {b.token(j)})) (shared-back R {k} (ν ∷ []) {q} γ b o 𝓤 H A W (named {j}) (named 0) ps gn)', 2, ['back'])
-        c.step('await ! tt')
-        c.split('back', 'lent', 'tP')
-        c.line()
+    call_load(b, c)
     c.split('rest', 'tμ', 'true')
-    c.step('lft-end ! tt', 1, ['dead'])
-    c.move('dead', 'm-lent', 'm-last')
-    c.step(f'use3 W (later (‵ (Lies (zs .1 .0)))) (ref-back 𝓤 H A W N (μ ∷ []) ε (zs .1 .0) {lm} 0)', 3, ['lies'])
-    c.step('await ! tt')
+    memory_back(b, c, '(zs .1 .0)')
     c.step('rewrite ! 0 (λ (z : List ℕ). ‵ (Lies z)) e refl')
     c.line()
-    forget(b, c, ['unit'] + (['load-ptr', 'load-slice'] if b.saves else []) + ['load-m'])
+    c.forget(b.at(x) for x in ['unit'] + ['load-ptr', 'load-slice'] * b.changes + ['load-m'])
     c.line()
-    c.keep(holding(b, 'm₁')[1] + cell_names(b, without))
+    c.keep(list(before_core(b, 'm₁')) + b.cells(b.apart()))
     c.say('by ! stepping')
-    return closed(f'''    -- `load`
-    abbrev Ctx-load : List (Item 𝓤)
-    Ctx-load = {' ∷ '.join(owned + cells(b, filled, without))} ∷ Dies
-
-    loading : ent 𝓤 (⋆ 𝓤 H A Ctx-load) (Wp 𝓤 H C Λ En pieces.t-{b.at_load} (atReturn 𝓤 H En Post))
-    loading =
-        qed W Ctx-load ∵ exec ! C Λ En pieces.t-{b.at_load} (atRet En Post) $
-        ''' + c.text)
+    return lemma('loading', '`load`', 'Ctx-load', b.context(list(had.values()), {'n': 'vint w64 n'}, b.apart()), f'pieces.t-{b.at_load}', c)
 
 
-def copied(b, c, own, life, elem, x, v, first, second):
-    """One more of a `&` to a slice, which stands in front."""
-    kappa = b.kappa(life)
-    c.step(f'use1 W (‵ ({own}) ⊛ ‵ ({own})) (shr-slice-copy 𝓤 H A W (named {life}) {kappa} {elem} .twice {x} ({v} ∷ []))', 1, ['two'])
-    c.split('two', first, second)
-
-
-def making(b, c, m):
+def making(b, c):
     """`empty`: the local array."""
+    m = b.at('m')
     c.step('nothing !', 0, ['true'])
-    c.step('use1 W (raw (Empty 𝓤 H A at-mem run .pre to-empty)) goes-empty', 1, ['asked'])
-    c.line()
-    c.bind('calls-at ! fm (Empty 𝓤 H A at-mem run) k-empty to-empty (no-more !) (λ w.')
-    c.line()
-    c.step('use1 W (later (some (λ (z : List ℕ). (‵ ftrue ⊛ ‵ (N .own z (w ∷ []))) ⊛ raw (ensured 𝓤 H A empty′.ended (empty′.clauses 𝓤 H A at-mem run) tt tt tt z)))) (id⊢ 𝓤 _)', 1, ['got'])
-    c.bind('await ! tt $ pick ! (λ z.')
-    c.line()
-    c.split('got', 'answer', 'ensured')
-    c.move('ensured')
+    asks(c, 'Empty', 'to-empty', 'goes-empty')
+    c.call('Empty', 'k-empty', 'to-empty', [], 'w')
+    c.answer('Empty', 'z', 'List ℕ', '‵ ftrue', 'N .own z (w ∷ [])', 'tt', 'tt')
     c.step('use1 W (raw (fact 𝓤 (z ≡ blank))) (empty-of 𝓤 H A at-mem run z)')
     c.bind('heard ! (z ≡ blank) (λ ez.', 1)
     c.split('answer', 'true', 'own')
@@ -578,92 +401,54 @@ def making(b, c, m):
     c.step('rewrite ! 0 (λ (y : List ℕ). ‵ (N .own y (w ∷ []))) ez refl')
     c.line()
     c.bind('peeks ! N (Is N) (shows 𝓤 H A N) blank (w ∷ []) (λ isn.')
-    c.line(f'let wn : Holds (hasTy (ty {m}) w) × WT w = array-lawful 𝓤 H A W u16 (uint-lawful 𝓤 H A W w16) {b.size} .typed blank (w ∷ []) isn .0 in')
+    typed = f'array-lawful 𝓤 H A W u16 (uint-lawful 𝓤 H A W w16) {b.size} .typed blank (w ∷ []) isn .0'
+    c.line(f'let wn : Holds (hasTy (ty {m}) w) × WT w = {typed} in')
     c.line()
-    c.step(f'land ! {initial(b, c, "blank", "wn")}')
+    c.step(f'land ! {c.init(b.at("blank"), "wn")}')
     c.line()
-    c.step(f'assigns ! (of-opd ! {load_of(b, c, "blank")}) {initial(b, c, "m", "wn")}')
+    c.step(f'assigns ! (of-opd ! {c.load(b.at("blank"))}) {c.init(m, "wn")}')
     c.line()
-    forget(b, c, ['len', 'blank'])
+    c.forget([b.at('len'), b.at('blank')])
     c.move(f'_{m}', 'own')
     c.step(f'use2 W (‵ (Lies blank)) (part-in 𝓤 H A W N refl fullShare blank {local(m)} 0 w)', 2, ['lies'])
     c.line()
 
 
-def beginning(b):
-    """From the first statement on: `count` and `empty`; then what was passed is taken apart."""
-    j, m = b.last, b.locals.get('m')
-    without = () if b.clears else (m,)
-    c = Context(['entry'] + cell_names(b))
-    c.step(f'assigns ! (of-opd ! (load ! (from ! (fld ! refl (stop !))) (look-in ! {c.at(f"_{b.list}")} (sub ! 1 refl (whole !))))) {initial(b, c, "len", "(tt, record { fits = gn .0 })")}')
+def counting(b, c):
+    """`count` of the list's length."""
+    length = f'(look-in ! {c.at(f"_{b.list.i}")} (sub ! 1 refl (whole !)))'
+    to = c.init(b.at('len'), '(tt, record { fits = gn .0 })')
+    c.step(f'assigns ! (of-opd ! (load ! (from ! (fld ! refl (stop !))) {length})) {to}')
     c.line()
     c.step('nothing !', 0, ['true'])
-    c.step('use1 W (raw (Count 𝓤 H A at-mem run .pre to-count)) goes-count', 1, ['asked'])
-    c.line()
-    c.bind(f'calls-at ! fm (Count 𝓤 H A at-mem run) k-count to-count {arguments(b, c, ["len"])} (λ u.')
-    c.line()
-    number_answer(b, c, 'Count', '(length ps)', '(length ps, tt)', 'n', 'count-of', 'n', ('r', 'u', 'e', 'is'))
-    if b.clears:
-        forget(b, c, ['len'])
-        c.line()
+    asks(c, 'Count', 'to-count', 'goes-count')
+    c.call('Count', 'k-count', 'to-count', [b.at('len')], 'u')
+    number_answer(b, c, 'Count', '(length ps)', '(length ps, tt)', 'n', 'n', ('r', 'u', 'e', 'is'))
+
+
+def beginning(b):
+    """From the first statement on: `count` and `empty`; then what was passed is taken apart."""
+    c = Context(['entry'] + b.cells())
+    counting(b, c)
+    if b.array:
+        making(b, c)
     else:
-        making(b, c, m)
-    # what was passed: the tokens, then what each parameter owns
-    list_row = f'{"MutSlice" if b.saves else "ShrSlice"} (named {j}) {b.kappa(j)} R'
-    rows = items([p.row(b) for p in b.params] + [list_row])
-    tokens = chain([b.token(i) for i in range(b.lives)] + ['‵ ftrue'], '⊛')
-    c.move('entry')
-    c.step(f'use1 W (({tokens}) ⊛ ‵ (owns ({rows}) x at)) (id⊢ 𝓤 _)')
-    c.split('entry', 'tokens', 'owns')
-    for name in b.token_names():
-        c.split('tokens', name, 'tokens')
+        c.forget([b.at('len')])
+        c.line()
+    b.take_apart(c)
     c.line()
-    for p in b.params:
+    for p in b.others:
         c.split('owns', f'give{p.i}', 'owns', rule='fsplit')
-        if p.kind == 'shared':
-            c.move(f'give{p.i}')
-            copied(b, c, p.own(b), b.life(p), p.type, f'x{p.s}', p.machine(), f'give{p.i}', f's{p.i}')
-        elif not p.slice:
+        if not p.lent:
             c.drop(f'give{p.i}')
+        elif not p.given:
+            c.move(f'give{p.i}')
+            p.copied(f'give{p.i}', f's{p.i}', c)
     c.split('owns', 'lent', 'owns', rule='fsplit')
-    held = holding(b, 'blank')[1]
-    if not b.saves:
-        copied(b, c, 'Lent', j, 'R', '(rp γ)', 'sp', 'lent', 'lent-load')
-        held = held + ['lent-load']
+    if not b.changes:
+        b.list.copied('lent', 'lent-load', c)
     c.line()
-    c.keep(held + cell_names(b, without))
-    c.say('by ! stepping' if b.clears else 'by ! loading')
-    return closed(f'''    -- `count`{'' if b.clears else ' and `empty`'}
-    abbrev Ctx-entry : List (Item 𝓤)
-    Ctx-entry = raw (onEntry 𝓤 H A public.signature {b.kappas()} {b.all_shares()} x at) ∷ {' ∷ '.join(cells(b, passed(b)))} ∷ Dies
-
-    beginning : ent 𝓤 (⋆ 𝓤 H A Ctx-entry) (Wp 𝓤 H C Λ En (code.function .body) (atReturn 𝓤 H En Post))
-    beginning =
-        qed W Ctx-entry ∵ exec ! C Λ En (code.function .body) (atRet En Post) $
-        ''' + c.text)
-
-
-def walk(b):
-    """The locals are allocated, the parameters passed, and the body run."""
-    k, q = b.kappas(), b.all_shares()
-    values = items([p.machine() for p in b.params] + ['sp'])
-    c = Context([x for i in reversed(range(b.many)) for x in (f'_{i}', f'dies{i}')] + ['entry'], indent=6)
-    for i in range(b.many):
-        c.say(f'alloc1 ! (λ {local(i)}.')
-    c.step('alloc0 !')
-    c.step('params1 !')
-    c.line()
-    for p in b.params:
-        c.step(f'pass1 ! (init ! {c.at(f"_{p.i}")} refl ({p.passed()}))')
-    c.step(f'pass1 ! (init ! {c.at(f"_{b.list}")} refl (tt, (tt, (record {{ fits = gn .0 }}, tt))))')
-    c.step('pass0 !')
-    c.line()
-    c.keep(['entry'] + cell_names(b))
-    known = ['k' + sub(i + 1) for i in range(len(b.callees()))]
-    c.say(f'by ! (beginning C Λ fm {" ".join(known)} {" ".join(local(i) for i in range(b.many))})')
-    triples = ' → '.join(f'Triple 𝓤 (C #{s.lower()}) ({s} 𝓤 H A at-mem run)' for _, _, s in b.callees())
-    return closed(f'''  walk : (C : Calls 𝓤 H) (Λ : Loops 𝓤 H) → FmC 𝓤 H (W .laws) C → {triples}
-      → ent 𝓤 (onEntry 𝓤 H A public.signature {k} {q} x at) (WpFn 𝓤 H C Λ code.function ({values}) Post)
-  walk C Λ fm {' '.join(known)} =
-      qed W (raw (onEntry 𝓤 H A public.signature {k} {q} x at) ∷ []) ∵ enter ! C Λ code.function ({values}) _ $
-      ''' + c.text)
+    c.keep(list(before_core(b, 'blank')) + ['lent-load'] * (not b.changes) + b.cells(b.apart()))
+    c.say('by ! loading' if b.array else 'by ! stepping')
+    return lemma('beginning', '`count` and `empty`' if b.array else '`count`', 'Ctx-entry', b.context([f'raw ({b.entry()})'], {}),
+                 '(code.function .body)', c)

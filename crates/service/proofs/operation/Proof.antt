@@ -1,6 +1,6 @@
 -- `service::operation` meets its contract, by a walk that tools/walks/bridge.py wrote: the records are read into a local array,
--- the core works on that, and they are written back. In each context what is owned stands first, then the locals from _0 on, then that each
--- local dies.
+-- the core works on that, and those that it touched are linked and freed. In each context what is owned stands first, then the locals from
+-- _0 on, then that each local dies.
 -- Assumes nothing.
 use mathlib.Core.Path.{_≡_, refl, sym, ap, _∙_, subst}
 use Prim.Native.Nat.{ℕ, _<_, _^_}
@@ -401,7 +401,7 @@ module _ {M : Type 1} (𝓤 : URA M) (H : Heap 𝓤) (A : Atoms 𝓤) (W : Given
 
     -- `link_all`
     abbrev Ctx-link : Performed → List ℕ → List ℕ → Val → List (Item 𝓤)
-    Ctx-link r ys₃ m′ u = ‵ (Lies m′) ∷ ‵ (flft κ₀ q₀) ∷ ‵ (flft κ₁ q₁) ∷ ‵ (XPerformed .own r (u ∷ [])) ∷ ‵ (finally u16 γ₃ ys₃) ∷ ‵ (Lent)
+    Ctx-link r ys₃ m′ u = ‵ (Lies m′) ∷ ‵ (flft κ₀ q₀) ∷ ‵ (flft κ₁ q₁) ∷ ‵ (XPerformed .own r (u ∷ [])) ∷ ‵ (finally u16 γ₃ ys₃) ∷ ‵ Lent
         ∷ ‵ (froom (ty 0) l₀ 0) ∷ ‵ (fat fullShare (ty 1) l₁ 0 (v₁)) ∷ ‵ (fat fullShare (ty 2) l₂ 0 (v₂))
         ∷ ‵ (fat fullShare (ty 3) l₃ 0 (sliceVal (b₃, o₃) (length xs₃))) ∷ ‵ (fat fullShare (ty 4) l₄ 0 (sp))
         ∷ ‵ (fat fullShare (ty 5) l₅ 0 (vint w64 n)) ∷ ‵ (fat fullShare (ty 7) l₇ 0 (u)) ∷ ‵ (froom (ty 8) l₈ 0)
