@@ -69,7 +69,8 @@ indices-read bs at (Value c next) b r e h t g =
     ])
 
 -- the indices as they are read: each position, and the number there
-pub indices-by : (bs : List ℕ) (n : Number) (k i : ℕ) (p j : Number) (r : OperationRead) → k ≡ nextOf n → p ≡ numberAt 7 bs k → i ≡ placeAt n p
+pub indices-by : (bs : List ℕ) (n : Number) (k i : ℕ) (p j : Number) (r : OperationRead) → k ≡ nextOf n → p ≡ numberAt 7 bs k
+    → i ≡ placeAt n p
     → j ≡ numberAt 10 bs i → r ≡ indexedOf n p j → r ≡ indicesAt bs n
 indices-by bs n k i p j r e-k e-p e-i e-j e-r =
     let f : p ≡ numberAt 7 bs (nextOf n) = e-p ∙ ap (numberAt 7 bs) e-k in

@@ -38,7 +38,8 @@ use Rattle.wire.specs.declared.reader.Number.{Number}
 use Rattle.wire.specs.Reader.{nextOf, placeAt, indexedOf, indicesAt}
 use Rattle.wire.proofs.Asking.{Said, saying, meant, asks, asks-plain, met-by}
 use Rattle.wire.proofs.Reading.{indices-by}
-use Rattle.wire.proofs.reader.Widths.{B, Token, Bytes, moved, takes-bytes, hands-reader, reads}
+use Rattle.wire.proofs.Held.{B, moved, Bytes, Token, takes-bytes, hands-reader}
+use Rattle.wire.proofs.reader.Widths.{reads}
 use Rattle.wire.proofs.reader.OperationReader as T
 use Rattle.wire.proofs.reader.OperationReader.Laws as T′
 use Rattle.wire.proofs.reader.OperationRead as S
@@ -91,16 +92,18 @@ module _ {M : Type 1} (𝓤 : URA M) (H : Heap 𝓤) (A : Atoms 𝓤) (W : Given
 
   -- what is passed
   abbrev to-read : ℕ → Bound 𝓤 H A seven′.signature
-  to-read k = ((κ, tt), (q, tt), tt, (moved 𝓤 H A W κ q d k, tt), (T′.lowered (moved 𝓤 H A W κ q d k) ∷ [], tt))
+  to-read k = ((κ, tt), (q, tt), tt, (moved d k, tt), (T′.lowered (moved d k) ∷ [], tt))
 
   exits : (r : OperationRead) → says-own (κ, tt) (d, (n, tt)) r
-      → ent 𝓤 (⋆ 𝓤 H A (‵ (S.the-row .own r (S′.lowered r ∷ [])) ∷ Token 𝓤 H A W κ q d ∷ [])) (Post (S′.lowered r))
+      → ent 𝓤 (⋆ 𝓤 H A (‵ (S.the-row .own r (S′.lowered r ∷ [])) ∷ raw (Token 𝓤 H A κ q) ∷ [])) (Post (S′.lowered r))
   exits r e =
-      qed W (‵ (S.the-row .own r (S′.lowered r ∷ [])) ∷ Token 𝓤 H A W κ q d ∷ []) ∵
-      suffices ! _ (ends-at 𝓤 H A own.ended stayed (saying 𝓤 own.ended says-own) W (entry, tt) (S′.lowered r) r (tt, (tt, tt)) (tt, (tt, tt)))
+      qed W (‵ (S.the-row .own r (S′.lowered r ∷ [])) ∷ raw (Token 𝓤 H A κ q) ∷ []) ∵
+      suffices ! _ (ends-at 𝓤 H A own.ended stayed (saying 𝓤 own.ended says-own) W (entry, tt) (S′.lowered r) r (tt, (tt, tt))
+      (tt, (tt, tt)))
       $ says ! e $ move ! (1 ∷ []) $ frame ! $ nothing ! $ nothing ! $ fjoin ! $ nothing ! $ fjoin ! $ done !
 
-  module _ (C : Calls 𝓤 H) (Λ : Loops 𝓤 H) (fm : FmC 𝓤 H (W .laws) C) (k-next : Triple 𝓤 (C next-def.name) (meant 𝓤 H A next′.ended says-next))
+  module _ (C : Calls 𝓤 H) (Λ : Loops 𝓤 H) (fm : FmC 𝓤 H (W .laws) C)
+      (k-next : Triple 𝓤 (C next-def.name) (meant 𝓤 H A next′.ended says-next))
       (k-seven : Triple 𝓤 (C seven-def.name) (meant 𝓤 H A seven′.ended (reads 7)))
       (k-place : Triple 𝓤 (C place-def.name) (meant 𝓤 H A place′.ended says-place))
       (k-ten : Triple 𝓤 (C ten-def.name) (meant 𝓤 H A ten′.ended (reads 10)))
@@ -112,20 +115,22 @@ module _ {M : Type 1} (𝓤 : URA M) (H : Heap 𝓤) (A : Atoms 𝓤) (W : Given
         let mk = EL.makes N.the-type N′.the-plain 𝓤 H A in
         qed W (raw (onEntry 𝓤 H A own.signature (κ, tt) (q, tt) (entry .3) (entry .4)) ∷ []) ∵
         enter ! C Λ code.function (T′.lowered d ∷ N′.lowered n ∷ []) _ $
-        alloc1 ! (λ l₀. alloc1 ! (λ l₁. alloc1 ! (λ l₂. alloc1 ! (λ l₃. alloc1 ! (λ l₄. alloc1 ! (λ l₅. alloc1 ! (λ l₆. alloc0 ! $ params1 ! $
+        alloc1 ! (λ l₀. alloc1 !
+        (λ l₁. alloc1 ! (λ l₂. alloc1 ! (λ l₃. alloc1 ! (λ l₄. alloc1 ! (λ l₅. alloc1 ! (λ l₆. alloc0 ! $ params1 ! $
         pass1 ! (init ! 10 refl wt) $ pass1 ! (init ! 8 refl wn) $ pass0 ! $
-        move ! (14 ∷ []) $ use1 W (Token 𝓤 H A W κ q d ⊛ ‵ (Bytes 𝓤 H A W κ q d))
-        (takes-bytes 𝓤 H A W κ q d (N.the-row ∷ []) (n, tt) (N′.lowered n ∷ [], tt)) $ split ! $
+        move ! (14 ∷ []) $ use1 W (raw (Token 𝓤 H A κ q) ⊛ ‵ (Bytes κ d))
+        (takes-bytes 𝓤 H A κ W d q (N.the-row ∷ []) (n, tt) (N′.lowered n ∷ [], tt)) $ split ! $
         keep ! (0 ∷ 1 ∷ 14 ∷ 12 ∷ 10 ∷ 8 ∷ 6 ∷ 4 ∷ 2 ∷ 15 ∷ 13 ∷ 11 ∷ 9 ∷ 7 ∷ 5 ∷ 3 ∷ []) $
         -- the position after the code, and a loop's number there
         asks-plain ! fm next′.ended says-next k-next (tt, tt, tt, (n, tt), (N′.lowered n ∷ [], tt)) (vint w64) (uint-tells w64)
         (id⊢ 𝓤 _) (mk, tt) (isn, tt) (and-then ! (load ! (from ! (stop !)) (look ! 5 refl)) (no-more !))
         (λ k e-k is-k.
-        land ! (from ! (fld ! refl (stop !))) (store-in ! 4 (sub ! 1 refl (whole !)) (uint-lawful 𝓤 H A W w64 .typed k _ is-k .0)) $ drop ! $
+        land ! (from ! (fld ! refl (stop !))) (store-in ! 4 (sub ! 1 refl (whole !)) (uint-lawful 𝓤 H A W w64 .typed k _ is-k .0))
+        $ drop ! $
         assigns ! (of-opd ! (load ! (from ! (stop !)) (look ! 3 refl))) (from ! (stop !))
         (init ! 7 refl (tt, (wt .1 .0, (record { fits = is-k .1 }, tt)))) $
-        use2 W (raw (meant 𝓤 H A seven′.ended (reads 7) .pre (to-read k, tt)) ⊛ ‵ (Bytes 𝓤 H A W κ q d))
-        (hands-reader 𝓤 H A W κ q d [] tt tt tt tt k (is-k .1)) $ split ! $
+        use2 W (raw (meant 𝓤 H A seven′.ended (reads 7) .pre (to-read k, tt)) ⊛ ‵ (Bytes κ d))
+        (hands-reader 𝓤 H A κ W d q [] tt tt tt tt k (is-k .1)) $ split ! $
         asks ! fm seven′.ended (reads 7) k-seven (to-read k) N′.lowered (N′.lowers .val-is)
         (and-then ! (load ! (from ! (stop !)) (look ! 7 refl)) (no-more !)) (λ p e-p is-p.
         land ! (from ! (stop !)) (init ! 6 refl (EL.lawful N.the-type N′.the-laws 𝓤 H A W tt .typed p _ is-p .0)) $ drop ! $
@@ -134,11 +139,12 @@ module _ {M : Type 1} (𝓤 : URA M) (H : Heap 𝓤) (A : Atoms 𝓤) (W : Given
         (uint-tells w64) (id⊢ 𝓤 _) (mk, (mk, tt)) (isn, (is-p, tt))
         (and-then ! (load ! (from ! (stop !)) (look ! 5 refl)) (and-then ! (load ! (from ! (stop !)) (look ! 6 refl)) (no-more !)))
         (λ i e-i is-i.
-        land ! (from ! (fld ! refl (stop !))) (store-in ! 4 (sub ! 1 refl (whole !)) (uint-lawful 𝓤 H A W w64 .typed i _ is-i .0)) $ drop ! $
+        land ! (from ! (fld ! refl (stop !))) (store-in ! 4 (sub ! 1 refl (whole !)) (uint-lawful 𝓤 H A W w64 .typed i _ is-i .0))
+        $ drop ! $
         assigns ! (of-opd ! (load ! (from ! (stop !)) (look ! 3 refl))) (from ! (stop !))
         (init ! 8 refl (tt, (wt .1 .0, (record { fits = is-i .1 }, tt)))) $
-        use2 W (raw (meant 𝓤 H A ten′.ended (reads 10) .pre (to-read i, tt)) ⊛ ‵ (Bytes 𝓤 H A W κ q d))
-        (hands-reader 𝓤 H A W κ q d [] tt tt tt tt i (is-i .1)) $ split ! $
+        use2 W (raw (meant 𝓤 H A ten′.ended (reads 10) .pre (to-read i, tt)) ⊛ ‵ (Bytes κ d))
+        (hands-reader 𝓤 H A κ W d q [] tt tt tt tt i (is-i .1)) $ split ! $
         asks ! fm ten′.ended (reads 10) k-ten (to-read i) N′.lowered (N′.lowers .val-is)
         (and-then ! (load ! (from ! (stop !)) (look ! 8 refl)) (no-more !)) (λ j e-j is-j.
         land ! (from ! (stop !)) (init ! 7 refl (EL.lawful N.the-type N′.the-laws 𝓤 H A W tt .typed j _ is-j .0)) $ drop ! $

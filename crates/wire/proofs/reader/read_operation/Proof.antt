@@ -18,7 +18,6 @@ use types.Kit.{Given, ‵, raw, _⊛_, ⋆, atRet, _$_, _∵_, !, qed, by, move,
 use types.Run.{look, init, forget, stop, from, load, of-opd, and-then, no-more, assigns, land, first, skips, branches, returns}
 use types.Run.{returns-within, enter, exec, alloc1, alloc0, params1, pass1, pass0, free1, free0}
 use sound.WpLaws.{FmC, fmOf}
-use denote.Laws.{Is}
 use denote.Plain.{bool-lawful, bool-tells}
 use denote.Ref.{now}
 use denote.Signature.{plain, namedLft}
@@ -38,7 +37,8 @@ use Rattle.wire.specs.declared.reader.Number.{Number}
 use Rattle.wire.specs.Reader.{PlainIs, plainOf, indicesAt, ReadIs}
 use Rattle.wire.proofs.Asking.{Said, saying, meant, asks, asks-plain, met-by}
 use Rattle.wire.proofs.Reading.{plain-read, indices-read}
-use Rattle.wire.proofs.reader.Widths.{B, Token, Bytes, takes-bytes, hands-reader, reads}
+use Rattle.wire.proofs.Held.{B, Bytes, Token, takes-bytes, hands-reader}
+use Rattle.wire.proofs.reader.Widths.{reads}
 use Rattle.wire.proofs.reader.OperationReader as T
 use Rattle.wire.proofs.reader.OperationReader.Laws as T′
 use Rattle.wire.proofs.reader.OperationRead as S
@@ -95,13 +95,14 @@ module _ {M : Type 1} (𝓤 : URA M) (H : Heap 𝓤) (A : Atoms 𝓤) (W : Given
   Post = walkOf 𝓤 H A own.ended stayed (saying 𝓤 own.ended says-own) .post (entry, tt)
 
   exits : (r : OperationRead) → says-own (κ, tt) (d, tt) r
-      → ent 𝓤 (⋆ 𝓤 H A (‵ (S.the-row .own r (S′.lowered r ∷ [])) ∷ Token 𝓤 H A W κ q d ∷ [])) (Post (S′.lowered r))
+      → ent 𝓤 (⋆ 𝓤 H A (‵ (S.the-row .own r (S′.lowered r ∷ [])) ∷ raw (Token 𝓤 H A κ q) ∷ [])) (Post (S′.lowered r))
   exits r e =
-      qed W (‵ (S.the-row .own r (S′.lowered r ∷ [])) ∷ Token 𝓤 H A W κ q d ∷ []) ∵
+      qed W (‵ (S.the-row .own r (S′.lowered r ∷ [])) ∷ raw (Token 𝓤 H A κ q) ∷ []) ∵
       suffices ! _ (ends-at 𝓤 H A own.ended stayed (saying 𝓤 own.ended says-own) W (entry, tt) (S′.lowered r) r (tt, tt) (tt, tt))
       $ says ! e $ move ! (1 ∷ []) $ frame ! $ nothing ! $ nothing ! $ fjoin ! $ done !
 
-  module _ (C : Calls 𝓤 H) (Λ : Loops 𝓤 H) (fm : FmC 𝓤 H (W .laws) C) (k-three : Triple 𝓤 (C three-def.name) (meant 𝓤 H A three′.ended (reads 3)))
+  module _ (C : Calls 𝓤 H) (Λ : Loops 𝓤 H) (fm : FmC 𝓤 H (W .laws) C)
+      (k-three : Triple 𝓤 (C three-def.name) (meant 𝓤 H A three′.ended (reads 3)))
       (k-is-plain : Triple 𝓤 (C is-plain-def.name) (meant 𝓤 H A is-plain′.ended says-is-plain))
       (k-plain-of : Triple 𝓤 (C plain-of-def.name) (meant 𝓤 H A plain-of′.ended says-plain-of))
       (k-indices : Triple 𝓤 (C indices-def.name) (meant 𝓤 H A indices′.ended says-indices)) where
@@ -111,15 +112,16 @@ module _ {M : Type 1} (𝓤 : URA M) (H : Heap 𝓤) (A : Atoms 𝓤) (W : Given
         let mk = EL.makes N.the-type N′.the-plain 𝓤 H A in
         let bs = now (d .bytes) in
         let fits = wt .1 .1 .0 .fits in
-        qed W (raw (onEntry 𝓤 H A own.signature (κ, tt) (q, tt) (entry .3) (entry .4)) ∷ []) ∵ enter ! C Λ code.function (T′.lowered d ∷ []) _ $
+        qed W (raw (onEntry 𝓤 H A own.signature (κ, tt) (q, tt) (entry .3) (entry .4)) ∷ []) ∵ enter ! C Λ code.function (T′.lowered d ∷ [])
+        _ $
         alloc1 ! (λ l₀. alloc1 ! (λ l₁. alloc1 ! (λ l₂. alloc1 ! (λ l₃. alloc1 ! (λ l₄. alloc1 ! (λ l₅. alloc0 ! $ params1 ! $
         pass1 ! (init ! 8 refl wt) $ pass0 ! $
-        move ! (12 ∷ []) $ use1 W (Token 𝓤 H A W κ q d ⊛ ‵ (Bytes 𝓤 H A W κ q d)) (takes-bytes 𝓤 H A W κ q d [] tt tt) $ split ! $
+        move ! (12 ∷ []) $ use1 W (raw (Token 𝓤 H A κ q) ⊛ ‵ (Bytes κ d)) (takes-bytes 𝓤 H A κ W d q [] tt tt) $ split ! $
         keep ! (0 ∷ 1 ∷ 12 ∷ 10 ∷ 8 ∷ 6 ∷ 4 ∷ 2 ∷ 13 ∷ 11 ∷ 9 ∷ 7 ∷ 5 ∷ 3 ∷ []) $
         -- the code
         assigns ! (of-opd ! (load ! (from ! (stop !)) (look ! 3 refl))) (from ! (stop !)) (init ! 5 refl wt) $
-        use2 W (raw (meant 𝓤 H A three′.ended (reads 3) .pre (entry, tt)) ⊛ ‵ (Bytes 𝓤 H A W κ q d))
-        (hands-reader 𝓤 H A W κ q d [] tt tt tt tt (d .at) fits) $ split ! $
+        use2 W (raw (meant 𝓤 H A three′.ended (reads 3) .pre (entry, tt)) ⊛ ‵ (Bytes κ d))
+        (hands-reader 𝓤 H A κ W d q [] tt tt tt tt (d .at) fits) $ split ! $
         asks ! fm three′.ended (reads 3) k-three entry N′.lowered (N′.lowers .val-is)
         (and-then ! (load ! (from ! (stop !)) (look ! 5 refl)) (no-more !)) (λ n e-n is-n.
         land ! (from ! (stop !)) (init ! 5 refl (EL.lawful N.the-type N′.the-laws 𝓤 H A W tt .typed n _ is-n .0)) $ drop ! $
@@ -128,7 +130,8 @@ module _ {M : Type 1} (𝓤 : URA M) (H : Heap 𝓤) (A : Atoms 𝓤) (W : Given
         land ! (from ! (stop !)) (init ! 7 refl (bool-lawful 𝓤 H A W .typed b _ is-b .0)) $ drop ! $
         first ! $ branches ! (load ! (from ! (stop !)) (look ! 6 refl)) (λ yes′.
         -- the code alone
-        asks-plain ! fm plain-of′.ended says-plain-of k-plain-of (tt, tt, tt, (n, tt), (N′.lowered n ∷ [], tt)) S′.lowered (S′.lowers .val-is)
+        asks-plain ! fm plain-of′.ended says-plain-of k-plain-of (tt, tt, tt, (n, tt), (N′.lowered n ∷ [], tt)) S′.lowered
+        (S′.lowers .val-is)
         (id⊢ 𝓤 _) (mk, tt) (is-n, tt) (and-then ! (load ! (from ! (stop !)) (look ! 5 refl)) (no-more !)) (λ r e-r is-r.
         land ! (from ! (stop !)) (init ! 3 refl (EL.lawful S.the-type S′.the-laws 𝓤 H A W tt .typed r _ is-r .0)) $
         returns-within ! Post refl (look ! 3 refl) $ forget ! 3 refl $ forget ! 4 refl $ forget ! 5 refl $ forget ! 6 refl
@@ -139,8 +142,8 @@ module _ {M : Type 1} (𝓤 : URA M) (H : Heap 𝓤) (A : Atoms 𝓤) (W : Given
         -- the indices after it
         exec ! C Λ _ pieces.t-5 (atRet _ Post) $
         assigns ! (of-opd ! (load ! (from ! (stop !)) (look ! 3 refl))) (from ! (stop !)) (init ! 7 refl wt) $
-        use2 W (raw (meant 𝓤 H A indices′.ended says-indices .pre (to-indices n, tt)) ⊛ ‵ (Bytes 𝓤 H A W κ q d))
-        (hands-reader 𝓤 H A W κ q d (N.the-row ∷ []) (n, tt) (N′.lowered n ∷ [], tt) (mk, tt) (is-n, tt) (d .at) fits) $ split ! $
+        use2 W (raw (meant 𝓤 H A indices′.ended says-indices .pre (to-indices n, tt)) ⊛ ‵ (Bytes κ d))
+        (hands-reader 𝓤 H A κ W d q (N.the-row ∷ []) (n, tt) (N′.lowered n ∷ [], tt) (mk, tt) (is-n, tt) (d .at) fits) $ split ! $
         asks ! fm indices′.ended says-indices k-indices (to-indices n) S′.lowered (S′.lowers .val-is)
         (and-then ! (load ! (from ! (stop !)) (look ! 7 refl)) (and-then ! (load ! (from ! (stop !)) (look ! 4 refl)) (no-more !)))
         (λ r e-r is-r.
