@@ -3,18 +3,18 @@
 use Prim.Native.Nat.{ℕ, zero, suc, _+_, _-_, _*_, _≤_, _<_}
 use native.Mathlib.Nat.{mul-comm, zero-mul, one-mul}
 use native.Mathlib.Omega.{arith}
-use mathlib.Core.Bool.{Bool, true, false, _&&_, and-comm, false≢true}
+use mathlib.Core.Bool.{Bool, true, false}
 use mathlib.Core.List.{List, [], _∷_}
-use mathlib.Core.Path.{_≡_, refl, sym, ap, _∙_, subst}
+use mathlib.Core.Path.{_≡_, refl, sym, _∙_}
 use lib.Dec.{eqb}
 use borrow.Author.Tests.{eqb-true, eqb-false, eq-eqb, ne-eqb}
 use Rattle.rules.specs.declared.Triangle.{Triangle}
 use Rattle.rules.specs.Triangle.{Edge, edge, corners, edgesOf}
-use Rattle.rules.specs.Count.{num, same, hit, occurs, count, uses, different, pairs}
+use Rattle.rules.specs.Count.{same, hit, occurs, count, uses, different, pairs}
 use Rattle.rules.specs.Table.{Side, glued, fresh, sideRule}
 use Rattle.rules.specs.Machine.{freshSides}
 use Rattle.counting.proofs.Bools.{and-left, and-right, and-no}
-use Rattle.counting.proofs.Counts.{same-yes, same-no, same-is, hit-yes, hit-from, hit-to, hit-swap, no-from, no-to, at-edge, hit-once}
+use Rattle.counting.proofs.Counts.{same-yes, same-is, hit-yes, hit-from, hit-to, hit-swap, no-from, no-to, at-edge}
 use Rattle.counting.proofs.Counts.{apart-from, apart-to}
 
 -- the open edges O and the declared ones B are the model's, whose directed edges are D

@@ -7,7 +7,6 @@ ghost use Prim.Native.Nat.{_+_, _*_, _/_, _≤_, _<_};
 ghost use mathlib.Core.Path.{_≡_};
 ghost use lib.ListN.{length};
 ghost use Rattle.rules.specs.Limits.{maxNumbers, maxVertices};
-ghost use Rattle.rules.specs.Triangle.{corners};
 ghost use Rattle.mesh_theory.specs.Chains.Corner.{cornerAfter, cornerBefore, seenFrom};
 ghost use Rattle.mesh_theory.specs.Chains.Linked.{Chains, Finds, Newest, Older, linked, linkable, relinked, Sound, AllLinked};
 ghost use Rattle.mesh_theory.specs.Chains.Linked.{FreeIs, NewIs};

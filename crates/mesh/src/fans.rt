@@ -7,7 +7,7 @@ use corners::newest;
 use corners::older;
 use rules::Across;
 use rules::VERTICES;
-ghost use Prim.Native.Nat.{_+_, _*_, _/_, _≤_, _<_};
+ghost use Prim.Native.Nat.{_+_, _*_, _≤_, _<_};
 ghost use mathlib.Core.Path.{_≡_};
 ghost use Rattle.rules.specs.Limits.{maxVertices};
 ghost use Rattle.rules.specs.Triangle.{trianglesOf};

@@ -11,7 +11,7 @@ use cutborder::RECORDS;
 use rules::Place;
 ghost use mathlib.Core.Path.{_≡_};
 ghost use Prim.Native.Nat.{ℕ, _+_, _*_, _<_, _≤_};
-ghost use lib.ListN.{length, getD, set};
+ghost use lib.ListN.{length, getD};
 ghost use Rattle.rules.specs.Limits.{maxPlaces};
 ghost use Rattle.rules.specs.View.{placeAt};
 ghost use Rattle.border_theory.specs.Records.Changes.{linkedAt, freedAt, clearedTo};

@@ -18,7 +18,7 @@ use Rattle.rules.specs.Limits.{maxPlaces, inRange}
 use Rattle.rules.specs.Count.{occurs}
 use Rattle.rules.specs.Check.{allBelow}
 use Rattle.rules.specs.Table.{Effect, not-allowed, builds, marks, effect}
-use Rattle.rules.specs.Machine.{Machine, empty, Step, refused, begun, built, declared, finished, longEnough, within, done, operation}
+use Rattle.rules.specs.Machine.{Machine, empty, Step, refused, begun, built, declared, finished, longEnough, done, operation}
 use Rattle.rules.specs.Machine.{beginning, finishing}
 use Rattle.rules.specs.Answer.{Answer, accepted, checkedAnswer, begunAnswer}
 use Rattle.rules.specs.Book.{operate, finish, Book, recounted, emptyBook, entered, answerOf, after, isAccepted}

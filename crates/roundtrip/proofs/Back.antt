@@ -9,7 +9,6 @@ use lib.ListN.{length, take, drop, getD, replicate, length-append}
 use lib.Seq.{take-at}
 use lib.Dec.{eqb, ltb}
 use borrow.Author.Tests.{eqb-true, ltb-true, le-leb}
-use Rattle.rules.specs.declared.Triangle.{Triangle}
 use Rattle.rules.specs.declared.Counts.{Counts}
 use Rattle.rules.specs.declared.Model.{Model}
 use Rattle.rules.specs.declared.Operation.{Operation}

@@ -356,7 +356,8 @@ callsRight =
 
 pub calls : T (callsRight && differRight && loneRight && peaksRight && fansRight)
 unfolding differRight loneRight peaksRight fansRight about leaving entering turnOn turnBack oneRun oneFanEach same hit corners edgesOf
-    numbersOf occurs count allBelow allOpen vertexAt lastOpen lastVertex front onward reached places loopAt without allowed inOrder atEdge atRest
+    numbersOf occurs count allBelow allOpen vertexAt lastOpen lastVertex front onward reached places loopAt without allowed inOrder atEdge
+    atRest
     effect test done beginning finishing follow followed placesOf nodes loopsOf trianglesBuilt view sizesOf apart placesFit loopsFit
     linksFit sound equal equalPlaces cleared callsRight
 calls = tt

@@ -1,22 +1,19 @@
 -- What the packing's core promises, carried to the lent list of place records.
 -- Assumes nothing.
 use Prim.Native.Nat.{ℕ, _≤_}
-use mathlib.Core.Bool.{Bool, true, false}
+use mathlib.Core.Bool.{Bool}
 use mathlib.Core.List.{List}
-use mathlib.Core.Path.{_≡_, refl, sym, ap, _∙_}
+use mathlib.Core.Path.{_≡_, sym, _∙_}
 use lib.ListN.{length}
 use Rattle.rules.specs.declared.Place.{Place}
 use Rattle.rules.specs.declared.Packed.{Packed}
-use Rattle.rules.specs.Limits.{maxPlaces}
 use Rattle.rules.specs.Check.{check}
 use Rattle.rules.specs.Answer.{packedAnswer}
-use Rattle.rules.specs.Buffer.{cleared}
 use Rattle.rules.specs.Pack.{pack}
 use Rattle.border_theory.specs.Records.Plain.{counted}
 use Rattle.border_theory.specs.Records.Changes.{clearedTo}
-use Rattle.border_theory.proofs.Records.Clearing.{cleared-to}
 use Rattle.pack_theory.specs.Packing.Lent.{packOn, isPast, clearedBy, PackedOn}
-use Rattle.pack_theory.proofs.Packing.Lending.{Alike, clearedIf, lentTo, lend-pack, lend-places, past-long}
+use Rattle.pack_theory.proofs.Packing.Lending.{Alike, lentTo, lend-pack, lend-places, past-long}
 use Rattle.pack_theory.proofs.Packing.Clearing.{packed-clears}
 use Rattle.promises.specs.Promises.{Packs}
 use Rattle.service.proofs.Laws.{counted-long, fits-after, places-after}

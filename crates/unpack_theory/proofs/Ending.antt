@@ -1,9 +1,9 @@
 -- The end of a run: the model is complete; 19, 20, or the answer and the triangles as built.
 -- Assumes nothing.
-use Prim.Native.Nat.{ℕ, zero, _+_, _-_, _*_, _/_, _<_}
+use Prim.Native.Nat.{ℕ, _+_, _-_, _*_, _/_, _<_}
 use native.Mathlib.Omega.{arith}
 use mathlib.Core.Bool.{Bool, true, false, _&&_}
-use mathlib.Core.List.{List, [], _++_}
+use mathlib.Core.List.{List, _++_}
 use mathlib.Core.Path.{_≡_, sym, ap, ap₂, _∙_, subst}
 use lib.ListN.{length, getD, take, drop, take-append-drop}
 use lib.Seq.{length-take-le, getD-take}
@@ -18,7 +18,7 @@ use Rattle.rules.specs.Fan.{about, oneRun, oneFanEach}
 use Rattle.rules.specs.Machine.{Machine, complete, asStated, totals}
 use Rattle.rules.specs.Answer.{Answer, refusal, unpacked}
 use Rattle.rules.specs.Buffer.{over}
-use Rattle.rules.specs.Unpack.{Ran, numbersOf}
+use Rattle.rules.specs.Unpack.{numbersOf}
 use Rattle.book.proofs.Bounds.{bounded-ranges}
 use Rattle.mesh_theory.specs.Chains.Linked.{Linked}
 use Rattle.mesh_theory.proofs.Chains.Linking.{chains-same}

@@ -1,6 +1,6 @@
 -- Of the place list an unpacking's answer and triangles depend on its length only; and the answer of a run gives the unpacking's.
 -- Assumes nothing.
-use Prim.Native.Nat.{ℕ, zero, _+_, _*_, _≤_, _<_}
+use Prim.Native.Nat.{ℕ, _+_, _*_, _≤_, _<_}
 use native.Mathlib.Omega.{arith}
 use mathlib.Core.Bool.{Bool, true, false, _&&_}
 use mathlib.Core.List.{List, [], _++_}
@@ -16,7 +16,7 @@ use Rattle.rules.specs.declared.Unpacked.the-variants as U
 use Rattle.rules.specs.Limits.{maxPlaces, inRange}
 use Rattle.rules.specs.Fan.{oneFanEach}
 use Rattle.rules.specs.Machine.{Machine, asStated, totals, longEnough}
-use Rattle.rules.specs.Answer.{Answer, refusal, unpacked, unpackedAnswer}
+use Rattle.rules.specs.Answer.{refusal, unpacked, unpackedAnswer}
 use Rattle.rules.specs.Buffer.{freePlace, over, zeroed, cleared, Buffers, lengths}
 use Rattle.rules.specs.Fields.{Fields, no-pack, fields, fieldsOf}
 use Rattle.rules.specs.Unpack.{Ran, stopped, completed, runOf, numbersOf, restFits, UnpackResult, turnedDown, unpackRefused, unpackDone}

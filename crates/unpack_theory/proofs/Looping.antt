@@ -6,12 +6,12 @@ use mathlib.Core.List.{List}
 use mathlib.Core.Path.{_≡_, refl, sym, _∙_, subst}
 use Rattle.rules.specs.declared.Counts.{Counts}
 use Rattle.rules.specs.Machine.{Machine, complete}
-use Rattle.rules.specs.Unpack.{Ran, stopped, runAll}
+use Rattle.rules.specs.Unpack.{Ran, runAll}
 use Rattle.cutborder.specs.declared.Front.{Front}
 use Rattle.cutborder.specs.declared.Stepped.{Stepped}
 use Rattle.cutborder.specs.declared.Stepped.the-variants.{Going, Refused}
 use Rattle.unpack_theory.specs.Turn.{turn}
-use Rattle.unpack_theory.specs.Runs.{Runs, bitsFrom, Steps, StepOf, Comes, ComesFrom, Ends, RunOf, Ended}
+use Rattle.unpack_theory.specs.Runs.{Runs, bitsFrom, Steps, StepOf, ComesFrom, Ends, RunOf, Ended}
 use Rattle.border_theory.specs.Memory.Finish.{isComplete}
 use Rattle.unpack_theory.proofs.Turns.{ran-complete, ran-stops, ran-goes, ran-out}
 use Rattle.border_theory.proofs.Memory.Finish.{complete-same}

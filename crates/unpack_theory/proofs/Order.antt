@@ -1,14 +1,14 @@
 -- The triangles in the order in which they were built, and the latest first: what is counted, and the fans, are the same.
 -- Assumes nothing.
-use Prim.Native.Nat.{ℕ, zero, suc, _+_, _*_, _≤_}
+use Prim.Native.Nat.{ℕ, _+_, _≤_}
 use native.Mathlib.Omega.{arith}
 use mathlib.Core.Bool.{Bool, true, false, _&&_}
 use mathlib.Core.List.{List, [], _∷_, _++_}
 use mathlib.Core.Path.{_≡_, refl, sym, ap, ap₂, _∙_, subst}
-use lib.ListN.{length, length-append}
+use lib.ListN.{length}
 use lib.Dec.{eqb}
 use Rattle.rules.specs.declared.Triangle.{Triangle}
-use Rattle.rules.specs.Triangle.{tri, distinct, trianglesOf, edge, edgesOf}
+use Rattle.rules.specs.Triangle.{distinct, trianglesOf, edgesOf}
 use Rattle.rules.specs.Count.{count, uses, unjoined}
 use Rattle.rules.specs.Table.{Side, glued, fresh, sideRule, edgeRule}
 use Rattle.rules.specs.Fan.{about, OneFan, oneRun, oneFanEach}

@@ -8,7 +8,7 @@ use borrow.Author.Tests.{not-true, not-false}
 use Rattle.rules.specs.declared.Triangle.{Triangle}
 use Rattle.rules.specs.declared.Operation.{Operation}
 use Rattle.rules.specs.Triangle.{distinct}
-use Rattle.rules.specs.Table.{Side, glued, fresh, sideRule}
+use Rattle.rules.specs.Table.{sideRule}
 use Rattle.mesh_theory.specs.Fans.Corner.{Different}
 use Rattle.mesh_theory.proofs.Fans.Tests.{distinct-different}
 use Rattle.mesh_theory.specs.Chains.Corner.{firstTriangles}

@@ -2,14 +2,12 @@
 -- Assumes nothing.
 use Prim.Native.Nat.{ℕ, _*_, _≤_}
 use native.Mathlib.Omega.{arith}
-use mathlib.Core.Bool.{true, _&&_}
+use mathlib.Core.Bool.{true}
 use mathlib.Core.List.{List, []}
 use mathlib.Core.Path.{_≡_, refl}
 use lib.ListN.{length}
-use lib.Dec.{leb}
-use borrow.Author.Tests.{leb-true}
 use Rattle.rules.specs.declared.Counts.{Counts}
-use Rattle.rules.specs.Limits.{maxVertices, minVertices, maxTriangles, minPlaces, maxPlaces, maxLoops, vertexRange, between, inRange}
+use Rattle.rules.specs.Limits.{maxVertices, maxPlaces, inRange}
 use Rattle.rules.specs.Machine.{empty}
 use Rattle.rules.specs.Unpack.{numbersOf}
 use Rattle.book.proofs.Kept.{empty-consistent}
@@ -20,7 +18,6 @@ use Rattle.border_theory.proofs.Memory.Fresh.{fresh-keeps}
 use Rattle.choice_theory.proofs.OneFan.Steps.{fanned-empty}
 use Rattle.unpack_theory.specs.Met.{isMetIn}
 use Rattle.unpack_theory.specs.Runs.{Runs}
-use Rattle.counting.proofs.Bools.{and-left, and-right}
 use Rattle.counting.proofs.Ranges.{in-range}
 
 pub starts-empty : (c : Counts) → inRange c ≡ true → (m : List ℕ) → length m ≡ 5320 → (ts : List ℕ) → 3 * c .triangles ≤ length ts

@@ -2,12 +2,11 @@
 -- Assumes nothing.
 use Prim.Native.Nat.{ℕ, _+_, _-_, _*_, _≤_, _<_}
 use native.Mathlib.Omega.{arith}
-use mathlib.Core.Bool.{Bool, true, false, _&&_, false≢true}
-use mathlib.Core.List.{List, [], _∷_}
+use mathlib.Core.Bool.{Bool, true, false, false≢true}
+use mathlib.Core.List.{List, _∷_}
 use mathlib.Core.Path.{_≡_, refl, sym, ap, _∙_, subst}
 use lib.ListN.{length}
-use lib.Dec.{eqb, leb}
-use borrow.Author.Tests.{leb-true, eq-eqb}
+use borrow.Author.Tests.{eq-eqb}
 use Rattle.rules.specs.declared.Triangle.{Triangle}
 use Rattle.rules.specs.declared.Counts.{Counts}
 use Rattle.rules.specs.declared.Operation.{Operation}
@@ -15,10 +14,9 @@ use Rattle.rules.specs.declared.Operation.the-variants.{New, Forward, Backward,
 use Rattle.rules.specs.Limits.{maxPlaces, maxVertices, inRange}
 use Rattle.rules.specs.Triangle.{edge, trianglesOf, corners}
 use Rattle.rules.specs.Count.{occurs}
-use Rattle.rules.specs.Ring.{places}
-use Rattle.rules.specs.Code.{Read, breaks-off, read, readOperation}
+use Rattle.rules.specs.Code.{breaks-off, read, readOperation}
 use Rattle.rules.specs.Table.{Effect, not-allowed, builds, marks, effect, edgeRule}
-use Rattle.rules.specs.Machine.{Machine, Step, refused, begun, built, declared, finished, test, within, done, operation}
+use Rattle.rules.specs.Machine.{Machine, Step, refused, begun, built, declared, finished, test, done, operation}
 use Rattle.rules.specs.Book.{Book, entered}
 use Rattle.rules.specs.Unpack.{numbersOf}
 use Rattle.book.specs.Consistent.{Consistent, Ranges}
@@ -35,7 +33,7 @@ use Rattle.cutborder.specs.declared.Front.{Front}
 use Rattle.cutborder.specs.declared.Plan.{Plan}
 use Rattle.cutborder.specs.declared.Decided.{Decided}
 use Rattle.cutborder.specs.declared.Decided.the-variants as D
-use Rattle.border_theory.specs.Memory.Moves.{Held, markedHeld}
+use Rattle.border_theory.specs.Memory.Moves.{markedHeld}
 use Rattle.border_theory.specs.Memory.Decision.{proposed, proposedBy, restProposed, startPlan, roomFor, roomBy, decidedBy, decided, sideOf}
 use Rattle.border_theory.specs.Memory.Decision.{heldAfter, builtFront, markedFront}
 use Rattle.border_theory.specs.Memory.Keeps.{Ready, BuildsIt, MarksIt, Decides}
@@ -50,7 +48,6 @@ use Rattle.unpack_theory.specs.Rule.{ruleAt, RuleIs}
 use Rattle.unpack_theory.proofs.Order.{asBuilt, same-rule}
 use Rattle.unpack_theory.proofs.Writing.{numbers-more}
 use Rattle.unpack_theory.proofs.Meeting.{met-long, unmet-before}
-use Rattle.counting.proofs.Bools.{and-left, and-right}
 use Rattle.counting.proofs.Counts.{same-yes}
 use Rattle.counting.proofs.Ranges.{in-range, InRange}
 
@@ -255,7 +252,8 @@ module _ (M : Machine) (s : Front) (ts m cs ks : List ℕ) (g : Runs M s ts m cs
         })
 
     pub turn-built : (xs ops : List ℕ) (at′ : ℕ) → readOperation xs ≡ read o (bitsFrom ops at′) → (s′ : Front)
-        → s′ ≡ builtFront maxPlaces s p (heldAfter maxPlaces s m o p .loops) → (ts′ : List ℕ) → ts′ ≡ withTriangle (s .built) (p .triangle) ts
+        → s′ ≡ builtFront maxPlaces s p (heldAfter maxPlaces s m o p .loops) → (ts′ : List ℕ)
+        → ts′ ≡ withTriangle (s .built) (p .triangle) ts
         → (m′ : List ℕ) → m′ ≡ heldAfter maxPlaces s m o p .memory → (cs′ : List ℕ)
         → cs′ ≡ relinked cs (s .built) (p .triangle .p) (p .triangle .q) (p .triangle .r) → (ks′ : List ℕ)
         → ks′ ≡ metAfter ks o (p .triangle .r)

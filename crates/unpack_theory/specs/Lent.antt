@@ -7,7 +7,6 @@ use mathlib.Core.Path.{_≡_}
 use lib.ListN.{length, replicate}
 use lib.Dec.{leb}
 use Rattle.rules.specs.declared.Counts.{Counts}
-use Rattle.rules.specs.declared.Place.{Place}
 use Rattle.rules.specs.declared.Unpacked.{Unpacked}
 use Rattle.rules.specs.declared.Unpacked.the-variants as U
 use Rattle.rules.specs.Limits.{maxPlaces, inRange}

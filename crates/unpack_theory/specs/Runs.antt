@@ -1,9 +1,9 @@
 -- What holds throughout an unpacking's run: the state, the memory, the triangle buffer and the corner chains keep a machine, and the
 -- vertices that have been met are noted.
 -- Assumes nothing.
-use Prim.Native.Nat.{ℕ, _+_, _*_, _≤_}
+use Prim.Native.Nat.{ℕ, _*_, _≤_}
 use mathlib.Core.Bool.{Bool, true, false, _&&_}
-use mathlib.Core.List.{List, []}
+use mathlib.Core.List.{List}
 use mathlib.Core.Path.{_≡_}
 use lib.ListN.{length, take, drop}
 use Rattle.rules.specs.declared.Counts.{Counts}

@@ -50,15 +50,6 @@ written-more bs xs buffer h =
 pub length-over : (xs buffer : List ℕ) → length xs ≤ length buffer → length (over xs buffer) ≡ length buffer
 length-over xs buffer h = omega (arith, length-append xs (drop (length xs) buffer), length-drop (length xs) buffer)
 
-pub length-written : (buffer : List ℕ) (at : ℕ) (xs : List ℕ) → bytesFor (at + length xs) ≤ length buffer
-    → length (writtenAt buffer at xs) ≡ length buffer
-unfolding writtenAt
-length-written buffer at xs h =
-    let l : length (take at (bitsOfBytes buffer)) ≡ at =
-    length-take-le at (bitsOfBytes buffer) (omega (arith, length-bits-of-bytes buffer)) in
-    let ys = take at (bitsOfBytes buffer) ++ xs in
-    length-over (bytesOf ys) buffer (omega (arith, length-bytes ys, length-append (take at (bitsOfBytes buffer)) xs))
-
 -- ---- by bytes
 
 take-bytes : (k : ℕ) (bs : List ℕ) → take (8 * k) (bitsOfBytes bs) ≡ bitsOfBytes (take k bs)

@@ -2,7 +2,6 @@
 -- Assumes nothing.
 use Rattle.border_theory.proofs.Memory.Ready.{ready-proposes, ready-free}
 use Rattle.border.proofs.Deciding.{decided-by}
-use borrow.Author.Needs.{needs}
 use Rattle.border.proofs.decide.Statement.{statement}
 use Rattle.border.proofs.decide.Tie as tie
 

@@ -1,34 +1,24 @@
 -- The places after an operation; and what an operation that the table allows asks of the rings of places.
 -- Assumes nothing.
-use Prim.Native.Nat.{ℕ, suc, _+_, _-_, _≤_}
+use Prim.Native.Nat.{ℕ, suc, _+_, _-_}
 use native.Mathlib.Omega.{arith}
 use mathlib.Core.Bool.{Bool, true, false, _&&_}
 use mathlib.Core.List.{List, [], _∷_, _++_}
 use mathlib.Core.Path.{_≡_, refl, sym, ap, _∙_}
-use lib.ListN.{length, take, drop, take-append-drop}
+use lib.ListN.{length}
 use lib.Dec.{leb}
 use borrow.Author.Tests.{leb-true, ltb-true}
 use Rattle.rules.specs.declared.Operation.{Operation}
 use Rattle.rules.specs.declared.Operation.the-variants.{New, Forward, Backward, Border, Split, Close, Union, Start}
 use Rattle.rules.specs.Triangle.{Edge, edge}
-use Rattle.rules.specs.Count.{same}
-use Rattle.rules.specs.Ring.{Node, opened, marked, Ring, startOr, lastVertex, front, onward, shown, loopAt}
+use Rattle.rules.specs.Ring.{Node, marked, Ring, startOr, onward, shown, loopAt}
 use Rattle.rules.specs.Table.{Effect, not-allowed, builds, marks, allowed, marking, atEdge}
 use Rattle.rules.specs.Machine.{freshSides}
-use Rattle.book.specs.Sums.{pathSum, ringSum, loopsSum}
-use Rattle.book.proofs.Sums.{sum-append, sum-turn, front-last, sum-without, turned}
-use Rattle.book.proofs.Effects.{sum-order, split-low, split-high}
-use Rattle.border_theory.specs.Links.Held.{namedRing, namedLoops, placed}
-use Rattle.border_theory.proofs.Links.Stores.{placesAfter, Takes, Fits}
+use Rattle.book.proofs.Effects.{split-low, split-high}
+use Rattle.border_theory.specs.Links.Held.{namedRing, namedLoops}
+use Rattle.border_theory.proofs.Links.Stores.{Takes, Fits}
 use Rattle.border_theory.proofs.Links.Named.{named-length, named-lastOpen, named-loopAt, named-lives}
-use Rattle.border_theory.proofs.Links.Surgery.{end-free}
-use Rattle.border_theory.proofs.Links.Stored.{alive-sum}
 use Rattle.counting.proofs.Bools.{and-left, and-right}
-
-fewer-first : (g : ℕ → ℕ) (ps : List Node) (b : ℕ) → pathSum (λ p r o. g p) (drop 1 ps) b ≤ pathSum (λ p r o. g p) ps b
-unfolding pathSum
-fewer-first g [] b = omega arith
-fewer-first g (p ∷ ps) b = omega arith
 
 -- what holds if the effect is not a refusal
 abbrev pub Unless : Type 0 → Effect → Type 0

@@ -15,7 +15,7 @@ use Rattle.book.proofs.Sums.{start-append, sum-append}
 use Rattle.book.proofs.Effects.{sum-order}
 use Rattle.border_theory.specs.Links.Held.{Memory, Long, arc, arcHit, among, Holds, placed, Apart, stored}
 use Rattle.border_theory.proofs.Links.Relink.{arc-yes, relink}
-use Rattle.counting.proofs.Counts.{same-yes, same-no, same-once, same-two}
+use Rattle.counting.proofs.Counts.{same-yes, same-no, same-two}
 
 -- one free place more, or no place more
 apart-more : (ls new : List Ring) (q : ℕ) → Apart ls → placed q ls ≡ 0 → ((x : ℕ) → placed x new ≤ placed x ls + same x q) → Apart new

@@ -8,7 +8,7 @@ use mathlib.Core.Path.{_≡_, refl, sym, ap, subst}
 use lib.Dec.{eqb, leb}
 use Rattle.rules.specs.declared.Operation.{Operation}
 use Rattle.rules.specs.declared.Operation.the-variants.{New, Forward, Backward, Border, Split, Close, Union, Start}
-use Rattle.rules.specs.Count.{same, occurs}
+use Rattle.rules.specs.Count.{occurs}
 use Rattle.rules.specs.Ring.{Ring}
 use Rattle.border_theory.specs.Links.Held.{arc, placed}
 use Rattle.cutborder.specs.declared.Loops.{Loops}

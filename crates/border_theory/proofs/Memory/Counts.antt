@@ -13,7 +13,7 @@ use Rattle.rules.specs.Ring.{Node, Ring, startOr, places}
 use Rattle.rules.specs.Table.{Side, glued, fresh}
 use Rattle.rules.specs.Machine.{freshSides}
 use Rattle.book.specs.Sums.{pathSum, ringSum, loopsSum}
-use Rattle.book.proofs.Counting.{ifFresh, ifGlued}
+use Rattle.book.proofs.Counting.{ifGlued}
 use Rattle.book.proofs.Effects as effects
 use Rattle.border_theory.specs.Links.Held.{namedLoops}
 use Rattle.border_theory.proofs.Links.Named.{named-length}

@@ -6,8 +6,7 @@ use mathlib.Core.Bool.{Bool, true, false, _&&_}
 use mathlib.Core.List.{List, [], _∷_}
 use mathlib.Core.Path.{_≡_, refl, sym, ap, ap₂, _∙_, subst}
 use lib.ListN.{length}
-use lib.Dec.{leb}
-use borrow.Author.Tests.{leb-true, le-leb}
+use borrow.Author.Tests.{le-leb}
 use Rattle.rules.specs.declared.Triangle.{Triangle}
 use Rattle.rules.specs.declared.Counts.{Counts}
 use Rattle.rules.specs.declared.Operation.{Operation}
@@ -39,7 +38,6 @@ use Rattle.border_theory.proofs.Memory.Relinked.{Moved, current-names}
 use Rattle.border_theory.proofs.Memory.Counts.{places-named, places-after, places-sum, leb-same}
 use Rattle.border_theory.proofs.Memory.Proposing.{PlanIs, Proposes}
 use Rattle.border_theory.proofs.Memory.Proposed.{proposes}
-use Rattle.counting.proofs.Bools.{and-left, and-right}
 use Rattle.book.proofs.Bounds.{within-each, Within}
 
 -- how many loops and places stand

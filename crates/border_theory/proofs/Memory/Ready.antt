@@ -9,7 +9,6 @@ use lib.ListN.{length}
 use lib.Dec.{leb}
 use borrow.Author.Tests.{leb-true}
 use Rattle.rules.specs.declared.Counts.{Counts}
-use Rattle.rules.specs.Limits.{inRange, vertexRange, between, minVertices, maxVertices, minPlaces, maxPlaces, maxTriangles, maxLoops}
 use Rattle.rules.specs.Ring.{opened, marked, Ring, lastOpen}
 use Rattle.rules.specs.Machine.{Machine}
 use Rattle.book.specs.Consistent.{Ranges}

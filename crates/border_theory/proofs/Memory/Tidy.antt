@@ -2,8 +2,8 @@
 -- Assumes nothing.
 use Prim.Native.Nat.{ℕ}
 use mathlib.Core.Bool.{Bool, true, false}
-use mathlib.Core.List.{List, []}
-use mathlib.Core.Path.{_≡_, refl, sym, ap, subst}
+use mathlib.Core.List.{List}
+use mathlib.Core.Path.{_≡_, refl, sym, subst}
 use lib.Dec.{eqb}
 use borrow.Author.Tests.{eqb-false}
 use Rattle.rules.specs.declared.Operation.{Operation}
@@ -18,7 +18,7 @@ use Rattle.cutborder.specs.declared.Plan.{Plan}
 use Rattle.cutborder.specs.declared.Decided.{Decided}
 use Rattle.cutborder.specs.declared.Decided.the-variants.{Refused, Builds, Marks}
 use Rattle.border_theory.specs.Memory.Stands.{ringsIn}
-use Rattle.border_theory.specs.Memory.Moves.{Held, markedHeld}
+use Rattle.border_theory.specs.Memory.Moves.{markedHeld}
 use Rattle.border_theory.specs.Memory.Decision.{newPlan, forwardPlan, backwardPlan, splitPlan, closePlan, unionPlan, allowedIf}
 use Rattle.border_theory.specs.Memory.Decision.{restProposed, edgeProposed, proposedBy, proposed, roomFor, decidedBy, decided}
 use Rattle.border_theory.specs.Memory.Decision.{heldAfter, builtFront, markedFront}

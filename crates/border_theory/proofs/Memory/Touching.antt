@@ -5,7 +5,7 @@ use native.Mathlib.Omega.{arith}
 use mathlib.Core.Bool.{Bool, true, false}
 use mathlib.Core.List.{List, [], _∷_}
 use mathlib.Core.Path.{_≡_, refl, sym, _∙_, subst}
-use lib.ListN.{length, set, getD}
+use lib.ListN.{length, set}
 use lib.Dec.{eqb, leb}
 use lib.Seq.{getD-set-same, getD-set-other}
 use Rattle.rules.specs.declared.Operation.{Operation}
@@ -13,7 +13,7 @@ use Rattle.rules.specs.declared.Operation.the-variants.{New, Forward, Backward,
 use Rattle.cutborder.specs.declared.Loops.{Loops}
 use Rattle.border_theory.specs.Memory.Layout.{at, beforeOf, afterOf, openOf, edgeStored, edgesStored, freed, released, walked, waits}
 use Rattle.border_theory.specs.Memory.Layout.{movedDown}
-use Rattle.border_theory.specs.Memory.Moves.{Held, topFree, newHeld, forwardHeld, backwardHeld, endedBy, endedHeld, turnedBy}
+use Rattle.border_theory.specs.Memory.Moves.{topFree, newHeld, forwardHeld, backwardHeld, endedBy, endedHeld, turnedBy}
 use Rattle.border_theory.specs.Memory.Moves.{turnedHeld, cutBy, nextCut, lastCut, markedHeld, doubled, splitBy, splitHeld, unionHeld}
 use Rattle.border_theory.specs.Memory.Moves.{startHeld}
 use Rattle.border_theory.specs.Memory.Decision.{heldBy}

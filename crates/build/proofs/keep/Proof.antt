@@ -1,7 +1,6 @@
 -- `build::keep` is safe and ends. The measure is how many bytes are still to be moved.
 -- Assumes nothing.
-use Prim.Native.Nat.{_≤_, _-_, _+_}
-use native.Mathlib.Omega.{arith}
+use Prim.Native.Nat.{_≤_, _-_}
 use mathlib.Core.Path.{_≡_}
 use lib.ListN.{length}
 use borrow.Author.Needs.{needs}

@@ -1,7 +1,7 @@
 -- Under other numbers the triangles keep one fan at each vertex, so the machine's finish is not refused.
 -- Assumes nothing.
 use Prim.Native.Nat.{ℕ}
-use mathlib.Core.Bool.{Bool, true, _&&_}
+use mathlib.Core.Bool.{true, _&&_}
 use mathlib.Core.List.{List, [], _∷_}
 use mathlib.Core.Path.{_≡_, refl, sym, ap, _∙_, subst}
 use mathlib.Core.Logic.{_⊎_, inl, inr}
@@ -10,7 +10,7 @@ use lib.Dec.{eqb}
 use borrow.Author.Tests.{eq-eqb}
 use Rattle.rules.specs.declared.Triangle.{Triangle}
 use Rattle.rules.specs.Fan.{oneFanEach}
-use Rattle.rules.specs.Machine.{Machine, Step, finished, test, complete, asStated, totals, finishing}
+use Rattle.rules.specs.Machine.{Machine, finished, complete, asStated, totals, finishing}
 use Rattle.mesh_theory.specs.Fans.Corner.{at-p, at-q, at-r, In, here, there, Once}
 use Rattle.rules.specs.Fan.{Linked, Pair, endOf, Round, Neighbours}
 use Rattle.choice_theory.specs.Turn.{Unused}

@@ -17,7 +17,6 @@ use Rattle.rules.specs.declared.Checked.the-variants.{Accepted}
 use Rattle.rules.specs.Limits.{maxTriangles, minPlaces, maxPlaces, maxLoops, between, vertexRange, inRange}
 use Rattle.rules.specs.Fan.{oneFanEach}
 use Rattle.rules.specs.Check.{check}
-use Rattle.rules.specs.Ring.{Ring}
 use Rattle.rules.specs.Machine.{Machine, empty, Step, refused, begun, built, declared, finished, test, complete, asStated, totals}
 use Rattle.rules.specs.Machine.{finishing}
 use Rattle.rules.specs.Choice.{has}

@@ -7,7 +7,6 @@ use mathlib.Core.List.{List, [], _∷_, _++_}
 use mathlib.Core.Path.{_≡_, refl, sym, ap, _∙_, subst}
 use lib.ListN.{length, getD}
 use lib.Dec.{eqb}
-use borrow.Author.Tests.{eqb-true}
 use Rattle.rules.specs.declared.Triangle.{Triangle}
 use Rattle.rules.specs.declared.Across.{Across}
 use Rattle.rules.specs.declared.Across.the-variants.{Found, Nothing}
@@ -18,7 +17,6 @@ use Rattle.mesh_theory.specs.Chains.Linked.{Chains, Newest, Older, Finds
 use Rattle.mesh_theory.proofs.Chains.Prefix.{first-more, first-all, length-first}
 use Rattle.mesh_theory.proofs.Chains.Walking.{after-first, after-second, after-third, before-first, before-second, before-third}
 use Rattle.mesh_theory.proofs.Chains.Walking.{At, at-latest, at-found, at-more, at-none}
-use Rattle.counting.proofs.Bools.{and-left, and-right}
 use Rattle.mesh_theory.proofs.Fans.Finding.{pair}
 
 -- a triangle added at the end is looked at first

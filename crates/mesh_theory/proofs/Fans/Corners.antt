@@ -10,7 +10,7 @@ use Rattle.rules.specs.declared.Triangle.{Triangle}
 use Rattle.rules.specs.Triangle.{edgesOf}
 use Rattle.rules.specs.Count.{same, hit, count, uses}
 use Rattle.mesh_theory.specs.Fans.Corner.{Rot, at-p, at-q, at-r, In, here, there, Free, Different, sides, sidesOf}
-use Rattle.counting.proofs.Counts.{same-yes, same-no, same-is, hit-yes, hit-from, hit-swap, hit-is, no-from}
+use Rattle.counting.proofs.Counts.{same-yes, same-is, hit-yes, hit-swap, hit-is, no-from}
 
 -- a triangle seen from its next corner
 pub rot-next : {t : Triangle} {x y z : ℕ} → Rot t x y z → Rot t y z x

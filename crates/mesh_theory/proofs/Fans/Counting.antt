@@ -2,17 +2,17 @@
 -- Assumes nothing.
 use Prim.Native.Nat.{ℕ, zero, suc, _+_, _≤_, _<_}
 use native.Mathlib.Omega.{arith}
-use mathlib.Core.Bool.{Bool, true, false, _&&_, and-comm, false≢true}
+use mathlib.Core.Bool.{Bool, true, false}
 use mathlib.Core.List.{List, [], _∷_}
 use mathlib.Core.Logic.{_⊎_, inl, inr}
-use mathlib.Core.Path.{_≡_, refl, sym, ap, subst}
+use mathlib.Core.Path.{_≡_, refl, sym, subst}
 use lib.ListN.{length}
 use lib.Dec.{eqb}
-use borrow.Author.Tests.{eqb-true, eqb-false, eq-eqb, ne-eqb}
+use borrow.Author.Tests.{eqb-true, eqb-false}
 use Rattle.rules.specs.Triangle.{Edge, edge}
-use Rattle.rules.specs.Count.{num, same, hit, count}
+use Rattle.rules.specs.Count.{same, hit, count}
 use Rattle.mesh_theory.specs.Fans.Ways.{total, starts, ends, Apart}
-use Rattle.counting.proofs.Counts.{same-is, hit-yes, hit-from, hit-swap, hit-to, hit-is}
+use Rattle.counting.proofs.Counts.{hit-yes, hit-from, hit-to, hit-is}
 
 -- what holds for the last number and for those below it
 pub below-suc : (P : ℕ → Type 0) (n v : ℕ) → v < suc n → P n → (v < n → P v) → P v

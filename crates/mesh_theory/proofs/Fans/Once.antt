@@ -1,20 +1,20 @@
 -- The tests of 4 and 5 together, in the form in which links about a vertex use them.
 -- Assumes nothing.
-use Prim.Native.Nat.{ℕ, zero, suc, _+_, _≤_}
+use Prim.Native.Nat.{ℕ, zero, suc, _≤_}
 use native.Mathlib.Omega.{arith}
 use mathlib.Core.Bool.{true}
 use mathlib.Core.List.{List, [], _∷_}
 use mathlib.Core.Logic.{_↔_}
-use mathlib.Core.Path.{_≡_, refl, sym, _∙_}
+use mathlib.Core.Path.{_≡_, refl}
 use Rattle.rules.specs.declared.Triangle.{Triangle}
 use Rattle.rules.specs.Triangle.{distinct, edgesOf}
-use Rattle.rules.specs.Count.{same, count, uses}
+use Rattle.rules.specs.Count.{count, uses}
 use Rattle.rules.specs.Check.{allDistinct, noneTwice}
 use Rattle.mesh_theory.specs.Fans.Corner.{Rot, at-p, at-q, at-r, Free, Different, Once, sides, sidesOf}
 use Rattle.mesh_theory.proofs.Fans.Corners.{uses-rot, uses-cons, sides-yes, sides-rot, free-unused}
 use Rattle.mesh_theory.proofs.Fans.Tests.{distinct-different, distinct-first, distinct-rest, none-twice}
 use Rattle.counting.proofs.Bools.{and-both}
-use Rattle.counting.proofs.Counts.{same-once, same-no, same-is, hit-from, same-two}
+use Rattle.counting.proofs.Counts.{hit-from, same-two}
 
 pub sides-once : (x y a b c : ℕ) → Different a b c → sides x y a b c ≤ 1
 unfolding sides

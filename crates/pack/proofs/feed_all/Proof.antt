@@ -1,7 +1,6 @@
 -- `pack::feed_all` is safe and ends. The measure is what is left of the part.
 -- Assumes nothing.
 use Prim.Native.Nat.{_≤_, _-_}
-use native.Mathlib.Omega.{arith}
 use mathlib.Core.Path.{_≡_}
 use lib.ListN.{length}
 use borrow.Author.Needs.{needs}

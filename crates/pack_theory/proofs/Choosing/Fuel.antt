@@ -2,18 +2,18 @@
 -- Assumes nothing.
 use Prim.Native.Nat.{ℕ, zero, suc, _≤_}
 use native.Mathlib.Omega.{arith}
-use mathlib.Core.List.{List, _∷_}
+use mathlib.Core.List.{List}
 use mathlib.Core.Path.{_≡_, refl, sym, _∙_, subst}
 use mathlib.Core.Logic.{_⊎_, inl, inr}
 use lib.ListN.{length}
 use Rattle.rules.specs.declared.Triangle.{Triangle}
 use Rattle.rules.specs.Choice.{turnIn, turnOut}
-use Rattle.mesh_theory.specs.Fans.Corner.{In, here, there, Once}
+use Rattle.mesh_theory.specs.Fans.Corner.{In, Once}
 use Rattle.mesh_theory.proofs.Fans.Corners.{in-next}
 use Rattle.choice_theory.specs.Turn.{Unused}
-use Rattle.choice_theory.proofs.Turning.Links.{in-last, once-func, free-rot}
+use Rattle.choice_theory.proofs.Turning.Links.{in-last, once-func}
 use Rattle.choice_theory.proofs.Turning.Ways.{across-some, across-none, others, others-length, others-sub, others-once, others-free}
-use Rattle.choice_theory.proofs.Turning.Ways.{rot-mid, look, others-in}
+use Rattle.choice_theory.proofs.Turning.Ways.{look, others-in}
 use Rattle.choice_theory.proofs.Turning.Taking.{free-1}
 
 -- a turn that ends at once

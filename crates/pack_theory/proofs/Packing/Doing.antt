@@ -17,7 +17,7 @@ use Rattle.rules.specs.Triangle.{tri, distinct, Edge, edge, edgesOf}
 use Rattle.rules.specs.Count.{count}
 use Rattle.rules.specs.Ring.{Ring, places}
 use Rattle.rules.specs.Table.{Side, glued, fresh, builds, marks, effect, sideRule, edgeRule}
-use Rattle.rules.specs.Machine.{Machine, afterBuild, afterMark, Step, refused, built, declared, test, within, done, operation}
+use Rattle.rules.specs.Machine.{Machine, afterBuild, afterMark, refused, built, declared, test, within, done, operation}
 use Rattle.book.proofs.Parts.{buildingOf, markingOf}
 use Rattle.book.specs.Consistent.{Ranges}
 use Rattle.choice_theory.proofs.Steps.Operating.{within-of}

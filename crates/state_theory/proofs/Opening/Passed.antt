@@ -16,7 +16,7 @@ use Rattle.rules.specs.Count.{num, occurs}
 use Rattle.rules.specs.Machine.{longEnough}
 use Rattle.rules.specs.Buffer.{lengths}
 use Rattle.rules.specs.Build.{viewed}
-use Rattle.rules.specs.View.{placeRings, placesOf, loopsOf, trianglesBuilt, view}
+use Rattle.rules.specs.View.{placeRings, placesOf, loopsOf, view}
 use Rattle.rules.specs.Sound.{countsFit, sumsFit, linksFit, trianglesFit, sound}
 use Rattle.book.specs.Consistent.{AllCurrent}
 use Rattle.border_theory.specs.Links.Held.{Memory, Holds, placed, namedLoops}

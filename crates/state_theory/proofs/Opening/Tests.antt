@@ -4,13 +4,12 @@ use Prim.Native.Nat.{ℕ, zero, suc, _+_, _-_, _*_, _≤_, _<_}
 use native.Mathlib.Omega.{arith}
 use mathlib.Core.Bool.{Bool, true, false, _&&_}
 use mathlib.Core.List.{List}
-use mathlib.Core.Path.{_≡_, refl, sym, ap, _∙_}
+use mathlib.Core.Path.{_≡_, sym, ap, _∙_}
 use lib.Dec.{leb}
 use lib.ListN.{length, getD}
 use borrow.Author.Tests.{leb-true, le-leb, lt-leb}
 use Rattle.rules.specs.declared.Builder.{Builder}
-use Rattle.rules.specs.declared.Counts.{Counts}
-use Rattle.rules.specs.Limits.{inRange, vertexRange, between, minPlaces, maxPlaces, maxTriangles}
+use Rattle.rules.specs.Limits.{inRange, maxPlaces}
 use Rattle.rules.specs.Machine.{longEnough}
 use Rattle.rules.specs.Sound.{sizesOf, countsFit, sumsFit, trianglesFit}
 use Rattle.state_theory.specs.Opening.Marks.{numbersFit}

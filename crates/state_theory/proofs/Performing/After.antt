@@ -2,12 +2,10 @@
 -- Assumes nothing.
 use Prim.Native.Nat.{_≤_, _<_, max}
 use native.Mathlib.Omega.{arith}
-use mathlib.Core.Bool.{true, _&&_}
+use mathlib.Core.Bool.{true}
 use mathlib.Core.List.{_∷_}
 use mathlib.Core.Path.{_≡_, refl}
 use lib.ListN.{length}
-use lib.Dec.{leb}
-use borrow.Author.Tests.{leb-true}
 use Rattle.rules.specs.declared.Triangle.{Triangle}
 use Rattle.rules.specs.declared.Operation.{Operation}
 use Rattle.rules.specs.Ring.{places}
@@ -17,7 +15,6 @@ use Rattle.book.specs.Consistent.{AllCurrent}
 use Rattle.book.specs.Numbers.{LoopsBelow}
 use Rattle.book.proofs.Kept.{test-law}
 use Rattle.book.proofs.Numbers.{below-built, below-marked}
-use Rattle.counting.proofs.Bools.{and-left, and-right}
 
 -- the machine m comes after M: within what is stated, its loops' vertices below the count so far, both peaks taken after the operation
 pub record Next (M m : Machine) : Type 0 where

@@ -20,7 +20,7 @@ use Rattle.rules.specs.Places.{ringsAfter}
 use Rattle.rules.specs.Machine.{Machine, Step, refused, begun, built, declared, finished, operation, finishing, longEnough}
 use Rattle.rules.specs.Book.{answerOf}
 use Rattle.rules.specs.Buffer.{freePlace, Buffers, lengths}
-use Rattle.rules.specs.View.{placeAt, placesOf, view}
+use Rattle.rules.specs.View.{placeAt, placesOf}
 use Rattle.rules.specs.Sound.{countsFit, apart, placesFit, loopsFit, linksFit, trianglesFit, sound, soundElse}
 use Rattle.rules.specs.Build.{viewed, operates, finishes, withTriangle, Leaves, OperatedBy}
 use Rattle.border_theory.specs.Links.Held.{placed}

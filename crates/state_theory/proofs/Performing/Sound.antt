@@ -2,7 +2,7 @@
 -- Assumes nothing.
 use Prim.Native.Nat.{ℕ, zero, suc, _+_, _*_, _≤_}
 use native.Mathlib.Omega.{arith}
-use mathlib.Core.Bool.{Bool, true, false, _&&_}
+use mathlib.Core.Bool.{true, _&&_}
 use mathlib.Core.List.{List, [], _∷_}
 use mathlib.Core.Path.{_≡_, refl, ap, ap₂}
 use lib.ListN.{length, getD}
@@ -12,7 +12,7 @@ use Rattle.rules.specs.declared.Place.{Place}
 use Rattle.rules.specs.declared.Builder.{Builder}
 use Rattle.rules.specs.Limits.{maxPlaces, inRange}
 use Rattle.rules.specs.Check.{allBelow}
-use Rattle.rules.specs.Ring.{opened, marked, vertex, places}
+use Rattle.rules.specs.Ring.{vertex, places}
 use Rattle.rules.specs.Machine.{longEnough}
 use Rattle.rules.specs.Buffer.{Buffers, lengths}
 use Rattle.rules.specs.View.{placeAt, follow, nodes, loopPlaces, placesOf, loopsOf, trianglesBuilt, view}

@@ -31,8 +31,12 @@ pub written-next : (xs : List ℕ) (n : ℕ) (t : Triangle) → 3 * n + 3 ≤ le
     → trianglesBuilt (withTriangle n t xs) (suc n) ≡ t ∷ trianglesBuilt xs n
 unfolding trianglesBuilt
 written-next xs n t h =
-    rw (written-p xs n t h, written-q xs n t h, written-r xs n t h,
-    built-same xs (withTriangle n t xs) n (written-before xs n t h))
+    rw (
+      written-p xs n t h,
+      written-q xs n t h,
+      written-r xs n t h,
+      built-same xs (withTriangle n t xs) n (written-before xs n t h),
+    )
 
 pub below-more : (u v : ℕ) → u ≤ v → (xs : List ℕ) → allBelow u xs ≡ true → allBelow v xs ≡ true
 unfolding allBelow

@@ -13,8 +13,6 @@ use Rattle.rules.specs.declared.Builder.{Builder}
 use Rattle.rules.specs.Limits.{maxPlaces}
 use Rattle.rules.specs.Ring.{Node, opened, marked, Ring}
 use Rattle.rules.specs.Check.{allBelow}
-use Rattle.rules.specs.Machine.{longEnough}
-use Rattle.rules.specs.Buffer.{Buffers, lengths}
 use Rattle.rules.specs.View.{placeAt, follow, followed, nodeOf, nodes, placeNodes, placeRings, loopPlaces, placesOf, loopsOf, view}
 use Rattle.rules.specs.Sound.{countsFit, sumsFit, apart, placeFits, placesFit, loopFits, loopsFit, linksFit, trianglesFit, sound}
 use Rattle.state_theory.proofs.Reading.Trails.{fit-append}

@@ -19,7 +19,7 @@ use Rattle.rules.specs.Sound.{sizesOf, apart, placesFit, loopsFit, linksFit}
 use Rattle.book.specs.Consistent.{AllCurrent}
 use Rattle.book.specs.Numbers.{LoopsBelow}
 use Rattle.border_theory.specs.Links.Held.{Apart, namedLoops}
-use Rattle.border_theory.proofs.Links.Named.{named-length, named-lives}
+use Rattle.border_theory.proofs.Links.Named.{named-lives}
 use Rattle.border_theory.specs.Records.Plain.{records}
 use Rattle.cutborder.specs.declared.Loops.{Loops}
 use Rattle.cutborder.specs.declared.Front.{Front}

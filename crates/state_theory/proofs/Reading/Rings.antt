@@ -7,8 +7,8 @@ use mathlib.Core.Path.{_≡_, refl, sym, ap, ap₂, _∙_}
 use Rattle.rules.specs.declared.Place.{Place}
 use Rattle.rules.specs.declared.Builder.{Builder}
 use Rattle.rules.specs.Count.{occurs}
-use Rattle.rules.specs.Ring.{Node, opened, marked, Ring, vertex, isOpen}
-use Rattle.rules.specs.View.{placeAt, placeNode, placeNodes, placeRings, loopPlaces, placesOf}
+use Rattle.rules.specs.Ring.{Node, opened, marked, vertex, isOpen}
+use Rattle.rules.specs.View.{placeAt, placeNodes, placeRings, loopPlaces, placesOf}
 use Rattle.border_theory.specs.Links.Held.{placed}
 use Rattle.border_theory.specs.Records.Plain.{records}
 use Rattle.border_theory.proofs.Memory.Standing.{Trail}

@@ -1,10 +1,10 @@
 -- A state that the core's is given back as passes 21 but for its sums, if the machine's counts are within those stated.
 -- Assumes nothing.
-use Prim.Native.Nat.{ℕ, zero, suc, _*_, _≤_}
+use Prim.Native.Nat.{ℕ, _*_, _≤_}
 use native.Mathlib.Omega.{arith}
 use mathlib.Core.Bool.{true, _&&_}
 use mathlib.Core.List.{List}
-use mathlib.Core.Path.{_≡_, refl, sym, ap, _∙_, subst}
+use mathlib.Core.Path.{_≡_, sym, ap, _∙_, subst}
 use lib.Dec.{leb}
 use lib.ListN.{length}
 use borrow.Author.Tests.{le-leb}
@@ -13,7 +13,7 @@ use Rattle.rules.specs.Limits.{maxPlaces, inRange}
 use Rattle.rules.specs.Ring.{places}
 use Rattle.rules.specs.Machine.{Machine, within, longEnough}
 use Rattle.rules.specs.Buffer.{lengths}
-use Rattle.rules.specs.View.{trianglesBuilt, view}
+use Rattle.rules.specs.View.{view}
 use Rattle.rules.specs.Sound.{sizesOf, countsFit, trianglesFit, soundElse}
 use Rattle.border_theory.specs.Records.Plain.{records}
 use Rattle.border_theory.proofs.Records.Reading.{length-records}

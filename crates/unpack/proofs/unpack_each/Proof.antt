@@ -1,7 +1,6 @@
 -- `unpack::unpack_each` is safe and ends. The measure is the number of arguments left.
 -- Assumes nothing.
 use Prim.Native.Nat.{_-_}
-use native.Mathlib.Omega.{arith}
 use borrow.Author.Needs.{needs}
 use Rattle.unpack.proofs.unpack_each.Statement.{statement}
 use Rattle.unpack.proofs.unpack_each.Tie as tie

@@ -1,7 +1,6 @@
 -- `build::words::numbers_from` is safe and ends. The measure is how many numbers are still to come.
 -- Assumes nothing.
 use Prim.Native.Nat.{_≤_, _-_}
-use native.Mathlib.Omega.{arith}
 use lib.ListN.{length}
 use borrow.Author.Needs.{needs}
 use Rattle.build.proofs.words.numbers_from.Statement.{statement}

@@ -2,7 +2,6 @@
 -- The loop's invariant: turning on from here leaves what the whole turn leaves. The measure is what is left.
 -- Assumes nothing.
 use Prim.Native.Nat.{_<_}
-use native.Mathlib.Omega.{arith}
 use mathlib.Core.Path.{_≡_, refl, sym, _∙_}
 use borrow.Author.Needs.{needs}
 use Rattle.rules.specs.Limits.{maxVertices}

@@ -1,6 +1,5 @@
 -- `packer::start::begin_piece` meets its contract: the lowest triangle left is found, and starts.
 -- Assumes nothing.
-use native.Mathlib.Omega.{arith}
 use borrow.Author.Needs.{needs}
 use Rattle.pack_theory.proofs.Packing.Stepping.{rest-lowest, rest-never, rest-starts}
 use Rattle.packer.proofs.start.begin_piece.Statement.{statement}

@@ -1,7 +1,6 @@
 -- `show::print_triangles` is safe and ends. The measure is what is left of the list.
 -- Assumes nothing.
 use Prim.Native.Nat.{_≤_, _-_}
-use native.Mathlib.Omega.{arith}
 use lib.ListN.{length}
 use borrow.Author.Needs.{needs}
 use Rattle.text.proofs.show.print_triangles.Statement.{statement}

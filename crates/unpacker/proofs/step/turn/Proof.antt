@@ -1,6 +1,5 @@
 -- `unpacker::step::turn` meets its contract: each way through it is a law of Leading.
 -- Assumes nothing.
-use native.Mathlib.Omega.{arith}
 use borrow.Author.Needs.{needs}
 use Rattle.unpack_theory.proofs.Leading.{going-held}
 use Rattle.unpacker.proofs.Reading.{over-turn, complete-turn, step-turn}
