@@ -178,16 +178,17 @@ fn unpackings(m: &Model, repeats: usize) -> (f64, f64) {
 fn packings(m: &Model, repeats: usize) -> (f64, f64) {
     let v = m.v as usize;
     let (mut numbering, mut expected) = (vec![0u16; v], vec![0u16; v]);
-    let (mut room, mut expected_room) = (vec![0u8; 40_000], vec![0u8; 40_000]);
+    let (mut buffer, mut expected_buffer) = (vec![0u8; 40_000], vec![0u8; 40_000]);
     let (mut places, mut expected_places) = (vec![Place::default(); 1_024], vec![Place::default(); 1_024]);
     let mut packer = Packer::new();
     medians(
         repeats,
         || {
-            black_box(compare::pack(v, black_box(&m.list), &mut numbering, &mut room, &mut places)).expect("an accepted list");
+            black_box(compare::pack(v, black_box(&m.list), &mut numbering, &mut buffer, &mut places)).expect("an accepted list");
         },
         || {
-            black_box(packer.pack_at(LEVEL, m.v, black_box(&m.list), &mut expected, &mut expected_places, &mut expected_room)).expect("an accepted list");
+            black_box(packer.pack_at(LEVEL, m.v, black_box(&m.list), &mut expected, &mut expected_places, &mut expected_buffer))
+                .expect("an accepted list");
         },
     )
 }

@@ -44,6 +44,34 @@ fn same(b: &Building, book: &Book) {
     assert_eq!(b.triangles[..t], book.triangles.concat(), "triangle buffer");
 }
 
+/// A beginning of the builder and of the book; whether it is refused.
+fn begin(b: &mut Building, book: &mut Option<Book>, c: Counts, tally: &mut Tally) -> bool {
+    let before = b.clone();
+    let expected = expected::begin(c, b.triangles.len(), b.places.len());
+    let answer = b.begin(c);
+    assert_eq!(answer, expected.as_ref().map(|_| ()).map_err(|&n| n), "{c:?}");
+    count(tally, &answer);
+    if let Ok(begun) = expected {
+        assert!(b.places[..1_024].iter().all(|&x| x == Place::default()), "records after {c:?}");
+        assert_eq!(b.places[1_024..], before.places[1_024..], "records beyond after {c:?}");
+        assert_eq!(b.triangles, before.triangles, "triangles after {c:?}");
+        *book = Some(begun);
+    }
+    answer.is_err()
+}
+
+/// An operation of the builder and of the book; whether it is refused.
+fn operate(b: &mut Building, book: &mut Option<Book>, op: Op, tally: &mut Tally, kinds: &mut Kinds) -> bool {
+    if let Some(x) = &book {
+        kinds::note(kinds, x, op);
+    }
+    let expected = book.as_mut().map_or(Err(21), |x| x.op(op));
+    let answer = b.operate(op);
+    assert_eq!(answer, expected, "{op:?}");
+    count(tally, &answer);
+    answer.is_err()
+}
+
 /// A list of calls; the answers are counted.
 fn list(rng: &mut Rng, lines: &[String], tally: &mut Tally, kinds: &mut Kinds) -> usize {
     let Some((entries, records)) = lines.iter().find_map(|l| parsed(l).1) else { return 0 };
@@ -56,33 +84,11 @@ fn list(rng: &mut Rng, lines: &[String], tally: &mut Tally, kinds: &mut Kinds) -
     for (i, line) in lines.iter().enumerate() {
         let before = b.clone();
         let refused = match parsed(line).0 {
-            Call::Begin(c) => {
-                let expected = expected::begin(c, entries, records);
-                let answer = b.begin(c);
-                assert_eq!(answer, expected.as_ref().map(|_| ()).map_err(|&n| n), "{line}");
-                count(tally, &answer);
-                if let Ok(x) = expected {
-                    assert!(b.places[..1_024].iter().all(|&x| x == Place::default()), "records after {line}");
-                    assert_eq!(b.places[1_024..], before.places[1_024..], "records beyond after {line}");
-                    assert_eq!(b.triangles, before.triangles, "triangles after {line}");
-                    book = Some(x);
-                }
-                answer.is_err()
-            }
-            Call::Operate(o) => {
-                if let Some(x) = &book {
-                    kinds::note(kinds, x, o);
-                }
-                let expected = book.as_mut().map_or(Err(21), |x| x.op(o));
-                let answer = b.operate(o);
-                assert_eq!(answer, expected, "{line}");
-                count(tally, &answer);
-                answer.is_err()
-            }
+            Call::Begin(c) => begin(&mut b, &mut book, c, tally),
+            Call::Operate(o) => operate(&mut b, &mut book, o, tally, kinds),
             Call::Finish => {
-                let expected = book.as_ref().map_or(Err(21), |x| x.finish());
                 let answer = b.finish();
-                assert_eq!(answer, expected, "{line}");
+                assert_eq!(answer, book.as_ref().map_or(Err(21), |x| x.finish()), "{line}");
                 count(tally, &answer);
                 true
             }
@@ -93,11 +99,9 @@ fn list(rng: &mut Rng, lines: &[String], tally: &mut Tally, kinds: &mut Kinds) -
         if rng.chance(1, 4) {
             meaningless(rng, &mut b, book.is_some(), tally);
         }
-        if let Some(x) = &book {
-            // The book counts its edges anew: of a large model now and then only.
-            if x.triangles.len() < 40 || i % 16 == 0 || i + 1 == lines.len() {
-                same(&b, x);
-            }
+        // The book counts its edges anew: of a large model now and then only.
+        if let Some(x) = book.as_ref().filter(|x| x.triangles.len() < 40 || i % 16 == 0 || i + 1 == lines.len()) {
+            same(&b, x);
         }
     }
     lines.len()
@@ -243,15 +247,62 @@ enum Fault {
     Other,
 }
 
+/// Counts of a walk, some of them larger.
+fn ample(rng: &mut Rng, walk: &gen::Walk) -> Counts {
+    let c = walk.counts();
+    let more = |rng: &mut Rng, n: u32| rng.below(n as usize) as u32;
+    Counts {
+        v: (c.v + more(rng, 3)).clamp(3, 4_096),
+        t: (c.t + more(rng, 3)).clamp(1, 8_192),
+        places: (c.places + more(rng, 3)).clamp(3, 1_024),
+        loops: (c.loops + more(rng, 2)).clamp(1, 100),
+    }
+}
+
+/// What 21 says of a state.
+fn fault(b: &Building) -> Fault {
+    if !passes_but_for_marks(b) {
+        Fault::Other
+    } else if between_marks(b) {
+        Fault::BetweenMarks
+    } else {
+        Fault::None
+    }
+}
+
+/// An operation of the walk, or any.
+fn some_op(rng: &mut Rng, b: &Building, walk: &gen::Walk, book: &Book) -> Op {
+    let places = b.state[113 + (b.state[12] as usize).clamp(1, 100) - 1];
+    let near = Op::Split(u32::from(places.saturating_sub(2)));
+    let some = [Op::New, Op::Border, Op::Forward, Op::Backward, Op::Split(1), Op::Split(2), near, Op::Union(1, 0), Op::Close, Op::Start];
+    if rng.chance(1, 2) && walk.ops.len() > book.triangles.len() {
+        walk.ops[rng.below(walk.ops.len())]
+    } else {
+        some[rng.below(some.len())]
+    }
+}
+
+/// An operation on a state that passes 21, and on the book with what the state says; its edges are those of the triangles built.
+fn passed_call(b: &mut Building, book: &mut Book, built: &[u16], op: Op, tally: &mut Tally) {
+    let (rings, state) = (b.rings(), b.state);
+    book.counts = Counts { v: b.state[0].into(), t: b.state[1].into(), places: b.state[2].into(), loops: b.state[3].into() };
+    book.used = b.state[4].into();
+    book.live = rings.clone();
+    let comparable = b.triangles == built && b.state[5] as usize == book.triangles.len() && rings.first().map_or(true, |r| r.len() > 1);
+    let expected = comparable.then(|| book.test(op));
+    let answer = b.operate(op);
+    assert_ne!(answer, Err(21), "{op:?} on {state:?}");
+    if let Some(n) = expected {
+        assert_eq!(answer.map_or_else(|n| n, |_| 0), n, "{op:?} on {state:?}");
+    }
+    count(tally, &answer);
+}
+
 /// A state that is built up, damaged, and called once more.
 fn damaged_call(rng: &mut Rng, tally: &mut Tally) -> Fault {
     let size = rng.range(1, 30);
     let w = gen::walk_at(LEVEL, rng, size, 100);
-    let mut c = w.counts();
-    c.v = (c.v + rng.below(3) as u32).clamp(3, 4_096);
-    c.t = (c.t + rng.below(3) as u32).clamp(1, 8_192);
-    c.places = (c.places + rng.below(3) as u32).clamp(3, 1_024);
-    c.loops = (c.loops + rng.below(2) as u32).clamp(1, 100);
+    let c = ample(rng, &w);
     let mut b = Building::new(3 * c.t as usize, 1_024 + rng.below(2), 0);
     let mut book = Book::empty_at(LEVEL, c);
     b.begin(c).expect("a beginning");
@@ -263,37 +314,15 @@ fn damaged_call(rng: &mut Rng, tally: &mut Tally) -> Fault {
     for _ in 0..rng.range(1, 2) {
         damage(rng, &mut b);
     }
-    let before = b.clone();
-    let fault = if !passes_but_for_marks(&b) {
-        Fault::Other
-    } else if between_marks(&b) {
-        Fault::BetweenMarks
-    } else {
-        Fault::None
-    };
+    let (before, fault) = (b.clone(), fault(&b));
+    let op = some_op(rng, &b, &w, &book);
     let passes = matches!(fault, Fault::None);
-    let places = b.state[113 + (b.state[12] as usize).clamp(1, 100) - 1];
-    let near = Op::Split(u32::from(places.saturating_sub(2)));
-    let some = [Op::New, Op::Border, Op::Forward, Op::Backward, Op::Split(1), Op::Split(2), near, Op::Union(1, 0), Op::Close, Op::Start];
-    let op = if rng.chance(1, 2) && w.ops.len() > book.triangles.len() { w.ops[rng.below(w.ops.len())] } else { some[rng.below(some.len())] };
-    if !passes {
+    if passes {
+        passed_call(&mut b, &mut book, &built, op, tally);
+    } else {
         assert_eq!(b.finish(), Err(21), "finish of {:?}", before.state);
         let answer = b.operate(op);
         assert_eq!(answer, Err(21), "{op:?} on {:?}", before.state);
-        count(tally, &answer);
-    } else {
-        // The book with what the state says; its edges are those of the triangles that were built.
-        let rings = b.rings();
-        book.counts = Counts { v: b.state[0].into(), t: b.state[1].into(), places: b.state[2].into(), loops: b.state[3].into() };
-        book.used = b.state[4].into();
-        book.live = rings.clone();
-        let comparable = b.triangles == built && b.state[5] as usize == book.triangles.len() && rings.first().map_or(true, |r| r.len() > 1);
-        let expected = comparable.then(|| book.test(op));
-        let answer = b.operate(op);
-        assert_ne!(answer, Err(21), "{op:?} on {:?}", before.state);
-        if let Some(n) = expected {
-            assert_eq!(answer.map_or_else(|n| n, |_| 0), n, "{op:?} on {:?}", before.state);
-        }
         count(tally, &answer);
     }
     if !passes || b.state == before.state {

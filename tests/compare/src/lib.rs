@@ -52,8 +52,8 @@ extern "C" {
         len: usize,
         numbering: *mut u16,
         numbering_len: usize,
-        room: *mut u8,
-        room_len: usize,
+        buffer: *mut u8,
+        buffer_len: usize,
         places: *mut Place,
         places_len: usize,
         size: *mut u32,
@@ -99,9 +99,9 @@ pub fn unpack(pack: &[u8], triangles: &mut [u16], places: &mut [Place]) -> Resul
 }
 
 /// A packing: the pack's length.
-pub fn pack(v: usize, list: &[u16], numbering: &mut [u16], room: &mut [u8], places: &mut [Place]) -> Result<usize, Refusal> {
+pub fn pack(v: usize, list: &[u16], numbering: &mut [u16], buffer: &mut [u8], places: &mut [Place]) -> Result<usize, Refusal> {
     let mut size = u32::from(BEFORE.0);
-    let (ns, bs) = ((numbering.as_mut_ptr(), numbering.len()), (room.as_mut_ptr(), room.len()));
+    let (ns, bs) = ((numbering.as_mut_ptr(), numbering.len()), (buffer.as_mut_ptr(), buffer.len()));
     let n = unsafe {
         cutborder_pack(v, list.as_ptr(), list.len(), ns.0, ns.1, bs.0, bs.1, places.as_mut_ptr(), places.len(), &mut size)
     };
@@ -199,9 +199,9 @@ pub fn printed(input: &[u8]) -> String {
 
 /// All that the program `pack` must write for a model: the pack, or the line of a refusal.
 pub fn written(v: u64, list: &[u16]) -> Vec<u8> {
-    let (mut numbering, mut places, mut room) = (vec![0; v.min(4_096) as usize], vec![Place::default(); 1_024], vec![0; 65_536]);
-    match expected::pack(v, list, &mut numbering, &mut places, &mut room) {
-        Ok(n) => room[..n].to_vec(),
+    let (mut numbering, mut places, mut buffer) = (vec![0; v.min(4_096) as usize], vec![Place::default(); 1_024], vec![0; 65_536]);
+    match expected::pack(v, list, &mut numbering, &mut places, &mut buffer) {
+        Ok(n) => buffer[..n].to_vec(),
         Err(n) => format!("refused {n}\n").into_bytes(),
     }
 }

@@ -156,9 +156,9 @@ fn used_places(records: usize) -> Vec<Place> {
 fn unpacking(rng: &mut Rng, b: &[u8], fast: &mut Unpacker, tally: &mut Tally, kinds: &mut Kinds) {
     let known = expected::fields(b);
     let t = known.map_or(1, |(c, _)| c.t as usize);
-    let room = if rng.chance(1, 16) { rng.below(3 * t + 1) } else { 3 * t + rng.below(4) };
+    let numbers = if rng.chance(1, 16) { rng.below(3 * t + 1) } else { 3 * t + rng.below(4) };
     let records = records(rng);
-    let (mut triangles, mut expected) = (vec![7u16; room], vec![7u16; room]);
+    let (mut triangles, mut expected) = (vec![7u16; numbers], vec![7u16; numbers]);
     let (mut places, mut expected_places) = (used_places(records), used_places(records));
     let (mut fast_triangles, mut fast_places) = (expected.clone(), places.clone());
     let answer = expected::unpack(b, &mut expected, &mut expected_places);
@@ -168,7 +168,7 @@ fn unpacking(rng: &mut Rng, b: &[u8], fast: &mut Unpacker, tally: &mut Tally, ki
     assert_eq!(fast.unpack_at(LEVEL, b, &mut fast_triangles, &mut fast_places), answer, "fast engine, pack {b:02x?}");
     assert_eq!((fast_triangles, fast_places), (expected, expected_places), "fast engine, pack {b:02x?}");
     count(tally, &answer);
-    if let Some(book) = known.ok().and_then(|(c, _)| expected::begin(c, room, records).ok()) {
+    if let Some(book) = known.ok().and_then(|(c, _)| expected::begin(c, numbers, records).ok()) {
         kinds::note_all(kinds, book, &gen::read_ops(&b[14..]));
     }
 }
@@ -257,13 +257,13 @@ fn packing(rng: &mut Rng, m: &Model, fast: &mut Packer, tally: &mut Tally, kinds
     let numbering = if rng.chance(1, 20) { rng.below(v + 1) } else { v + rng.below(3) };
     let records = records(rng);
     let long = expected::packed(m).map_or(20, |p| p.len());
-    let room = match rng.below(8) {
+    let size = match rng.below(8) {
         0 => rng.below(long + 1),
         1 => long,
         _ => long + rng.below(9),
     };
     let (mut ns, mut expected_ns) = (vec![7u16; numbering], vec![7u16; numbering]);
-    let (mut bs, mut expected_bs) = (vec![5u8; room], vec![5u8; room]);
+    let (mut bs, mut expected_bs) = (vec![5u8; size], vec![5u8; size]);
     let (mut places, mut expected_places) = (used_places(records), used_places(records));
     let (mut fast_ns, mut fast_bs, mut fast_places) = (ns.clone(), bs.clone(), places.clone());
     let expected = expected::pack(m.v, &m.list, &mut expected_ns, &mut expected_places, &mut expected_bs);
@@ -274,7 +274,8 @@ fn packing(rng: &mut Rng, m: &Model, fast: &mut Packer, tally: &mut Tally, kinds
     assert_eq!(places, expected_places, "places after model {}", m.line());
     let answer = fast.pack_at(LEVEL, m.v, &m.list, &mut fast_ns, &mut fast_places, &mut fast_bs);
     assert_eq!(answer, expected, "fast engine, model {}", m.line());
-    assert!(fast_ns == expected_ns && fast_bs == expected_bs && fast_places == expected_places, "fast engine, buffers of model {}", m.line());
+    let same = fast_ns == expected_ns && fast_bs == expected_bs && fast_places == expected_places;
+    assert!(same, "fast engine, buffers of model {}", m.line());
     count(tally, &answer);
     if matches!(expected, Ok(_) | Err(11)) {
         let (ops, chosen) = expected::choose(m.v, &m.list, LIMITS).expect("a packing");
@@ -320,8 +321,9 @@ fn main() {
     shortened(&kinds);
     let t = Instant::now();
     let (n, passed, between, tally) = building::damaged(&mut rng, 5_000 * scale);
+    let took = t.elapsed().as_secs_f64();
     println!(
-        "damaged states: {n} alike, {passed} pass 21, {between} have a place between two marked edges and no other fault, answers {tally:?}, {:.1} s",
-        t.elapsed().as_secs_f64()
+        "damaged states: {n} alike, {passed} pass 21, {between} have a place between two marked edges and no other fault, \
+        answers {tally:?}, {took:.1} s"
     );
 }

@@ -24,6 +24,38 @@ fn any_op(rng: &mut Rng) -> Op {
     }
 }
 
+/// What was answered, each number how often.
+type Tally = BTreeMap<u8, u64>;
+
+/// One model through the builder: each answer is the book's.
+fn model(rng: &mut Rng, walk: &gen::Walk, builder: &mut Building, tally: &mut Tally, met: &mut Kinds) {
+    let mut note = |n: u8| *tally.entry(n).or_default() += 1;
+    let c = walk.counts();
+    if rng.chance(1, 10) {
+        assert_eq!(builder.begin(Counts { v: 2, ..c }), Err(13));
+        note(13);
+    }
+    let mut book = expected::begin(c, 24_576, 1_024).expect("a beginning");
+    builder.begin(c).expect("a beginning");
+    for &o in &walk.ops {
+        if rng.chance(1, 4) {
+            // Another operation, if it is one that is refused.
+            let other = any_op(rng);
+            let n = book.test(other);
+            if n != 0 {
+                assert_eq!(builder.operate(other), Err(n));
+                note(n);
+            }
+        }
+        kinds::note(met, &book, o);
+        assert_eq!(builder.operate(o), book.op(o));
+        note(0);
+    }
+    let expected = book.finish();
+    assert_eq!(builder.finish(), expected);
+    note(expected.err().unwrap_or(0));
+}
+
 fn main() {
     let args: Vec<u64> = std::env::args().skip(1).filter_map(|a| a.parse().ok()).collect();
     let [seed, models] = args[..] else {
@@ -32,39 +64,14 @@ fn main() {
     };
     let (mut rng, start) = (Rng::new(seed), Instant::now());
     let mut builder = Building::new(24_576, 1_024, 9);
-    let mut tally: BTreeMap<u8, u64> = BTreeMap::new();
-    let mut note = |n: u8| *tally.entry(n).or_default() += 1;
-    let mut met = Kinds::new();
+    let (mut tally, mut met) = (Tally::new(), Kinds::new());
     // Some hundred operation lists, each used again and again with other refused calls among them.
     let size = |rng: &mut Rng| if rng.chance(1, 20) { rng.range(10, 60) } else { rng.range(1, 6) };
-    let walks: Vec<gen::Walk> = (0..500).map(|_| size(&mut rng)).collect::<Vec<_>>().iter().map(|&n| gen::walk_at(LEVEL, &mut rng, n, 100)).collect();
+    let sizes: Vec<_> = (0..500).map(|_| size(&mut rng)).collect();
+    let walks: Vec<gen::Walk> = sizes.iter().map(|&n| gen::walk_at(LEVEL, &mut rng, n, 100)).collect();
     for _ in 0..models {
-        let w = &walks[rng.below(walks.len())];
-        let c = w.counts();
-        if rng.chance(1, 10) {
-            let bad = Counts { v: 2, ..c };
-            assert_eq!(builder.begin(bad), Err(13));
-            note(13);
-        }
-        let mut book = expected::begin(c, 24_576, 1_024).expect("a beginning");
-        builder.begin(c).expect("a beginning");
-        for &o in &w.ops {
-            if rng.chance(1, 4) {
-                // Another operation, if it is one that is refused.
-                let other = any_op(&mut rng);
-                let n = book.test(other);
-                if n != 0 {
-                    assert_eq!(builder.operate(other), Err(n));
-                    note(n);
-                }
-            }
-            kinds::note(&mut met, &book, o);
-            assert_eq!(builder.operate(o), book.op(o));
-            note(0);
-        }
-        let expected = book.finish();
-        assert_eq!(builder.finish(), expected);
-        note(expected.err().unwrap_or(0));
+        let walk = &walks[rng.below(walks.len())];
+        model(&mut rng, walk, &mut builder, &mut tally, &mut met);
     }
     println!("{models} models through one builder, answers {tally:?}, {met:?}, {:.0} s", start.elapsed().as_secs_f64());
 }

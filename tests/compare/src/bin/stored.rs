@@ -53,7 +53,8 @@ fn unpacks(folder: &Path, m2: &[u8]) {
 
 /// Building calls: the vectors, lines that are no call, and random lists, model after model.
 fn calls() -> (String, String) {
-    let mut lines: Vec<String> = ["finish", "op new", "op split", "op split x", "op turn", "begin 3 1 3 1", "", "end"].map(String::from).to_vec();
+    let no_calls = ["finish", "op new", "op split", "op split x", "op turn", "begin 3 1 3 1", "", "end"];
+    let mut lines: Vec<String> = no_calls.map(String::from).to_vec();
     lines.extend(CALLS.lines().map(String::from));
     let mut rng = Rng::new(3);
     for i in 0..40 {
