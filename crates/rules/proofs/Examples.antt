@@ -1,25 +1,36 @@
 -- Small examples of what the tables do not reach: the model's open edges, the state last returned, an open and a closed fan, the right
--- place, and a record that is a place.
+-- place, a record that is a place, and what a start leaves.
 -- Assumes nothing.
-use Prim.Native.Nat.{ℕ}
+use Prim.Native.Nat.{ℕ, zero, suc, _+_, _≤_, _<_}
 use native.Mathlib.Omega.{arith}
-use mathlib.Core.Bool.{_&&_}
+use mathlib.Core.Bool.{Bool, true, false, _&&_}
 use mathlib.Core.List.{List, [], _∷_}
 use mathlib.Core.Path.{_≡_, refl}
+use lib.ListN.{replicate}
 use lib.Dec.{T, eqb}
+use borrow.Author.Tests.{eqb-true}
 use Rattle.rules.specs.declared.Triangle.{Triangle}
+use Rattle.rules.specs.declared.Builder.{Builder}
+use Rattle.rules.specs.declared.Operation.the-variants.{Start}
 use Rattle.rules.specs.declared.Checked.the-variants.{Accepted, Refused}
 use Rattle.rules.specs.Triangle.{tri, edge, edgesOf, at-p, at-q, at-r, here, there, Free}
-use Rattle.rules.specs.Count.{same, hit, occurs, count}
+use Rattle.rules.specs.Limits.{maxPlaces}
+use Rattle.rules.specs.Count.{num, same, hit, occurs, count}
 use Rattle.rules.specs.Fan.{Linked, Closed, Open}
-use Rattle.rules.specs.Ring.{opened, loopAt}
+use Rattle.rules.specs.Ring.{opened, places, loopAt}
 use Rattle.rules.specs.Right.{stop, RightPlace, by-entering}
 use Rattle.rules.specs.Book.{modelOpen}
 use Rattle.rules.specs.Calls.{lastState}
-use Rattle.rules.specs.View.{follow, placesOf}
-use Rattle.rules.specs.Build.{begunBuilder, emptyBuilder, InLoop, NoPlace}
-use Rattle.rules.proofs.Rows.{counts}
-use Rattle.rules.proofs.States.{good, whole}
+use Rattle.rules.specs.Buffer.{freePlace, Buffers}
+use Rattle.rules.specs.Check.{allBelow}
+use Rattle.rules.specs.Table.{atRest, effect}
+use Rattle.rules.specs.Machine.{test, done}
+use Rattle.rules.specs.Places.{ringsAfter}
+use Rattle.rules.specs.View.{placeAt, follow, followed, nodes, placesOf, loopsOf, placeNodes, placeRings, trianglesBuilt, view}
+use Rattle.rules.specs.Sound.{sizesOf, apart, placesFit, loopsFit, linksFit, sound, soundElse}
+use Rattle.rules.specs.Build.{operates, begunBuilder, emptyBuilder, InLoop, NoPlace, OperatedBy}
+use Rattle.rules.proofs.Rows.{place, counts}
+use Rattle.rules.proofs.States.{builder, parts, good, whole}
 
 -- of the triangles 0 1 2 and 1 0 3, where 2→0 is declared border: 0→1 is glued, and 1→2, 0→3 and 3→1 are open
 abbrev pub openIn : ℕ → ℕ → ℕ
@@ -68,3 +79,51 @@ right-place = by-entering 1 1 (refl, refl, refl) refl stop
 pub in-loops : InLoop good whole 4 × NoPlace good whole 6
 unfolding same occurs follow placesOf
 in-loops = (omega arith, refl)
+
+-- what M1's start leaves, in buffers that are longer than it asks: its places take the records 0, 1 and 2
+abbrev pub begun : Builder
+begun = begunBuilder (counts 3 1 3 1)
+
+abbrev pub lent : Buffers
+lent = record { triangles = 9 ∷ 9 ∷ 9 ∷ 9 ∷ []; places = replicate 1025 freePlace }
+
+abbrev pub started : Builder
+started = builder (counts 3 1 3 1) (parts 3 1 3 1 1 (0 ∷ 0 ∷ 0 ∷ 0 ∷ []) (3 ∷ 0 ∷ 0 ∷ 0 ∷ [])) 3 1 0 0
+
+abbrev pub left : Buffers
+left = record {
+  triangles = 0 ∷ 1 ∷ 2 ∷ 9 ∷ [];
+  places = place 0 2 1 true ∷ place 1 0 2 true ∷ place 2 1 0 true ∷ replicate 1022 freePlace;
+}
+
+-- a number that is 0, 1 or 2
+low : (i : ℕ) (a b c : Bool) → eqb i 0 ≡ a → eqb i 1 ≡ b → eqb i 2 ≡ c → 1 ≤ num a + (num b + (num c + 0)) → i < maxPlaces
+low i true b c x y z h = omega (arith, eqb-true i 0 x)
+low i false true c x y z h = omega (arith, eqb-true i 1 y)
+low i false false true x y z h = omega (arith, eqb-true i 2 z)
+low i false false false x y z h = absurd (omega (arith, h))
+
+others : (i : ℕ) → NoPlace started left i → placeAt (left .places) i ≡ placeAt (lent .places) i
+unfolding occurs same placesOf follow
+others zero h = absurd (omega (arith, h))
+others (suc zero) h = absurd (omega (arith, h))
+others (suc (suc zero)) h = absurd (omega (arith, h))
+others (suc (suc (suc i))) h = refl
+
+pub start-leaves : OperatedBy begun lent Start (operates begun lent Start) started left
+unfolding occurs same placesOf follow followed nodes loopsOf placeNodes placeRings trianglesBuilt view sizesOf apart placesFit loopsFit
+    linksFit sound soundElse allBelow hit count edgesOf atRest effect test done ringsAfter places
+start-leaves = record {
+  triangles = refl;
+  machine = refl;
+  passes = refl;
+  taken = 0 ∷ 1 ∷ 2 ∷ [];
+  unused = λ i h. (low i (eqb i 0) (eqb i 1) (eqb i 2) refl refl refl h, refl);
+  rings = refl;
+  stays = λ i h k. absurd (omega (arith, h));
+  left = λ i h k. absurd (omega (arith, h));
+  idle = λ i h k. others i k;
+  long = refl;
+  current-past = refl;
+  sizes-past = refl;
+}
