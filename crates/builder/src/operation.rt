@@ -73,8 +73,8 @@ fn build_triangle(
 
 // Marks the current edge as border.
 fn mark_border(f: Front, m: &mut Memory) -> Performed
-    requires { ⌜ Ready maxPlaces f (now m)
-        × ((f .loops .live ≡ 0 → ⊥) × (markedFront maxPlaces f (markedHeld maxPlaces (f .loops) (now m) .loops) .loops .live ≤ maxLoops)) ⌝ }
+    requires { ⌜ Ready maxPlaces f (now m) × ((f .loops .live ≡ 0 → ⊥)
+        × (markedFront maxPlaces f (markedHeld maxPlaces (f .loops) (now m) .loops) .loops .live ≤ maxLoops)) ⌝ }
     ensures { λ r. ⌜ MarkedIn f (now (m .entry)) r (now (m .exit)) ⌝ }
 {
     let old = f.loops;
