@@ -1,7 +1,8 @@
 -- Models, packs and lists of calls that pin the rules, with the answers of the second program: one table, by computation.
 -- Written by tests/definitions, never by hand; Bench has M1 to M10 as the rules write them, States the states of 21.
 -- Assumes nothing.
-use mathlib.Core.Bool.{true, false, _&&_}
+use Prim.Native.Nat.{ℕ}
+use mathlib.Core.Bool.{Bool, true, false, _&&_}
 use mathlib.Core.List.{List, [], _∷_, _++_}
 use lib.ListN.{replicate}
 use lib.Dec.{T}
