@@ -17,7 +17,7 @@ ghost use Rattle.corners.specs.Joins.{UnjoinedIs};
 pub type Links = [u16; VERTICES + CORNERS];
 
 // A number that was read, as an index.
-pub fn wide(x: u16) -> usize
+fn wide(x: u16) -> usize
     ensures { λ r. ⌜ r ≡ x ⌝ }
 {
     x as usize

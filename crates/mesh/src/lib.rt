@@ -4,7 +4,6 @@ pub mod fans; // 7 and 20
 use crate::fans::all_fans;
 use corners::Links;
 use corners::link_all;
-use corners::wide;
 use rules::CORNERS;
 use rules::Checked;
 use rules::VERTICES;
@@ -58,12 +57,12 @@ fn is_vertex_count(v: usize) -> bool
 }
 
 // 3: all numbers are below v. 21 asks the same of a builder's triangles.
-pub fn all_below(v: usize, list: &[u16]) -> bool
+pub fn all_below(v: u16, list: &[u16]) -> bool
     ensures { λ b. ⌜ b ≡ allBelow v (now (list .entry)) ⌝ }
 {
     let mut i = 0;
     while i < list.len() {
-        if v <= wide(list[i]) {
+        if v <= list[i] {
             return false;
         }
         i += 1;
@@ -132,7 +131,7 @@ pub fn check_into(v: usize, list: &[u16], chains: &mut Links) -> Checked
     if !is_vertex_count(v) {
         return Checked::Refused(2);
     }
-    if !all_below(v, list) {
+    if !all_below(v as u16, list) {
         return Checked::Refused(3);
     }
     if !all_distinct(list) {

@@ -93,7 +93,7 @@ fn triangles_fit(b: Builder, triangles: &[u16]) -> bool
     ensures { λ r. ⌜ r ≡ trianglesFit b (now (triangles .entry)) ⌝ }
 {
     let n = 3 * (b.built as usize);
-    all_below(b.used as usize, &triangles[..n])
+    all_below(b.used, &triangles[..n])
 }
 
 // What 21 asks of the numbers beside the loops' places.

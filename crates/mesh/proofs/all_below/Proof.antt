@@ -20,19 +20,16 @@ abbrev μ-loop : tie.MeasureT-loop
 loop-holds : tie.Need-loop-holds Inv-loop μ-loop
 loop-holds c = (search needs, refl)
 
-mul-wide : tie.Need-mul-wide Inv-loop μ-loop
-mul-wide c = omega arith
+mul-if1 : tie.Need-mul-if1 Inv-loop μ-loop
+mul-if1 c = omega arith
 
-shared-slice-read-wide : tie.Need-shared-slice-read-wide Inv-loop μ-loop
-shared-slice-read-wide c = omega arith
-
-wide-requires : tie.Need-wide-requires Inv-loop μ-loop
-wide-requires c κs = search needs
+shared-slice-read-if1 : tie.Need-shared-slice-read-if1 Inv-loop μ-loop
+shared-slice-read-if1 c = omega arith
 
 returns : tie.Need-returns Inv-loop μ-loop
 returns c =
-    let b = c .before .before .before in
-    below-not _ _ _ (b .before .loop .inv .1) _ (c .before .wide .ensures) (b .loop-test .taken) (c .if1 .taken)
+    let b = c .before .before in
+    below-not _ _ _ (b .before .loop .inv .1) _ refl (b .loop-test .taken) (c .if1 .taken)
 
 add-i : tie.Need-add-i Inv-loop μ-loop
 add-i c = omega arith
@@ -42,8 +39,8 @@ loop-less c = omega arith
 
 loop-again : tie.Need-loop-again Inv-loop μ-loop
 loop-again c =
-    let b = c .before .before .before in
-    (search needs, below-more _ _ _ (b .before .loop .inv .1) _ (c .before .wide .ensures) (b .loop-test .taken) (c .if1 .left))
+    let b = c .before .before in
+    (search needs, below-more _ _ _ (b .before .loop .inv .1) _ refl (b .loop-test .taken) (c .if1 .left))
 
 returns-2 : tie.Need-returns-2 Inv-loop μ-loop
 returns-2 c = below-all _ _ _ (c .before .loop .inv .1) (c .loop-test .left)
@@ -55,9 +52,8 @@ all-below-spec =
     Inv-loop
     μ-loop
     loop-holds
-    mul-wide
-    shared-slice-read-wide
-    wide-requires
+    mul-if1
+    shared-slice-read-if1
     returns
     add-i
     loop-less

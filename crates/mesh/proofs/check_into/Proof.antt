@@ -1,5 +1,6 @@
 -- `mesh::check_into` meets its contract: the tests in their order; a list that passes 1 to 4 is sound.
 -- Assumes nothing.
+use native.Mathlib.Omega.{arith}
 use mathlib.Core.Path.{sym, _∙_}
 use borrow.Author.Needs.{needs}
 use Rattle.mesh_theory.proofs.Chains.Checking.{refuses, goes-on, size-long, range-most, sound-is, check-is, answers-no, answers-on}
@@ -22,6 +23,15 @@ returns-2 c =
     answers-no _ _ _ _
     (goes-on _ _ _ _ _ (s .before .is-list-size .ensures) (s .if1 .left)
     (refuses _ _ _ _ (k .is-vertex-count .ensures) (c .if2 .taken)) ∙ sym (check-is _ _))
+
+cast-all-below : tie.Need-cast-all-below
+cast-all-below c =
+    let k = c .before in
+    omega (
+      arith,
+      range-most (k .before .before .before .before .args .v) (k .is-vertex-count .result) (k .is-vertex-count .ensures)
+          (c .if2 .left),
+    )
 
 all-below-requires : tie.Need-all-below-requires
 all-below-requires c κs = search needs
@@ -85,6 +95,7 @@ check-into-spec =
     returns
     is-vertex-count-requires
     returns-2
+    cast-all-below
     all-below-requires
     returns-3
     all-distinct-requires

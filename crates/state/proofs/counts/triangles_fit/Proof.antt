@@ -12,11 +12,8 @@ cast-n c = search needs
 mul-n : tie.Need-mul-n
 mul-n c = search needs
 
-cast-all-below : tie.Need-cast-all-below
-cast-all-below c = search needs
-
 slice-aggregate-all-below : tie.Need-slice-aggregate-all-below
-slice-aggregate-all-below c = sym (length-take-le _ _ (c .before .before .before .before .pre))
+slice-aggregate-all-below c = sym (length-take-le _ _ (c .before .before .before .pre))
 
 all-below-requires : tie.Need-all-below-requires
 all-below-requires c κs = search needs
@@ -26,4 +23,4 @@ returns c = search needs
 
 pub triangles-fit-spec : {M : Type 1} → statement M
 triangles-fit-spec =
-    tie.close (tie.spec cast-n mul-n cast-all-below slice-aggregate-all-below all-below-requires returns)
+    tie.close (tie.spec cast-n mul-n slice-aggregate-all-below all-below-requires returns)
