@@ -2,11 +2,16 @@
 -- Assumes nothing.
 use Prim.Native.Nat.{ℕ, _+_, _-_, _*_, _≤_, _<_}
 use mathlib.Core.Bool.{Bool, true, false, _&&_}
-use mathlib.Core.List.{List}
+use native.Mathlib.Omega.{arith}
+use mathlib.Core.List.{List, [], _∷_}
 use mathlib.Core.Path.{_≡_, refl, sym, ap, ap₂, _∙_}
 use lib.Dec.{eqb, leb}
 use borrow.Author.Tests.{le-leb, lt-leb, eq-eqb, ne-eqb}
+use types.Run.{OneOf, miss}
+use denote.Enum.Declared.{tagOf}
+use Rattle.rules.proofs.Operation.{the-type}
 use Rattle.rules.specs.declared.Operation.{Operation}
+use Rattle.rules.specs.declared.Operation.the-variants.{New, Forward, Backward, Border, Split, Close, Union, Start}
 use Rattle.cutborder.specs.declared.Loops.{Loops}
 use Rattle.cutborder.specs.declared.Front.{Front}
 use Rattle.cutborder.specs.declared.Plan.{Plan}
@@ -17,6 +22,20 @@ use Rattle.border_theory.specs.Memory.Decision.{decided}
 
 pub rest-by : (u : ℕ) (o o′ : Operation) (r : Decided) → o ≡ o′ → r ≡ restProposed u o′ → r ≡ restProposed u o
 rest-by u o o′ r e h = rw e h
+
+-- with no live loop all but a start are refused; the tags are those of the other operations
+abbrev others : List ℕ
+others = 0 ∷ (1 ∷ (2 ∷ (3 ∷ (4 ∷ (5 ∷ (6 ∷ []))))))
+
+pub rest-others : (u : ℕ) (o : Operation) → OneOf others (tagOf the-type o) → Refused 16 ≡ restProposed u o
+rest-others u New h = refl
+rest-others u Forward h = refl
+rest-others u Backward h = refl
+rest-others u Border h = refl
+rest-others u (Split i) h = refl
+rest-others u Close h = refl
+rest-others u (Union p j) h = refl
+rest-others u Start h = absurd (miss others (tagOf the-type Start) tt h)
 
 pub edge-by : (n : ℕ) (l : Loops) (m : List ℕ) (u : ℕ) (o o′ : Operation) (r : Decided) → o ≡ o′ → r ≡ edgeProposed n l m u o′
     → r ≡ edgeProposed n l m u o

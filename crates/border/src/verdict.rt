@@ -25,14 +25,8 @@ fn propose_rest(u: u16, o: Operation) -> Decided
     ensures { λ r. ⌜ r ≡ restProposed u o ⌝ }
 {
     match o {
-        Operation::New => Decided::Refused(16),
-        Operation::Forward => Decided::Refused(16),
-        Operation::Backward => Decided::Refused(16),
-        Operation::Border => Decided::Refused(16),
-        Operation::Split(_) => Decided::Refused(16),
-        Operation::Close => Decided::Refused(16),
-        Operation::Union(_, _) => Decided::Refused(16),
         Operation::Start => start_plan(u),
+        _ => Decided::Refused(16),
     }
 }
 

@@ -1,7 +1,8 @@
 -- What a caller's numbers cannot mean is refused: a count above 65,535 by 13; a code above 7 and an index above 65,535 by 21 or 16, as
 -- an operation that the table does not allow.
 -- Assumes nothing.
-use Prim.Native.Nat.{ℕ, suc, _≤_}
+use Prim.Native.Nat.{ℕ, _≤_}
+use native.Mathlib.Omega.{arith}
 use mathlib.Core.Bool.{Bool, true, false, _&&_}
 use mathlib.Core.List.{List, [], _∷_}
 use mathlib.Core.Path.{_≡_, refl, sym, ap, _∙_}
@@ -19,7 +20,7 @@ use Rattle.rules.specs.Build.{viewed, begins, operates}
 use Rattle.rules.specs.Ring.{Ring}
 use Rattle.rules.specs.Table.{Effect, not-allowed, effect, atEdge, atRest, allowed}
 use Rattle.capi.specs.Given.{within16, countsOf, none, unionOf, operationOf}
-use Rattle.capi.proofs.Numbers.{counts, within-large, split-large, union-large}
+use Rattle.capi.proofs.Numbers.{counts, within-large, split-large, union-large, plain-large, code-plain}
 
 none-allowed : (u : ℕ) (ls : List Ring) → effect none u ls ≡ not-allowed
 unfolding effect atEdge atRest allowed
@@ -36,9 +37,8 @@ pub none-refused : (b : Builder) (r : Buffers) → sound b r ≡ true → operat
 none-refused b r e = ap (λ (t : Bool). elim t [ true ↦ operation (viewed b r) none | false ↦ refused 21 ]) e ∙ none-is-16 (viewed b r)
 
 -- a code above 7, and a split or a union of an index above 65,535, are no operation
-pub code-above-7 : (n p j : ℕ) → operationOf (suc (suc (suc (suc (suc (suc (suc (suc n)))))))) p j ≡ none
-unfolding operationOf
-code-above-7 n p j = refl
+pub code-above-7 : (c p j : ℕ) → 8 ≤ c → operationOf c p j ≡ none
+code-above-7 c p j h = sym (plain-large c h ∙ code-plain c p j (λ e. omega (arith, h, e)) (λ e. omega (arith, h, e)))
 
 pub split-above : (p j : ℕ) → 65536 ≤ j → operationOf 4 p j ≡ none
 unfolding operationOf

@@ -1,6 +1,6 @@
 -- Laws of what a caller's numbers mean, and of answers as numbers, one for each way through a function.
 -- Assumes nothing.
-use Prim.Native.Nat.{ℕ, zero, suc, _<_, _≤_, _^_}
+use Prim.Native.Nat.{ℕ, _<_, _≤_, _^_}
 use mathlib.Core.List.{List, [], _∷_}
 use mathlib.Core.Path.{_≡_, refl, sym, ap, _∙_}
 use lib.IntN.{ℤ}
@@ -8,7 +8,7 @@ use lib.Signed.{mag}
 use mir.Syntax.{w32}
 use mir.Val.{hbits, ofZ, toZ}
 use mir.ValLaws.{toZ-ofZ}
-use borrow.Author.Tests.{lt-ltb, le-ltb, le-leb, lt-leb}
+use borrow.Author.Tests.{lt-ltb, le-ltb, le-leb, lt-leb, ne-eqb}
 use Rattle.rules.specs.declared.Counts.{Counts}
 use Rattle.rules.specs.declared.Operation.the-variants.{Split, Union}
 use Rattle.rules.specs.declared.Triangle.{Triangle}
@@ -20,8 +20,9 @@ use Rattle.rules.specs.declared.Finished.{Finished}
 use Rattle.rules.specs.declared.Finished.the-variants as F
 use Rattle.rules.specs.declared.Unpacked.{Unpacked}
 use Rattle.rules.specs.declared.Unpacked.the-variants as U
+use Rattle.rules.specs.Code.{kinds, kindIn}
 use Rattle.rules.specs.Answer.{operatedAnswer, finishedAnswer, unpackedAnswer}
-use Rattle.capi.specs.Given.{within16, countsOf, none, splitOf, unionOf, operationOf}
+use Rattle.capi.specs.Given.{within16, countsOf, none, splitOf, unionOf, plainOf, operationOf}
 use Rattle.capi.specs.Answered.{numberOf, modelAfter, totalsAfter, eulerAfter, builtAfter}
 
 pub within-small : (n : ℕ) → n < 65536 → n ≡ within16 n
@@ -59,23 +60,25 @@ pub union-small : (p j : ℕ) → p < 65536 → j < 65536 → Union p j ≡ unio
 unfolding unionOf
 union-small p j h k = rw (unionOf, lt-leb 65536 p h, lt-leb 65536 j k)
 
--- a code that is one of the eight, as a number k that is known
-pub code-is : (k n p j : ℕ) → n ≡ k → operationOf k p j ≡ operationOf n p j
-code-is k n p j e = ap (λ (m : ℕ). operationOf m p j) (sym e)
+pub plain-small : (c : ℕ) → c < 8 → kindIn c kinds ≡ plainOf c
+unfolding plainOf
+plain-small c h = rw (plainOf, lt-ltb c 8 h)
 
--- a code that is none of the eight
-pub code-rest : (n p j : ℕ) → (n ≡ 0 → ⊥) → (n ≡ 1 → ⊥) → (n ≡ 2 → ⊥) → (n ≡ 3 → ⊥) → (n ≡ 4 → ⊥) → (n ≡ 5 → ⊥) → (n ≡ 6 → ⊥) → (n ≡ 7 → ⊥)
-    → none ≡ operationOf n p j
+pub plain-large : (c : ℕ) → 8 ≤ c → none ≡ plainOf c
+unfolding plainOf
+plain-large c h = rw (plainOf, le-ltb c 8 h)
+
+pub code-split : (c p j : ℕ) → c ≡ 4 → splitOf j ≡ operationOf c p j
 unfolding operationOf
-code-rest zero p j h0 h1 h2 h3 h4 h5 h6 h7 = absurd (h0 refl)
-code-rest (suc zero) p j h0 h1 h2 h3 h4 h5 h6 h7 = absurd (h1 refl)
-code-rest (suc (suc zero)) p j h0 h1 h2 h3 h4 h5 h6 h7 = absurd (h2 refl)
-code-rest (suc (suc (suc zero))) p j h0 h1 h2 h3 h4 h5 h6 h7 = absurd (h3 refl)
-code-rest (suc (suc (suc (suc zero)))) p j h0 h1 h2 h3 h4 h5 h6 h7 = absurd (h4 refl)
-code-rest (suc (suc (suc (suc (suc zero))))) p j h0 h1 h2 h3 h4 h5 h6 h7 = absurd (h5 refl)
-code-rest (suc (suc (suc (suc (suc (suc zero)))))) p j h0 h1 h2 h3 h4 h5 h6 h7 = absurd (h6 refl)
-code-rest (suc (suc (suc (suc (suc (suc (suc zero))))))) p j h0 h1 h2 h3 h4 h5 h6 h7 = absurd (h7 refl)
-code-rest (suc (suc (suc (suc (suc (suc (suc (suc n)))))))) p j h0 h1 h2 h3 h4 h5 h6 h7 = refl
+code-split c p j e = ap (λ (n : ℕ). operationOf n p j) (sym e)
+
+pub code-union : (c p j : ℕ) → c ≡ 6 → unionOf p j ≡ operationOf c p j
+unfolding operationOf
+code-union c p j e = ap (λ (n : ℕ). operationOf n p j) (sym e)
+
+pub code-plain : (c p j : ℕ) → (c ≡ 4 → ⊥) → (c ≡ 6 → ⊥) → plainOf c ≡ operationOf c p j
+unfolding operationOf
+code-plain c p j h k = rw (operationOf, ne-eqb c 4 h, ne-eqb c 6 k)
 
 pub built-is : (xs : List ℕ) (a : Operated) (t : Triangle) → a ≡ O.Built t
     → (0 ≡ numberOf (operatedAnswer a)) × ((1 ∷ (t .p ∷ (t .q ∷ (t .r ∷ [])))) ≡ builtAfter xs (operatedAnswer a))

@@ -1,12 +1,13 @@
 -- What the numbers of a caller in C or Rust mean: counts, and operations by their codes and indices. What they cannot mean has a
 -- meaning that the rules refuse.
 -- Assumes nothing.
-use Prim.Native.Nat.{ℕ, zero, suc}
+use Prim.Native.Nat.{ℕ}
 use mathlib.Core.Bool.{true, false}
-use lib.Dec.{ltb, leb}
+use lib.Dec.{eqb, ltb, leb}
 use Rattle.rules.specs.declared.Counts.{Counts}
 use Rattle.rules.specs.declared.Operation.{Operation}
-use Rattle.rules.specs.declared.Operation.the-variants.{New, Forward, Backward, Border, Split, Close, Union, Start}
+use Rattle.rules.specs.declared.Operation.the-variants.{Split, Union}
+use Rattle.rules.specs.Code.{kinds, kindIn}
 
 -- a number of 16 bits; a larger one is 65,535
 unfoldable pub within16 : ℕ → ℕ
@@ -26,14 +27,10 @@ splitOf i = elim (ltb i 65536) [ true ↦ Split i | false ↦ none ]
 unfoldable pub unionOf : ℕ → ℕ → Operation
 unionOf p j = elim (leb 65536 p) [ true ↦ none | false ↦ elim (leb 65536 j) [ true ↦ none | false ↦ Union p j ] ]
 
--- the operation of a code, p and j its indices; split has j alone, and where a code has no index they are not read
+-- the operation of a code that has no index
+unfoldable pub plainOf : ℕ → Operation
+plainOf c = elim (ltb c 8) [ true ↦ kindIn c kinds | false ↦ none ]
+
+-- the operation of a code, p and j its indices; a split (4) has j alone, a union (6) both, and for another code they are not read
 unfoldable pub operationOf : ℕ → ℕ → ℕ → Operation
-operationOf zero p j = New
-operationOf (suc zero) p j = Forward
-operationOf (suc (suc zero)) p j = Backward
-operationOf (suc (suc (suc zero))) p j = Border
-operationOf (suc (suc (suc (suc zero)))) p j = splitOf j
-operationOf (suc (suc (suc (suc (suc zero))))) p j = Close
-operationOf (suc (suc (suc (suc (suc (suc zero)))))) p j = unionOf p j
-operationOf (suc (suc (suc (suc (suc (suc (suc zero))))))) p j = Start
-operationOf (suc (suc (suc (suc (suc (suc (suc (suc n)))))))) p j = none
+operationOf c p j = elim (eqb c 4) [ true ↦ splitOf j | false ↦ elim (eqb c 6) [ true ↦ unionOf p j | false ↦ plainOf c ] ]

@@ -1,8 +1,9 @@
 // What a caller's numbers mean. Its contracts cite specs/Given.antt.
 use rules::Counts;
 use rules::Operation;
+use wire::reader::kind_of;
 ghost use mathlib.Core.Path.{_≡_};
-ghost use Rattle.capi.specs.Given.{within16, countsOf, splitOf, unionOf, operationOf};
+ghost use Rattle.capi.specs.Given.{within16, countsOf, splitOf, unionOf, plainOf, operationOf};
 
 // A number of 16 bits; a larger one is 65,535, which is above every limit of the rules.
 fn within_16(n: u32) -> u16
@@ -49,19 +50,23 @@ fn union_of(p: u32, j: u32) -> Operation
     Operation::Union(p as u16, j as u16)
 }
 
-// The operation of a code with its indices; a code above 7 is the split to place 0.
+// The operation of a code that has no index; a code above 7 is the split to place 0.
+fn plain_of(code: u32) -> Operation
+    ensures { λ r. ⌜ r ≡ plainOf code ⌝ }
+{
+    if code < 8 {
+        return kind_of(code as u16);
+    }
+    Operation::Split(0)
+}
+
+// The operation of a code with its indices, which split (4) and union (6) have.
 pub(crate) fn operation_of(code: u32, p: u32, j: u32) -> Operation
     ensures { λ r. ⌜ r ≡ operationOf code p j ⌝ }
 {
     match code {
-        0 => Operation::New,
-        1 => Operation::Forward,
-        2 => Operation::Backward,
-        3 => Operation::Border,
         4 => split_of(j),
-        5 => Operation::Close,
         6 => union_of(p, j),
-        7 => Operation::Start,
-        _ => Operation::Split(0),
+        _ => plain_of(code),
     }
 }

@@ -26,6 +26,10 @@ pub and-no : (a b : Bool) → b ≡ false → a && b ≡ false
 and-no true b h = h
 and-no false b h = refl
 
+pub and-yes : (a : Bool) → a && true ≡ a
+and-yes true = refl
+and-yes false = refl
+
 pub and-assoc : (a b c : Bool) → a && b && c ≡ a && (b && c)
 and-assoc true b c = refl
 and-assoc false b c = refl

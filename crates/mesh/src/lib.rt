@@ -56,18 +56,20 @@ fn is_vertex_count(v: usize) -> bool
     v <= VERTICES
 }
 
-// 3: all numbers are below v. 21 asks the same of a builder's triangles.
+// 3: all numbers are below v. 21 asks the same of a builder's triangles. The loop goes to the end, so that the compiler takes many
+// numbers at a time.
 pub fn all_below(v: u16, list: &[u16]) -> bool
     ensures { λ b. ⌜ b ≡ allBelow v (now (list .entry)) ⌝ }
 {
+    let mut below = true;
     let mut i = 0;
     while i < list.len() {
         if v <= list[i] {
-            return false;
+            below = false;
         }
         i += 1;
     }
-    true
+    below
 }
 
 // Whether a triangle has three different vertices.

@@ -6,18 +6,7 @@ use mathlib.Core.List.{List}
 use lib.ListN.{getD, set}
 use lib.Dec.{eqb}
 use Rattle.rules.specs.declared.Operation.{Operation}
-use Rattle.rules.specs.declared.Operation.the-variants.{New, Forward, Backward, Border, Split, Close, Union, Start}
-
--- the operation meets the third corner of its triangle
-abbrev pub isMeeting : Operation → Bool
-isMeeting New = false
-isMeeting Forward = false
-isMeeting Backward = false
-isMeeting Border = false
-isMeeting (Split i) = true
-isMeeting Close = false
-isMeeting (Union k j) = true
-isMeeting Start = false
+pub use Rattle.choice_theory.specs.Met.{isMeeting}
 
 -- v is noted as met
 abbrev pub isMetIn : List ℕ → ℕ → Bool

@@ -1,3 +1,4 @@
 pub mod Again
+pub mod Arms
 pub mod Fielding
 pub mod Reading

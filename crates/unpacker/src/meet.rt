@@ -12,14 +12,9 @@ fn is_meeting(o: Operation) -> bool
     ensures { λ b. ⌜ b ≡ isMeeting o ⌝ }
 {
     match o {
-        Operation::New => false,
-        Operation::Forward => false,
-        Operation::Backward => false,
-        Operation::Border => false,
         Operation::Split(_) => true,
-        Operation::Close => false,
         Operation::Union(_, _) => true,
-        Operation::Start => false,
+        _ => false,
     }
 }
 

@@ -39,14 +39,11 @@ fn is_tested(o: Operation) -> bool
     ensures { λ b. ⌜ b ≡ isTested o ⌝ }
 {
     match o {
-        Operation::New => false,
         Operation::Forward => true,
         Operation::Backward => true,
-        Operation::Border => false,
         Operation::Split(_) => true,
-        Operation::Close => false,
         Operation::Union(_, _) => true,
-        Operation::Start => false,
+        _ => false,
     }
 }
 

@@ -103,7 +103,7 @@ pub fn read10<'a>(r: OperationReader<'a>) -> Number
 }
 
 // The kind of an operation, by its code; its indices are read apart.
-fn kind_of(code: u16) -> Operation
+pub fn kind_of(code: u16) -> Operation
     ensures { λ r. ⌜ r ≡ kindIn code kinds ⌝ }
 {
     match code {

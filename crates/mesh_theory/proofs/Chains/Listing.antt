@@ -21,24 +21,35 @@ use Rattle.mesh_theory.proofs.Chains.Walking.{after-first, before-first
 use Rattle.mesh_theory.proofs.Chains.Linking.{triangle-linked}
 use Rattle.mesh_theory.proofs.Chains.Once.{once-more, once-not, once-none}
 use Rattle.mesh_theory.proofs.Chains.Fans.{corner-in}
-use Rattle.counting.proofs.Bools.{and-left, and-right}
+use Rattle.counting.proofs.Bools.{and-left, and-right, and-no, and-yes}
 
--- 3
-module _ (v : ℕ) (xs : List ℕ) (i : ℕ) (same : allBelow v (drop i xs) ≡ allBelow v xs) where
-  pub below-more : (x : ℕ) → x ≡ getD xs i 0 → i < length xs → x < v → allBelow v (drop (i + 1) xs) ≡ allBelow v xs
-  unfolding allBelow
-  below-more x e h l′ =
+-- 3: u tells whether the first i numbers are below v
+unfoldable pub BelowTo : ℕ → List ℕ → ℕ → Bool → Type 0
+BelowTo v xs i u = u && allBelow v (drop i xs) ≡ allBelow v xs
+
+pub below-from : (v : ℕ) (xs : List ℕ) → BelowTo v xs 0 true
+unfolding BelowTo
+below-from v xs = refl
+
+module _ (v : ℕ) (xs : List ℕ) (i : ℕ) (u w : Bool) (to : BelowTo v xs i u) where
+  pub below-more : (x : ℕ) → x ≡ getD xs i 0 → i < length xs → x < v → w ≡ u → BelowTo v xs (i + 1) w
+  unfolding BelowTo allBelow
+  below-more x e h l′ k =
       let l : getD xs i 0 < v = omega arith in
       let s : i + 1 ≡ suc i = omega arith in
-      ap (λ (j : ℕ). allBelow v (drop j xs)) s ∙ sym (rw (drop-cons xs i 0 h, lt-ltb (getD xs i 0) v l)) ∙ same
+      ap (λ (j : ℕ). w && allBelow v (drop j xs)) s ∙ ap (λ (b : Bool). b && allBelow v (drop (suc i) xs)) k
+      ∙ sym (rw (drop-cons xs i 0 h, lt-ltb (getD xs i 0) v l)) ∙ to
 
-  pub below-not : (x : ℕ) → x ≡ getD xs i 0 → i < length xs → v ≤ x → false ≡ allBelow v xs
-  unfolding allBelow
-  below-not x e h l′ = let l : v ≤ getD xs i 0 = omega arith in sym (rw (drop-cons xs i 0 h, le-ltb (getD xs i 0) v l)) ∙ same
+  pub below-not : (x : ℕ) → x ≡ getD xs i 0 → i < length xs → v ≤ x → w ≡ false → BelowTo v xs (i + 1) w
+  unfolding BelowTo allBelow
+  below-not x e h l′ k =
+      let l : v ≤ getD xs i 0 = omega arith in
+      ap (λ (b : Bool). b && allBelow v (drop (i + 1) xs)) k
+      ∙ sym (and-no u (allBelow v (drop i xs)) (rw (drop-cons xs i 0 h, le-ltb (getD xs i 0) v l) refl)) ∙ to
 
-  pub below-all : length xs ≤ i → true ≡ allBelow v xs
-  unfolding allBelow
-  below-all h = sym (rw (drop-of-length-le xs h)) ∙ same
+pub below-all : (v : ℕ) (xs : List ℕ) (i : ℕ) (u : Bool) → BelowTo v xs i u → length xs ≤ i → u ≡ allBelow v xs
+unfolding BelowTo allBelow
+below-all v xs i u to h = sym (rw (drop-of-length-le xs h) (and-yes u)) ∙ to
 
 pub below-each : (v : ℕ) (xs : List ℕ) → allBelow v xs ≡ true → (c : ℕ) → c < length xs → getD xs c 0 < v
 unfolding allBelow
