@@ -1,4 +1,5 @@
--- Laws of shown rings: runs joined, marking the current edge, and what each operation does to a ring and to the ring shown.
+-- Which places of a ring stay, and laws of shown rings: runs joined, marking the current edge, and what each operation does to a ring
+-- and to the ring shown.
 -- Assumes nothing.
 use Prim.Native.Nat.{ℕ, zero, suc, _≤_, _<_}
 use native.Mathlib.Omega.{arith}
@@ -8,7 +9,22 @@ use mathlib.Core.Logic.{_⊎_, inl, inr}
 use mathlib.Core.Path.{_≡_, refl, sym, ap, ap₂, _∙_}
 use lib.ListN.{length, take, drop}
 use Rattle.rules.specs.Ring.{Node, opened, marked, Ring, isOpen, startOr, lastOpen, onward, reached, shown}
-use Rattle.book.specs.Shown.{ends, Stays, shownAll, Live}
+use Rattle.book.specs.Shown.{shownAll}
+
+-- whether the last edge of a run is marked; m, if the run is empty
+unfoldable pub ends : List Node → Bool → Bool
+ends [] m = m
+ends (p ∷ ps) m = ends ps (not (isOpen p))
+
+-- a place that stays: its own edge is open, or the one before it
+abbrev pub Stays : List Node → Node → Type 0
+Stays us p = (isOpen p ≡ true) ⊎ (ends us false ≡ false)
+
+-- rings whose first edge is open
+abbrev pub Live : List Ring → Type 0
+Live [] = Unit {0}
+Live ([] ∷ ls) = ⊥
+Live ((p ∷ ps) ∷ ls) = (isOpen p ≡ true) × Live ls
 
 -- runs joined
 pub reached-append : (us vs : List Node) (m : Bool) → reached (us ++ vs) m ≡ reached us m ++ reached vs (ends us m)

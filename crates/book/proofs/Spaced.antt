@@ -6,8 +6,8 @@ use mathlib.Core.List.{List, [], _∷_, _++_}
 use mathlib.Core.Path.{_≡_, refl, ap}
 use lib.ListN.{take, drop}
 use Rattle.rules.specs.Ring.{Node, opened, marked, Ring, firstOpen, front, reached}
-use Rattle.book.specs.Shown.{ends}
 use Rattle.book.specs.Spaced.{Spaced}
+use Rattle.book.proofs.Shown.{ends}
 
 pub spaced-any : (ps : List Node) (m : Bool) → Spaced ps m → Spaced ps false
 spaced-any [] m h = tt

@@ -1,6 +1,7 @@
 -- The places of the full loops: gaps, open and marked edges, what stays elsewhere, numbers.
 pub mod Back
 pub mod Below
+pub mod Corners
 pub mod Distinct
 pub mod Elsewhere
 pub mod Ends
@@ -13,4 +14,5 @@ pub mod Renaming
 pub mod Rings
 pub mod Showing
 pub mod Sites
+pub mod Spots
 pub mod Standing

@@ -17,5 +17,7 @@ pub mod Progress
 pub mod Rules
 pub mod Starting
 pub mod Surgeries
+pub mod Surgery
 pub mod Tallies
+pub mod Tally
 pub mod Triangle

@@ -7,4 +7,5 @@ pub mod Fans
 pub mod Links
 pub mod Spotting
 pub mod Taking
+pub mod Turn
 pub mod Ways

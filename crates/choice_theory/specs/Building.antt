@@ -24,8 +24,3 @@ unfoldable pub builtBy : ℕ → Packing → List Triangle
 builtBy zero s = []
 builtBy (suc n) s =
     elim (choose s) [ ended ↦ [] | refuses k ↦ [] | takes o s′ ↦ nextBuilt (s .mesh) (s .loops) (s .left) ++ builtBy n s′ ]
-
--- triangles put before others, one after the other, so that the latest is first
-abbrev pub onto : List Triangle → List Triangle → List Triangle
-onto [] B = B
-onto (t ∷ R) B = onto R (t ∷ B)

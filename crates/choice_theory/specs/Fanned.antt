@@ -6,12 +6,11 @@ use mathlib.Core.Bool.{Bool, true, false}
 use mathlib.Core.List.{List, []}
 use mathlib.Core.Path.{_≡_}
 use Rattle.rules.specs.declared.Triangle.{Triangle}
-use Rattle.rules.specs.Triangle.{Edge}
 use Rattle.rules.specs.Count.{same}
 use Rattle.rules.specs.Fan.{about}
 use Rattle.rules.specs.Ring.{Ring}
 use Rattle.rules.specs.Machine.{Machine}
-use Rattle.mesh_theory.specs.Fans.Ways.{total, Chain, Chained}
+use Rattle.mesh_theory.specs.Fans.Ways.{Chained}
 use Rattle.book.specs.Sums.{Weight, loopsSum, openEdges}
 use Rattle.book.specs.Consistent.{AllCurrent}
 
@@ -34,12 +33,6 @@ comesTo v ls = loopsSum (inHit v) ls
 
 abbrev pub leavesFrom : ℕ → List Ring → ℕ
 leavesFrom v ls = loopsSum (outHit v) ls
-
--- all the edges, in some order, are one chain from s to t
-pub record Leads (s t : ℕ) (ds : List Edge) : Type 0 where
-  pub path : List Edge
-  pub chain : Chain s path t
-  pub sum : (w : Edge → ℕ) → total w ds ≡ total w path
 
 -- the vertex v is such a one; of marked edges nothing is said, for they may be links
 pub record OneChain (v : ℕ) (ls : List Ring) (ts : List Triangle) : Type 0 where

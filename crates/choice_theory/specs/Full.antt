@@ -7,15 +7,14 @@ use mathlib.Core.Bool.{Bool, true, false}
 use mathlib.Core.List.{List, [], _∷_, _++_}
 use mathlib.Core.Path.{_≡_}
 use lib.ListN.{length, take, drop}
+use lib.Dec.{leb}
 use Rattle.rules.specs.declared.Counts.{Counts}
 use Rattle.rules.specs.declared.Operation.{Operation}
 use Rattle.rules.specs.declared.Operation.the-variants.{New, Forward, Backward, Border, Split, Close, Union, Start}
-use Rattle.rules.specs.Ring.{Node, opened, marked, Ring, vertex, vertexAt, lastVertex, front, onward, places, loopAt, without}
+use Rattle.rules.specs.Ring.{Node, opened, marked, Ring, vertex, vertexAt, lastVertex, front, onward, shown, places, loopAt, without}
+use Rattle.rules.specs.Table.{inOrder}
 use Rattle.rules.specs.Machine.{Machine, empty}
 use Rattle.book.specs.Shown.{shownAll}
-use Rattle.choice_theory.specs.Surgery.{fewerFirst}
-use Rattle.choice_theory.specs.Trace.{withRing}
-use Rattle.choice_theory.specs.Tally.{newNumbers}
 use Rattle.choice_theory.specs.Works.{Works}
 
 -- the number in a run of nodes of the place that is shown with number i; m tells whether the edge before the run is marked
@@ -26,6 +25,19 @@ fullIndex (opened v ∷ ps) m (suc i) = suc (fullIndex ps false i)
 fullIndex (marked v ∷ ps) true i = suc (fullIndex ps true i)
 fullIndex (marked v ∷ ps) false zero = 0
 fullIndex (marked v ∷ ps) false (suc i) = suc (fullIndex ps true i)
+
+-- whether the first of two rings shows no more places
+abbrev pub fewer : Ring → Ring → Bool
+fewer l m = leb (length (shown l)) (length (shown m))
+
+-- of the two rings of a split the one goes on that shows fewer places; if equal, the first
+abbrev pub fewerFirst : Ring → Ring → List Ring → List Ring
+fewerFirst l m ws = inOrder (fewer l m) l m ws
+
+-- a ring put before others, unless it is empty
+abbrev pub withRing : List Node → List Ring → List Ring
+withRing [] ws = ws
+withRing (p ∷ ps) ws = (p ∷ ps) ∷ ws
 
 -- the table's operations at the edge from place e on, where u is the next unused number
 unfoldable pub fullAt : Operation → ℕ → Node → List Node → List Ring → List Ring
@@ -56,6 +68,17 @@ pub record Full : Type 0 where
 
 abbrev pub noneFull : Full
 noneFull = record { used = 0; loops = []; most = 0 }
+
+-- how many numbers are new
+abbrev pub newNumbers : Operation → ℕ
+newNumbers New = 1
+newNumbers Forward = 0
+newNumbers Backward = 0
+newNumbers Border = 0
+newNumbers (Split i) = 0
+newNumbers Close = 0
+newNumbers (Union n j) = 0
+newNumbers Start = 3
 
 abbrev pub stepped : Operation → Full → Full
 stepped o s =

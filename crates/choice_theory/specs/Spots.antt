@@ -1,45 +1,17 @@
--- What the packer sees of a place. Where an open edge stands in the rings is said by `OpenAt` of the rules.
+-- Directed edges: one that no triangle has, and open ones. Where an open edge stands in the rings is said by `OpenAt` of the rules.
 -- Assumes nothing.
 use Prim.Native.Nat.{ℕ}
-use mathlib.Core.Bool.{false}
-use mathlib.Core.List.{List, _∷_, _++_}
+use mathlib.Core.List.{List}
 use mathlib.Core.Path.{_≡_}
-use mathlib.Core.Logic.{_⊎_}
-use lib.ListN.{length}
 use Rattle.rules.specs.declared.Triangle.{Triangle}
-use Rattle.rules.specs.Ring.{Node, Ring, vertex, startOr, reached}
-use Rattle.rules.specs.Choice.{sizeOf, following}
+use Rattle.rules.specs.Ring.{Ring}
 pub use Rattle.rules.specs.Right.{EdgeIn, OpenAt}
-use Rattle.book.specs.Shown.{Stays}
-use Rattle.choice_theory.specs.Turn.{Unused}
-use Rattle.choice_theory.specs.Corners.{endOr}
+use Rattle.mesh_theory.specs.Fans.Corner.{Free}
+
+-- the directed edge x→y is not used
+abbrev pub Unused : ℕ → ℕ → List Triangle → Type 0
+Unused x y ts = Free x y ts
 
 -- each open edge stands at one place
 abbrev pub Unique : List Ring → Type 0
 Unique ls = (x y l i m j : ℕ) → OpenAt ls l i x y → OpenAt ls m j x y → (l ≡ m) × (i ≡ j)
-
--- place i of ring l is one of c, entered from x and left to y, each by an open edge or one that has no other side in M
-pub record Site (M : List Triangle) (ls : List Ring) (l i c x y : ℕ) : Type 0 where
-  pub from : ℕ
-  pub enter : Unused c x M ⊎ OpenAt ls l from x c
-  pub leave : Unused y c M ⊎ OpenAt ls l i c y
-  pub next : following (sizeOf ls l) from ≡ i
-
--- place i of ring l is one of c, between vertices x and y: the parts of the rings about it; an open edge enters it or leaves it
-pub record Spotted (ls : List Ring) (l i c x y : ℕ) : Type 0 where
-  pub before : List Ring
-  pub us : List Node
-  pub p : Node
-  pub vs : List Node
-  pub behind : List Ring
-  pub whole : ls ≡ before ++ ((us ++ (p ∷ vs)) ∷ behind)
-  pub number : length before ≡ l
-  pub position : length us ≡ i
-  pub own : vertex p ≡ c
-  pub enter : endOr (endOr (vertex p) vs) us ≡ x
-  pub leave : startOr (startOr (vertex p) us) vs ≡ y
-  pub stays : Stays us p
-
--- the number of the place in the rings shown
-abbrev pub seat : {ls : List Ring} {l i c x y : ℕ} → Spotted ls l i c x y → ℕ
-seat s = length (reached (s .us) false)

@@ -15,10 +15,10 @@ use Rattle.rules.specs.Triangle.{trianglesOf}
 use Rattle.rules.specs.Across.{across}
 use Rattle.mesh_theory.proofs.Fans.Tests.{all-distinct}
 use Rattle.mesh_theory.proofs.Fans.Finding.{across-found, found-in}
-use Rattle.mesh_theory.specs.Chains.Corner.{cornerAfter, cornerBefore, seenFrom, lastWith, latest}
+use Rattle.mesh_theory.specs.Chains.Corner.{cornerAfter, cornerBefore, seenFrom, latest}
 use Rattle.mesh_theory.specs.Chains.Linked.{Linked, Newest, Older}
 use Rattle.mesh_theory.specs.Chains.Turn.{leftBack, leftOn}
-use Rattle.mesh_theory.proofs.Chains.Walking.{At, at-found, at-more, latest-with, Counting, counting-all}
+use Rattle.mesh_theory.proofs.Chains.Walking.{lastWith, At, at-found, at-more, latest-with, Counting, counting-all}
 use Rattle.mesh_theory.proofs.Chains.Finding.{with-across, linked-first}
 use Rattle.mesh.specs.Turns.{noted, Fresh, Note, absent, present, Noted, AllNoted}
 

@@ -21,7 +21,7 @@ use Rattle.rules.specs.Choice.{choosePlace, Next, ended, refuses, takes, limite
 use Rattle.rules.specs.Pack.{Chosen, stopped, chosen, cons, chooseAll}
 use Rattle.mesh_theory.specs.Fans.Corner.{at-p, at-q, at-r, In, here, there, Once}
 use Rattle.mesh_theory.proofs.Fans.Corners.{in-next}
-use Rattle.choice_theory.specs.Turn.{Unused}
+use Rattle.choice_theory.specs.Spots.{Unused}
 use Rattle.choice_theory.proofs.Turning.Links.{in-last, free-rot}
 use Rattle.choice_theory.proofs.Turning.Ways.{Told, told, across-some, across-none, look, others, others-length, others-sub, others-once}
 use Rattle.choice_theory.proofs.Turning.Ways.{others-free}

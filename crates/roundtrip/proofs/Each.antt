@@ -17,7 +17,7 @@ use Rattle.rules.specs.Pack.{most, nothingBuilt, packOf, indexOf, newNumbers, P
 use Rattle.rules.specs.Buffer.{Buffers}
 use Rattle.rules.specs.Unpack.{numbersOf, UnpackResult, unpackDone, unpack}
 use Rattle.mesh_theory.specs.Fans.Corner.{In, Once}
-use Rattle.choice_theory.specs.Building.{onto}
+use Rattle.choice_theory.proofs.Steps.Choosing.{onto}
 use Rattle.choice_theory.proofs.Places.Numbering.{Met}
 use Rattle.choice_theory.proofs.Runs.Following.{run-length}
 use Rattle.choice_theory.proofs.Runs.Machine.{Facts, facts}

@@ -21,11 +21,11 @@ use Rattle.rules.specs.Code.{operationBits, operationsBits, readOperation}
 use Rattle.rules.specs.Bits.{bytesOf}
 use Rattle.rules.specs.Choice.{Packing}
 use Rattle.rules.specs.Pack.{chosen, most, nothingBuilt, chosenFor}
-use Rattle.book.specs.Shown.{shownAll, Live}
-use Rattle.book.proofs.Shown.{reached-cut, all-shown-append, all-shown-length, live-split, waiting-shown}
-use Rattle.choice_theory.specs.Surgery.{Surgery, on-new, on-forward, on-backward, on-close, on-split, on-union}
-use Rattle.choice_theory.specs.Tally.{allOpenEdges}
+use Rattle.book.specs.Shown.{shownAll}
+use Rattle.book.proofs.Shown.{Live, reached-cut, all-shown-append, all-shown-length, live-split, waiting-shown}
 use Rattle.choice_theory.specs.Works.{Reads, none-read, one-read}
+use Rattle.choice_theory.proofs.Steps.Surgery.{Surgery, on-new, on-forward, on-backward, on-close, on-split, on-union}
+use Rattle.choice_theory.proofs.Steps.Tally.{allOpenEdges}
 use Rattle.choice_theory.proofs.Steps.Falling.{build-opens, border-opens}
 use Rattle.choice_theory.proofs.Runs.Machine.{Run, r-done, r-start, r-build, r-border}
 use Rattle.choice_theory.proofs.Runs.Tracking.{shownPlaces, shownLoops, Within, peak-within}

@@ -10,10 +10,11 @@ use Rattle.rules.specs.Ring.{Node, Ring, vertex}
 use Rattle.rules.specs.Choice.{turnIn, turnOut, sizeOf, following}
 use Rattle.mesh_theory.specs.Fans.Corner.{Rot, at-p, In, here, there}
 use Rattle.rules.specs.Fan.{Neighbours}
-use Rattle.book.specs.Shown.{shownAll, Live}
-use Rattle.choice_theory.specs.Turn.{Unused, Links, stop, link}
-use Rattle.choice_theory.specs.Spots.{OpenAt, Unique, Site, seat}
-use Rattle.choice_theory.specs.Trace.{triangleAt}
+use Rattle.book.specs.Shown.{shownAll}
+use Rattle.book.proofs.Shown.{Live}
+use Rattle.choice_theory.specs.Spots.{OpenAt, Unused, Unique}
+use Rattle.choice_theory.proofs.Places.Spots.{Site, seat}
+use Rattle.choice_theory.proofs.Steps.Surgery.{triangleAt}
 use Rattle.mesh_theory.proofs.Fans.Corners.{rot-next}
 use Rattle.choice_theory.proofs.Turning.Links.{free-rot, turn-cases, Jumped}
 use Rattle.choice_theory.proofs.Turning.Core.{Blocked, one-way}
@@ -25,7 +26,7 @@ use Rattle.choice_theory.proofs.Turning.Choice.{open-enter, open-leave}
 use Rattle.choice_theory.proofs.Places.Showing.{open-full, unique-shown}
 use Rattle.choice_theory.proofs.Runs.Canonical.{State, shown-used}
 use Rattle.choice_theory.proofs.Steps.Choice.{Packs}
-use Rattle.rules.specs.Right.{RightPlace, by-entering, by-leaving}
+use Rattle.rules.specs.Right.{Links, stop, link, RightPlace, by-entering, by-leaving}
 
 pub links-map : {c x y : ℕ} {ts us : List Triangle} → ((v w : ℕ) → In c v w ts → In c v w us) → Links c ts x y → Links c us x y
 links-map g stop = stop

@@ -20,13 +20,14 @@ use Rattle.rules.specs.Choice.{Packing, Next, refuses, takes, has, operationFor
 use Rattle.rules.specs.Pack.{Most}
 use Rattle.mesh_theory.specs.Fans.Corner.{In, Once}
 use Rattle.rules.specs.Fan.{Neighbours}
-use Rattle.book.specs.Shown.{shownAll, Live}
-use Rattle.book.proofs.Shown.{reached-first}
+use Rattle.book.specs.Shown.{shownAll}
+use Rattle.book.proofs.Shown.{Live, reached-first}
 use Rattle.book.proofs.Parts.{buildingOf}
-use Rattle.choice_theory.specs.Turn.{Unused}
-use Rattle.choice_theory.specs.Spots.{seat}
-use Rattle.choice_theory.specs.Trace.{triangleAt}
-use Rattle.choice_theory.specs.Tally.{gluesA, gluesB, sideOf, newNumbers, unionsOf}
+use Rattle.choice_theory.specs.Spots.{Unused}
+use Rattle.choice_theory.specs.Full.{newNumbers}
+use Rattle.choice_theory.proofs.Places.Spots.{seat}
+use Rattle.choice_theory.proofs.Steps.Surgery.{triangleAt}
+use Rattle.choice_theory.proofs.Steps.Tally.{gluesA, gluesB, sideOf, unionsOf}
 use Rattle.choice_theory.proofs.Turning.Links.{once-func}
 use Rattle.choice_theory.proofs.Turning.Ways.{others, others-sub, across-some, across-none, look}
 use Rattle.choice_theory.proofs.Turning.Dropping.{drop-others}

@@ -8,9 +8,8 @@ use mathlib.Core.List.{List, [], _∷_, _++_, append-nil}
 use mathlib.Core.Path.{_≡_, refl, sym, ap, ap₂, _∙_}
 use lib.ListN.{length}
 use Rattle.rules.specs.Ring.{Node, opened, marked, isOpen, lastOpen, lastVertex, front, onward, reached, shown}
-use Rattle.book.specs.Shown.{ends}
 use Rattle.book.specs.Spaced.{Spaced}
-use Rattle.book.proofs.Shown.{reached-append, around}
+use Rattle.book.proofs.Shown.{ends, reached-append, around}
 use Rattle.book.proofs.Spaced.{reached-spaced}
 use Rattle.border_theory.proofs.Links.Stores.{cutNext, OpenNext}
 

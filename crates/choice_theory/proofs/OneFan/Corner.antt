@@ -17,9 +17,9 @@ use Rattle.mesh_theory.specs.Fans.Ways.{Chained}
 use Rattle.mesh_theory.specs.Fans.Corner.{Different}
 use Rattle.book.specs.Sums.{Weight, loopsSum, openHit, openEdges}
 use Rattle.book.proofs.Counting.{ifFresh, ifGlued, if-fresh-le, if-glued-le}
-use Rattle.choice_theory.specs.Fanned.{inHit, outHit, comesTo, leavesFrom, Leads, OneChain, Unnumbered}
+use Rattle.choice_theory.specs.Fanned.{inHit, outHit, comesTo, leavesFrom, OneChain, Unnumbered}
 use Rattle.choice_theory.proofs.OneFan.Places.{leaves-one, comes-one, out-places, in-places, one-leaves, one-comes}
-use Rattle.choice_theory.proofs.OneFan.Leading.{leads-chained, chained-leads, leads-one, leads-before, leads-after}
+use Rattle.choice_theory.proofs.OneFan.Leading.{Leads, leads-chained, chained-leads, leads-one, leads-before, leads-after}
 use Rattle.counting.proofs.Counts.{same-yes, same-no, same-is, hit-from, hit-swap, hit-to}
 use Rattle.mesh_theory.proofs.Fans.Corners.{hit-leaving}
 

@@ -14,8 +14,8 @@ use Rattle.rules.specs.Table.{Side}
 use Rattle.book.specs.Sums.{openHit, openEdges}
 use Rattle.book.proofs.Counting.{if-fresh-le}
 use Rattle.book.proofs.Effects.{At, Corners, none, third, three, Builds, Marks}
-use Rattle.choice_theory.specs.Fanned.{placesOf, inHit, outHit, comesTo, leavesFrom, Leads, OneChain, Unnumbered}
-use Rattle.choice_theory.proofs.OneFan.Leading.{leads-chained, chained-leads}
+use Rattle.choice_theory.specs.Fanned.{placesOf, inHit, outHit, comesTo, leavesFrom, OneChain, Unnumbered}
+use Rattle.choice_theory.proofs.OneFan.Leading.{Leads, leads-chained, chained-leads}
 use Rattle.counting.proofs.Counts.{same-yes, same-no, hit-from, hit-to}
 
 -- no more open edges at v than before, and no more places

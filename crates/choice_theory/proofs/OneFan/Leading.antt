@@ -6,7 +6,12 @@ use mathlib.Core.List.{List, [], _∷_, _++_}
 use mathlib.Core.Path.{_≡_, refl, sym}
 use Rattle.rules.specs.Triangle.{Edge, edge}
 use Rattle.mesh_theory.specs.Fans.Ways.{total, Chain, Chained}
-use Rattle.choice_theory.specs.Fanned.{Leads}
+
+-- all the edges, in some order, are one chain from s to t
+pub record Leads (s t : ℕ) (ds : List Edge) : Type 0 where
+  pub path : List Edge
+  pub chain : Chain s path t
+  pub sum : (w : Edge → ℕ) → total w ds ≡ total w path
 
 abbrev pub leads-chained : (s t : ℕ) (ds : List Edge) → Leads s t ds → Chained ds
 leads-chained s t ds l = record { start = s; finish = t; path = l .path; chain = l .chain; sum = l .sum }

@@ -3,7 +3,7 @@
 use Prim.Native.Nat.{ℕ}
 use mathlib.Core.List.{List, [], _∷_, _++_}
 use Rattle.rules.specs.Ring.{Node, opened, vertex, startOr}
-use Rattle.choice_theory.specs.Corners.{endOr, Along, Around}
+use Rattle.choice_theory.proofs.Places.Corners.{endOr, Along, Around}
 use Rattle.choice_theory.proofs.Places.Rings.{ring-parts, ring-join, seg-map}
 
 -- the place of c that an operation names stood between x and y; its heirs

@@ -11,9 +11,10 @@ use Rattle.rules.specs.declared.Operation.the-variants.{New, Forward, Backward,
 use Rattle.rules.specs.Count.{hit}
 use Rattle.rules.specs.Ring.{Node, opened, Ring, vertex, startOr}
 use Rattle.rules.specs.Table.{inOrder}
-use Rattle.choice_theory.specs.Corners.{endOr, Along, Around, Everywhere}
-use Rattle.choice_theory.specs.Surgery.{fewer, fewerFirst, Surgery, on-new, on-forward, on-backward, on-close, on-split, on-union}
-use Rattle.choice_theory.specs.Tally.{tally, ringTally, total}
+use Rattle.choice_theory.specs.Full.{fewer, fewerFirst}
+use Rattle.choice_theory.proofs.Places.Corners.{endOr, Along, Around, Everywhere}
+use Rattle.choice_theory.proofs.Steps.Surgery.{Surgery, on-new, on-forward, on-backward, on-close, on-split, on-union}
+use Rattle.choice_theory.proofs.Steps.Tally.{tally, ringTally, total}
 use Rattle.choice_theory.proofs.Places.Rings.{ring-join, ring-parts, ring-swap, last-append}
 use Rattle.choice_theory.proofs.Runs.Fate.{rings-append, rings-split}
 use Rattle.choice_theory.proofs.Steps.Tallies.{tally-append, tally-swap, total-append}

@@ -8,9 +8,11 @@ use Rattle.rules.specs.declared.Triangle.{Triangle}
 use Rattle.rules.specs.Ring.{Ring}
 use Rattle.mesh_theory.specs.Fans.Corner.{Rot, In, here, there, Once}
 use Rattle.rules.specs.Fan.{Neighbours}
-use Rattle.choice_theory.specs.Turn.{Unused, Links, Turn}
-use Rattle.choice_theory.specs.Corners.{Everywhere, Filled}
-use Rattle.choice_theory.specs.Spots.{OpenAt, Spotted}
+use Rattle.rules.specs.Right.{Links}
+use Rattle.choice_theory.specs.Spots.{OpenAt, Unused}
+use Rattle.choice_theory.proofs.Turning.Turn.{Turn}
+use Rattle.choice_theory.proofs.Places.Corners.{Everywhere, Filled}
+use Rattle.choice_theory.proofs.Places.Spots.{Spotted}
 use Rattle.mesh_theory.proofs.Fans.Corners.{rot-next}
 use Rattle.choice_theory.proofs.Turning.Links.{in-last, Last, last-link, first-link, links-meet, links-fork, Jumped, turn-cases}
 use Rattle.choice_theory.proofs.Turning.Links.{free-rot}

@@ -10,9 +10,9 @@ use Rattle.rules.specs.declared.Operation.the-variants.{New, Forward, Backward,
 use Rattle.rules.specs.Count.{hit}
 use Rattle.rules.specs.Ring.{Node, opened, marked, Ring, vertex, isOpen, startOr}
 use Rattle.rules.specs.Table.{inOrder}
-use Rattle.choice_theory.specs.Surgery.{fewer, fewerFirst, Surgery, on-new, on-forward, on-backward, on-close, on-split, on-union}
-use Rattle.choice_theory.specs.Trace.{afterBorder, withRing}
-use Rattle.choice_theory.specs.Tally.{tally, total, unless}
+use Rattle.choice_theory.specs.Full.{fewer, fewerFirst, withRing}
+use Rattle.choice_theory.proofs.Steps.Surgery.{afterBorder, Surgery, on-new, on-forward, on-backward, on-close, on-split, on-union}
+use Rattle.choice_theory.proofs.Steps.Tally.{tally, total, unless}
 use Rattle.choice_theory.proofs.Places.Rings.{append-none}
 use Rattle.choice_theory.proofs.Places.Onward.{Turned, turned-ring}
 use Rattle.choice_theory.proofs.Steps.Bordering.{withRim, rimOf}

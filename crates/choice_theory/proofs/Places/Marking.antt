@@ -10,9 +10,11 @@ use Rattle.rules.specs.declared.Operation.{Operation}
 use Rattle.rules.specs.declared.Operation.the-variants.{New, Forward, Backward, Split, Close, Union}
 use Rattle.rules.specs.Ring.{Node, opened, marked, Ring, vertex, startOr, onward}
 use Rattle.rules.specs.Table.{inOrder}
-use Rattle.choice_theory.specs.Turn.{Unused, rest, jump}
-use Rattle.choice_theory.specs.Corners.{endOr, Along, Around, Marks, RingMarks, AllMarks, Filled}
-use Rattle.choice_theory.specs.Surgery.{fewer, fewerFirst, Surgery, on-new, on-forward, on-backward, on-close, on-split, on-union}
+use Rattle.choice_theory.specs.Spots.{Unused}
+use Rattle.choice_theory.specs.Full.{fewer, fewerFirst}
+use Rattle.choice_theory.proofs.Turning.Turn.{rest, jump}
+use Rattle.choice_theory.proofs.Places.Corners.{endOr, Along, Around, Marks, RingMarks, AllMarks, Filled}
+use Rattle.choice_theory.proofs.Steps.Surgery.{Surgery, on-new, on-forward, on-backward, on-close, on-split, on-union}
 use Rattle.choice_theory.proofs.Places.Rings.{append-none, ring-swap}
 use Rattle.choice_theory.proofs.Places.Sites.{all-marks-split}
 use Rattle.choice_theory.proofs.Places.Onward.{Closed, Turned, onward-cases}

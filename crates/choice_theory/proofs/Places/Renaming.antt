@@ -14,9 +14,10 @@ use Rattle.rules.specs.declared.Operation.the-variants.{New, Forward, Backward,
 use Rattle.rules.specs.Triangle.{tri}
 use Rattle.rules.specs.Ring.{Node, opened, marked, Ring, vertex, isOpen, onward, reached, shown, places}
 use Rattle.rules.specs.Table.{inOrder}
-use Rattle.book.specs.Shown.{ends, Stays, shownAll, Live}
-use Rattle.choice_theory.specs.Surgery.{fewerFirst, Surgery, on-new, on-forward, on-backward, on-close, on-split, on-union}
-use Rattle.choice_theory.specs.Trace.{afterBorder, withRing}
+use Rattle.book.specs.Shown.{shownAll}
+use Rattle.book.proofs.Shown.{ends, Stays, Live}
+use Rattle.choice_theory.specs.Full.{fewerFirst, withRing}
+use Rattle.choice_theory.proofs.Steps.Surgery.{afterBorder, Surgery, on-new, on-forward, on-backward, on-close, on-split, on-union}
 
 module _ (name : ℕ → ℕ) where
   abbrev pub node : Node → Node

@@ -4,7 +4,7 @@ use Prim.Native.Nat.{ℕ}
 use mathlib.Core.List.{List, [], _∷_, _++_}
 use mathlib.Core.Path.{_≡_, refl, sym, ap, subst}
 use Rattle.rules.specs.Ring.{Node, Ring, vertex, startOr}
-use Rattle.choice_theory.specs.Corners.{endOr, Along, Around, Everywhere}
+use Rattle.choice_theory.proofs.Places.Corners.{endOr, Along, Around, Everywhere}
 
 pub append-none : (ps : List Node) → ps ++ [] ≡ ps
 append-none [] = refl

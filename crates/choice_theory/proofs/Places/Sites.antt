@@ -15,13 +15,13 @@ use Rattle.rules.specs.declared.Operation.{Operation}
 use Rattle.rules.specs.declared.Operation.the-variants.{New, Forward, Backward, Split, Close, Union}
 use Rattle.rules.specs.Ring.{Node, opened, marked, Ring, vertex, isOpen, allOpen, startOr, lastOpen, loopAt, reached, shown}
 use Rattle.rules.specs.Choice.{operationFor, sizeOf, following}
-use Rattle.book.specs.Shown.{ends, Stays, shownAll, Live}
-use Rattle.book.proofs.Shown.{reached-first, reached-cut, reached-some, all-shown-append, all-shown-length, live-split, shown-live}
-use Rattle.book.proofs.Shown.{waiting-shown, start-same, start-shown}
-use Rattle.choice_theory.specs.Turn.{Unused}
-use Rattle.choice_theory.specs.Corners.{endOr, Everywhere, Marks, RingMarks, AllMarks, Filled}
-use Rattle.choice_theory.specs.Surgery.{Surgery, on-new, on-forward, on-backward, on-close, on-split, on-union}
-use Rattle.choice_theory.specs.Spots.{EdgeIn, OpenAt, Site, Spotted, seat}
+use Rattle.book.specs.Shown.{shownAll}
+use Rattle.book.proofs.Shown.{ends, Stays, Live, reached-first, reached-cut, reached-some, all-shown-append, all-shown-length, live-split}
+use Rattle.book.proofs.Shown.{shown-live, waiting-shown, start-same, start-shown}
+use Rattle.choice_theory.specs.Spots.{EdgeIn, OpenAt, Unused}
+use Rattle.choice_theory.proofs.Places.Corners.{endOr, Everywhere, Marks, RingMarks, AllMarks, Filled}
+use Rattle.choice_theory.proofs.Steps.Surgery.{Surgery, on-new, on-forward, on-backward, on-close, on-split, on-union}
+use Rattle.choice_theory.proofs.Places.Spots.{Site, Spotted, seat}
 use Rattle.choice_theory.proofs.Places.Rings.{last-append}
 use Rattle.choice_theory.proofs.Steps.Effects.{and-none, last-open, not-forward, not-backward, shown-forward, shown-backward}
 use Rattle.choice_theory.proofs.Steps.Effects.{shown-cut}

@@ -13,17 +13,17 @@ use Rattle.rules.specs.Ring.{Node, Ring, vertex, loopAt}
 use Rattle.rules.specs.Choice.{choosePlace}
 use Rattle.mesh_theory.specs.Fans.Corner.{Rot, at-p, In, here, there, Once}
 use Rattle.rules.specs.Fan.{Neighbours}
-use Rattle.book.specs.Shown.{shownAll, Live}
-use Rattle.choice_theory.specs.Turn.{Unused}
-use Rattle.choice_theory.specs.Corners.{Everywhere, AllMarks}
-use Rattle.choice_theory.specs.Surgery.{Surgery}
-use Rattle.choice_theory.specs.Spots.{OpenAt, Unique, seat}
-use Rattle.choice_theory.specs.Trace.{triangleAt, Trace}
+use Rattle.book.specs.Shown.{shownAll}
+use Rattle.book.proofs.Shown.{Live}
+use Rattle.choice_theory.specs.Spots.{OpenAt, Unused, Unique}
+use Rattle.choice_theory.proofs.Places.Corners.{Everywhere, AllMarks}
+use Rattle.choice_theory.proofs.Steps.Surgery.{triangleAt, Surgery}
+use Rattle.choice_theory.proofs.Places.Spots.{seat}
 use Rattle.mesh_theory.proofs.Fans.Corners.{in-next, rot-next}
 use Rattle.choice_theory.proofs.Turning.Links.{free-rot}
 use Rattle.choice_theory.proofs.Turning.Ways.{Finds, across-some, across-none}
 use Rattle.choice_theory.proofs.Places.Marking.{marks-step}
-use Rattle.choice_theory.proofs.Runs.Traces.{fate}
+use Rattle.choice_theory.proofs.Runs.Traces.{Trace, fate}
 use Rattle.choice_theory.proofs.Places.Sites.{Named, named}
 use Rattle.choice_theory.proofs.Places.Ends.{spotted-holds, place-leaving}
 use Rattle.choice_theory.proofs.Places.Exists.{Used}

@@ -10,10 +10,10 @@ use Rattle.rules.specs.declared.Operation.the-variants.{New, Forward, Backward,
 use Rattle.rules.specs.Ring.{Node, opened, Ring, vertex}
 use Rattle.rules.specs.Table.{inOrder}
 use Rattle.mesh_theory.specs.Fans.Corner.{at-p, at-q, at-r, here}
-use Rattle.choice_theory.specs.Turn.{rest, turn}
-use Rattle.choice_theory.specs.Corners.{Around, Everywhere, Filled}
-use Rattle.choice_theory.specs.Surgery.{fewer, fewerFirst, Surgery, on-new, on-forward, on-backward, on-close, on-split, on-union}
-use Rattle.choice_theory.specs.Trace.{triangleAt}
+use Rattle.choice_theory.specs.Full.{fewer, fewerFirst}
+use Rattle.choice_theory.proofs.Turning.Turn.{rest, turn}
+use Rattle.choice_theory.proofs.Places.Corners.{Around, Everywhere, Filled}
+use Rattle.choice_theory.proofs.Steps.Surgery.{triangleAt, Surgery, on-new, on-forward, on-backward, on-close, on-split, on-union}
 use Rattle.choice_theory.proofs.Turning.Links.{turn-join, turn-more}
 use Rattle.choice_theory.proofs.Places.Rings.{ring-swap, rings-map}
 use Rattle.choice_theory.proofs.Places.Back.{back-new, back-forward, back-backward, back-close, back-split, back-union}

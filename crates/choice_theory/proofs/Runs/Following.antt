@@ -21,11 +21,11 @@ use Rattle.rules.specs.Table.{atEdge}
 use Rattle.rules.specs.Choice.{Packing, dropTriangle, choosePlace, takes, packingAfter, limited, choose}
 use Rattle.rules.specs.Pack.{chosen, cons, chooseAll}
 use Rattle.mesh_theory.specs.Fans.Corner.{Rot, at-p, In}
-use Rattle.book.specs.Shown.{shownAll, Live}
-use Rattle.book.proofs.Shown.{reached-first}
-use Rattle.choice_theory.specs.Surgery.{Surgery}
-use Rattle.choice_theory.specs.Trace.{triangleAt, afterBorder, withRing}
-use Rattle.choice_theory.specs.Tally.{newNumbers, allOpenEdges}
+use Rattle.book.specs.Shown.{shownAll}
+use Rattle.book.proofs.Shown.{Live, reached-first}
+use Rattle.choice_theory.specs.Full.{withRing, newNumbers}
+use Rattle.choice_theory.proofs.Steps.Surgery.{triangleAt, afterBorder, Surgery}
+use Rattle.choice_theory.proofs.Steps.Tally.{allOpenEdges}
 use Rattle.mesh_theory.proofs.Fans.Corners.{in-next}
 use Rattle.choice_theory.proofs.Turning.Ways.{Told, told, Finds}
 use Rattle.choice_theory.proofs.Steps.Legal.{legal-step}

@@ -15,18 +15,19 @@ use Rattle.rules.specs.Ring.{Node, opened, Ring, vertex, isOpen}
 use Rattle.rules.specs.Choice.{choosePlace}
 use Rattle.mesh_theory.specs.Fans.Corner.{at-p, at-q, at-r, In, here, there, Once}
 use Rattle.rules.specs.Fan.{Neighbours}
-use Rattle.book.specs.Shown.{shownAll, Live}
-use Rattle.choice_theory.specs.Turn.{Unused}
-use Rattle.choice_theory.specs.Corners.{AllMarks}
-use Rattle.choice_theory.specs.Surgery.{Surgery}
-use Rattle.choice_theory.specs.Trace.{triangleAt, afterBorder, withRing, Trace, t-done, t-start, t-build, t-border}
-use Rattle.choice_theory.specs.Tally.{total, gluesA, gluesB}
+use Rattle.book.specs.Shown.{shownAll}
+use Rattle.book.proofs.Shown.{Live}
+use Rattle.choice_theory.specs.Spots.{Unused}
+use Rattle.choice_theory.specs.Full.{withRing}
+use Rattle.choice_theory.proofs.Places.Corners.{AllMarks}
+use Rattle.choice_theory.proofs.Steps.Surgery.{triangleAt, afterBorder, Surgery}
+use Rattle.choice_theory.proofs.Steps.Tally.{total, gluesA, gluesB}
 use Rattle.choice_theory.proofs.Turning.Links.{free-rot}
 use Rattle.choice_theory.proofs.Turning.Ways.{Finds}
 use Rattle.choice_theory.proofs.Steps.Legal.{Lawful, legal-step, once-step}
 use Rattle.choice_theory.proofs.Places.Standing.{legal-unique, legal-used}
 use Rattle.choice_theory.proofs.Places.Marking.{marks-step}
-use Rattle.choice_theory.proofs.Runs.Traces.{marks-after}
+use Rattle.choice_theory.proofs.Runs.Traces.{Trace, t-done, t-start, t-build, t-border, marks-after}
 use Rattle.choice_theory.proofs.Steps.Bordering.{withRim, rimOf, total-border}
 use Rattle.choice_theory.proofs.Runs.Canonical.{State, canonical, border-across, next-across}
 use Rattle.choice_theory.proofs.Places.Marked.{allMark, all-le, mark-step, mark-border}

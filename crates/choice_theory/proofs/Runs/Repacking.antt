@@ -20,7 +20,7 @@ use Rattle.rules.specs.Pack.{chosen, Most, nothingBuilt, chosenFor}
 use Rattle.rules.specs.Unpack.{numbersOf}
 use Rattle.mesh_theory.specs.Fans.Corner.{In, here, there}
 use Rattle.choice_theory.specs.Works.{Works}
-use Rattle.choice_theory.specs.Building.{onto}
+use Rattle.choice_theory.proofs.Steps.Choosing.{onto}
 use Rattle.choice_theory.proofs.Runs.Machine.{Run, r-done, r-start, r-build, r-border, Facts, facts, Choices, canonical-all}
 use Rattle.choice_theory.proofs.Turning.Fans.{fans-of}
 use Rattle.choice_theory.proofs.Runs.Whole.{fits-begin}

@@ -10,9 +10,8 @@ use Rattle.rules.specs.Ring.{Ring, places}
 use Rattle.rules.specs.Machine.{Machine}
 use Rattle.book.specs.Shown.{shownAll}
 use Rattle.book.proofs.Shown.{all-shown-length, fewer-shown}
-use Rattle.choice_theory.specs.Tally.{newNumbers}
 use Rattle.choice_theory.specs.Works.{Works, w-none, w-built, w-declared}
-use Rattle.choice_theory.specs.Full.{fullAfter, Full, noneFull, stepped, fullRun, NeverMorePlaces}
+use Rattle.choice_theory.specs.Full.{fullAfter, Full, noneFull, newNumbers, stepped, fullRun, NeverMorePlaces}
 use Rattle.choice_theory.proofs.Runs.Working.{Ready, Step, step-built, step-declared}
 use Rattle.choice_theory.proofs.Runs.Repacking.{ready-empty}
 

@@ -1,18 +1,30 @@
--- Every place's fate in a list of operations that runs to completion.
+-- A list of operations that runs to completion, with the triangles that it builds, in their order; and every place's fate in it.
 -- Assumes nothing.
 use Prim.Native.Nat.{ℕ, _+_}
 use mathlib.Core.List.{List, [], _∷_, _++_}
 use mathlib.Core.Path.{_≡_, refl}
 use Rattle.rules.specs.declared.Triangle.{Triangle}
 use Rattle.rules.specs.declared.Operation.{Operation}
-use Rattle.rules.specs.Ring.{Node, marked, Ring, vertex}
-use Rattle.choice_theory.specs.Turn.{Unused}
-use Rattle.choice_theory.specs.Corners.{Around, Everywhere, RingMarks, AllMarks, Filled}
-use Rattle.choice_theory.specs.Trace.{afterBorder, withRing, Trace, t-done, t-start, t-build, t-border}
+use Rattle.rules.specs.declared.Operation.the-variants.{Border, Start}
+use Rattle.rules.specs.Ring.{Node, opened, marked, Ring, vertex}
+use Rattle.choice_theory.specs.Spots.{Unused}
+use Rattle.choice_theory.specs.Full.{withRing}
+use Rattle.choice_theory.proofs.Places.Corners.{Around, Everywhere, RingMarks, AllMarks, Filled}
+use Rattle.choice_theory.proofs.Steps.Surgery.{triangleAt, afterBorder, Surgery}
 use Rattle.choice_theory.proofs.Places.Rings.{ring-swap}
 use Rattle.choice_theory.proofs.Runs.Fate.{back-step}
 use Rattle.choice_theory.proofs.Places.Marking.{marks-step, marks-border, marks-open, ring-back, rim}
 use Rattle.choice_theory.proofs.Places.Onward.{closed-ring, turned-ring}
+
+-- from the rings ls on, with M the triangles of the whole model
+pub data Trace (M : List Triangle) : List Ring → List Operation → List Triangle → Type 0 where
+  t-done : Trace M [] [] []
+  t-start : {a b c : ℕ} {os : List Operation} {R : List Triangle} → Trace M ((opened a ∷ (opened b ∷ (opened c ∷ []))) ∷ []) os R
+      → Trace M [] (Start ∷ os) (record { p = a; q = b; r = c } ∷ R)
+  t-build : {e f : Node} {ps : List Node} {ws ls : List Ring} {c : ℕ} {o : Operation} {os : List Operation} {R : List Triangle}
+      → Surgery e f ps ws ls c o → Trace M ls os R → Trace M ((e ∷ (f ∷ ps)) ∷ ws) (o ∷ os) (triangleAt e f c ∷ R)
+  t-border : {e f : Node} {ps : List Node} {ws : List Ring} {os : List Operation} {R : List Triangle}
+      → Unused (vertex f) (vertex e) M → Trace M (withRing (afterBorder e f ps) ws) os R → Trace M ((e ∷ (f ∷ ps)) ∷ ws) (Border ∷ os) R
 
 -- the ring before its current edge was marked
 unmark : (Q : ℕ → ℕ → ℕ → Type 0) (e f : Node) (ps : List Node) → Around Q (f ∷ (ps ++ (marked (vertex e) ∷ []))) → Around Q (e ∷ (f ∷ ps))

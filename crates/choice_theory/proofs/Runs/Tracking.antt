@@ -12,8 +12,8 @@ use Rattle.rules.specs.Ring.{places, opened, Ring}
 use Rattle.rules.specs.Choice.{Packing}
 use Rattle.rules.specs.Pack.{indexOf}
 use Rattle.book.specs.Shown.{shownAll}
-use Rattle.choice_theory.specs.Trace.{afterBorder, withRing}
-use Rattle.choice_theory.specs.Tally.{newNumbers}
+use Rattle.choice_theory.specs.Full.{withRing, newNumbers}
+use Rattle.choice_theory.proofs.Steps.Surgery.{afterBorder}
 use Rattle.choice_theory.proofs.Runs.Machine.{Run, r-done, r-start, r-build, r-border}
 
 -- the ring of a first triangle

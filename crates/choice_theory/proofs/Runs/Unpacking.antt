@@ -15,13 +15,15 @@ use Rattle.rules.specs.Ring.{Node, Ring, vertex, reached, places}
 use Rattle.rules.specs.Table.{glued, fresh, atRest, effect, edgeRule}
 use Rattle.rules.specs.Machine.{Machine, afterBuild, afterMark, built, operation}
 use Rattle.mesh_theory.specs.Fans.Corner.{at-p, at-q, at-r, In, here, there}
-use Rattle.book.specs.Shown.{shownAll, Live}
+use Rattle.book.specs.Shown.{shownAll}
+use Rattle.book.proofs.Shown.{Live}
 use Rattle.book.proofs.Parts.{buildingOf, markingOf}
-use Rattle.choice_theory.specs.Turn.{Unused}
-use Rattle.choice_theory.specs.Surgery.{Surgery, on-new, on-forward, on-backward, on-close, on-split, on-union}
-use Rattle.choice_theory.specs.Trace.{triangleAt, afterBorder, withRing}
-use Rattle.choice_theory.specs.Tally.{gluesA, gluesB, sideOf, newNumbers, unionsOf}
+use Rattle.choice_theory.specs.Spots.{Unused}
+use Rattle.choice_theory.specs.Full.{withRing, newNumbers}
 use Rattle.choice_theory.specs.Works.{Works, w-none, w-built, w-declared}
+use Rattle.choice_theory.proofs.Steps.Surgery.{triangleAt, afterBorder, Surgery, on-new, on-forward, on-backward, on-close, on-split}
+use Rattle.choice_theory.proofs.Steps.Surgery.{on-union}
+use Rattle.choice_theory.proofs.Steps.Tally.{gluesA, gluesB, sideOf, unionsOf}
 use Rattle.mesh_theory.proofs.Fans.Corners.{in-next}
 use Rattle.choice_theory.proofs.Steps.Effects.{allows-any, border-marks}
 use Rattle.choice_theory.proofs.Runs.Machine.{Run, r-done, r-start, r-build, r-border}

@@ -17,11 +17,11 @@ use Rattle.rules.specs.Choice.{Packing, has, Next, ended, refuses, takes, limit
 use Rattle.rules.specs.Pack.{Chosen, stopped, chosen, cons, chooseAll, Most, nothingBuilt, chosenFor}
 use Rattle.mesh_theory.specs.Fans.Corner.{In, Once}
 use Rattle.rules.specs.Fan.{Neighbours}
-use Rattle.choice_theory.specs.Building.{nextBuilt, builtBy, onto}
+use Rattle.choice_theory.specs.Building.{nextBuilt, builtBy}
 use Rattle.choice_theory.proofs.Steps.Progress.{begin}
 use Rattle.choice_theory.proofs.Runs.Machine.{r-done}
 use Rattle.choice_theory.proofs.Runs.Tracking.{RunsAt, Runs}
-use Rattle.choice_theory.proofs.Steps.Choosing.{Fits, labour, GoesOn, choose-step}
+use Rattle.choice_theory.proofs.Steps.Choosing.{onto, Fits, labour, GoesOn, choose-step}
 
 -- from a packing under way, with the full rings ls, to its end, by the operations os
 pub record Complete (s : Packing) (ls : List Ring) (B : List Triangle) (rims : List Ring) (os : List Operation) (s′ : Packing) : Type

@@ -17,12 +17,12 @@ use Rattle.rules.specs.Machine.{Machine, afterBuild, afterMark, built, declared
 use Rattle.mesh_theory.specs.Fans.Corner.{at-p, at-q, at-r, In, here, there}
 use Rattle.book.specs.Shown.{shownAll}
 use Rattle.book.proofs.Parts.{buildingOf, markingOf}
-use Rattle.choice_theory.specs.Corners.{Everywhere}
-use Rattle.choice_theory.specs.Surgery.{Surgery, on-new, on-forward, on-backward, on-close, on-split, on-union}
-use Rattle.choice_theory.specs.Trace.{triangleAt, afterBorder, withRing}
-use Rattle.choice_theory.specs.Tally.{gluesA, gluesB, sideOf, newNumbers}
 use Rattle.choice_theory.specs.Works.{Works, w-none, w-built, w-declared}
-use Rattle.choice_theory.specs.Full.{fullAt, fullAfter}
+use Rattle.choice_theory.specs.Full.{withRing, fullAt, fullAfter, newNumbers}
+use Rattle.choice_theory.proofs.Places.Corners.{Everywhere}
+use Rattle.choice_theory.proofs.Steps.Surgery.{triangleAt, afterBorder, Surgery, on-new, on-forward, on-backward, on-close, on-split}
+use Rattle.choice_theory.proofs.Steps.Surgery.{on-union}
+use Rattle.choice_theory.proofs.Steps.Tally.{gluesA, gluesB, sideOf}
 use Rattle.choice_theory.proofs.Steps.Surgeries.{Lifted, Builds, surgery-of}
 use Rattle.choice_theory.proofs.Steps.Full.{surgery-full}
 use Rattle.choice_theory.proofs.Steps.Legal.{legal-step}

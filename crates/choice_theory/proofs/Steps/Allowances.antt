@@ -13,7 +13,8 @@ use Rattle.rules.specs.Table.{Side, Effect, not-allowed, builds, marks, allowed
 use Rattle.book.specs.Shown.{shownAll}
 use Rattle.book.proofs.Shown.{border-shown}
 use Rattle.book.proofs.Parts.{buildingOf}
-use Rattle.choice_theory.specs.Trace.{afterBorder, withRing}
+use Rattle.choice_theory.specs.Full.{withRing}
+use Rattle.choice_theory.proofs.Steps.Surgery.{afterBorder}
 use Rattle.choice_theory.proofs.Runs.Tracking.{firstRing}
 
 -- where no loop is live only start is allowed, and it builds

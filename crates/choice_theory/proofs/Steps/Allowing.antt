@@ -11,11 +11,12 @@ use Rattle.rules.specs.declared.Operation.{Operation}
 use Rattle.rules.specs.declared.Operation.the-variants.{Forward, Backward, Split, Close, Union}
 use Rattle.rules.specs.Ring.{Node, opened, Ring, vertex, isOpen, startOr, reached}
 use Rattle.rules.specs.Choice.{operationFor}
-use Rattle.book.specs.Shown.{Stays}
-use Rattle.choice_theory.specs.Turn.{Unused}
-use Rattle.choice_theory.specs.Corners.{endOr, RingMarks, AllMarks}
-use Rattle.choice_theory.specs.Surgery.{fewerFirst, Surgery, on-forward, on-backward, on-close, on-split, on-union}
-use Rattle.choice_theory.specs.Tally.{gluesA, gluesB}
+use Rattle.book.proofs.Shown.{Stays}
+use Rattle.choice_theory.specs.Spots.{Unused}
+use Rattle.choice_theory.specs.Full.{fewerFirst}
+use Rattle.choice_theory.proofs.Places.Corners.{endOr, RingMarks, AllMarks}
+use Rattle.choice_theory.proofs.Steps.Surgery.{Surgery, on-forward, on-backward, on-close, on-split, on-union}
+use Rattle.choice_theory.proofs.Steps.Tally.{gluesA, gluesB}
 use Rattle.choice_theory.proofs.Places.Elsewhere.{beforeC, afterC}
 use Rattle.choice_theory.proofs.Places.Sites.{mark-at, after-e, name-close, name-forward, name-backward, name-split}
 use Rattle.counting.proofs.Bools.{not-false-true}

@@ -9,11 +9,11 @@ use mathlib.Core.Logic.{_⊎_, inl, inr}
 use Rattle.rules.specs.declared.Triangle.{Triangle}
 use Rattle.rules.specs.Ring.{Node, opened, marked, Ring, vertex, onward}
 use Rattle.mesh_theory.specs.Fans.Corner.{In}
-use Rattle.choice_theory.specs.Turn.{Unused}
-use Rattle.choice_theory.specs.Corners.{Around, Everywhere, Filled}
-use Rattle.choice_theory.specs.Spots.{EdgeIn}
-use Rattle.choice_theory.specs.Trace.{afterBorder, withRing}
-use Rattle.choice_theory.specs.Tally.{ringTally, total}
+use Rattle.choice_theory.specs.Spots.{EdgeIn, Unused}
+use Rattle.choice_theory.specs.Full.{withRing}
+use Rattle.choice_theory.proofs.Places.Corners.{Around, Everywhere, Filled}
+use Rattle.choice_theory.proofs.Steps.Surgery.{afterBorder}
+use Rattle.choice_theory.proofs.Steps.Tally.{ringTally, total}
 use Rattle.choice_theory.proofs.Places.Rings.{ring-swap}
 use Rattle.choice_theory.proofs.Steps.Tallies.{tally-swap}
 use Rattle.choice_theory.proofs.Steps.Legal.{Lawful}

@@ -10,11 +10,13 @@ use Rattle.rules.specs.Ring.{Node, Ring, vertex, isOpen, reached, loopAt}
 use Rattle.rules.specs.Choice.{operationFor, choosePlace}
 use Rattle.mesh_theory.specs.Fans.Corner.{Rot, at-p, In, here, there}
 use Rattle.rules.specs.Fan.{Neighbours}
-use Rattle.book.specs.Shown.{shownAll, Live}
-use Rattle.choice_theory.specs.Turn.{Unused, Turn, rest, turn, jump}
-use Rattle.choice_theory.specs.Corners.{Everywhere, AllMarks, Filled}
-use Rattle.choice_theory.specs.Spots.{OpenAt, seat}
-use Rattle.choice_theory.specs.Trace.{triangleAt}
+use Rattle.book.specs.Shown.{shownAll}
+use Rattle.book.proofs.Shown.{Live}
+use Rattle.choice_theory.specs.Spots.{OpenAt, Unused}
+use Rattle.choice_theory.proofs.Turning.Turn.{Turn, rest, turn, jump}
+use Rattle.choice_theory.proofs.Places.Corners.{Everywhere, AllMarks, Filled}
+use Rattle.choice_theory.proofs.Places.Spots.{seat}
+use Rattle.choice_theory.proofs.Steps.Surgery.{triangleAt}
 use Rattle.mesh_theory.proofs.Fans.Corners.{rot-next}
 use Rattle.choice_theory.proofs.Turning.Links.{free-rot}
 use Rattle.choice_theory.proofs.Places.Ends.{spotted-holds, spotted-seen}

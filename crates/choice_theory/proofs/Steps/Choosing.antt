@@ -22,13 +22,14 @@ use Rattle.rules.specs.Choice.{choosePlace, packingAfter, limited, taking, choo
 use Rattle.rules.specs.Pack.{indexOf}
 use Rattle.mesh_theory.specs.Fans.Corner.{Rot, at-p, at-q, at-r, In, here, Once}
 use Rattle.rules.specs.Fan.{Neighbours}
-use Rattle.book.specs.Shown.{shownAll, Live}
-use Rattle.book.proofs.Shown.{reached-first}
+use Rattle.book.specs.Shown.{shownAll}
+use Rattle.book.proofs.Shown.{Live, reached-first}
 use Rattle.book.proofs.Parts.{markingOf}
-use Rattle.choice_theory.specs.Turn.{Unused}
-use Rattle.choice_theory.specs.Trace.{triangleAt, afterBorder, withRing}
-use Rattle.choice_theory.specs.Tally.{newNumbers, openEdges, allOpenEdges}
-use Rattle.choice_theory.specs.Building.{nextBuilt, onto}
+use Rattle.choice_theory.specs.Spots.{Unused}
+use Rattle.choice_theory.specs.Full.{withRing, newNumbers}
+use Rattle.choice_theory.specs.Building.{nextBuilt}
+use Rattle.choice_theory.proofs.Steps.Surgery.{triangleAt, afterBorder}
+use Rattle.choice_theory.proofs.Steps.Tally.{openEdges, allOpenEdges}
 use Rattle.mesh_theory.proofs.Fans.Corners.{in-next}
 use Rattle.choice_theory.proofs.Turning.Ways.{others, others-length, Finds, across-some, across-none}
 use Rattle.choice_theory.proofs.Steps.Effects.{built, allows, border-marks}
@@ -56,6 +57,11 @@ pub record Fits (s : Packing) (B : List Triangle) (rims : List Ring) : Type 0 wh
   pub good : AllGood full
   pub numbers : Numbered (s .numbered) B
   pub distinct : Distinct (s .numbered)
+
+-- triangles put before others, one after the other, so that the latest is first
+abbrev pub onto : List Triangle → List Triangle → List Triangle
+onto [] B = B
+onto (t ∷ R) B = onto R (t ∷ B)
 
 -- what is left to do
 abbrev pub labour : Packing → ℕ

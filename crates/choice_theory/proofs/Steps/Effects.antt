@@ -15,13 +15,14 @@ use Rattle.rules.specs.Triangle.{edge}
 use Rattle.rules.specs.Ring.{Node, opened, marked, Ring, vertex, isOpen, allOpen, startOr, vertexAt, lastOpen, lastVertex, front, loopAt}
 use Rattle.rules.specs.Ring.{without, reached, shown}
 use Rattle.rules.specs.Table.{glued, fresh, Effect, builds, marks, allowed, inOrder, shorterFirst, marking, atEdge}
-use Rattle.book.specs.Shown.{Stays, shownAll, Live}
-use Rattle.book.proofs.Shown.{reached-append, reached-first, reached-cut, border-shown, backward-shown, reached-some, take-cut, drop-cut}
-use Rattle.book.proofs.Shown.{all-shown-append, all-shown-length, live-split, shown-start, waiting-shown}
+use Rattle.book.specs.Shown.{shownAll}
+use Rattle.book.proofs.Shown.{Stays, Live, reached-append, reached-first, reached-cut, border-shown, backward-shown, reached-some, take-cut}
+use Rattle.book.proofs.Shown.{drop-cut, all-shown-append, all-shown-length, live-split, shown-start, waiting-shown}
 use Rattle.book.proofs.Parts.{buildingOf, markingOf}
-use Rattle.choice_theory.specs.Surgery.{fewerFirst, Surgery, on-new, on-forward, on-backward, on-close, on-split, on-union}
-use Rattle.choice_theory.specs.Trace.{triangleAt, afterBorder, withRing}
-use Rattle.choice_theory.specs.Tally.{gluesA, gluesB, sideOf, newNumbers, unionsOf}
+use Rattle.choice_theory.specs.Full.{fewerFirst, withRing, newNumbers}
+use Rattle.choice_theory.proofs.Steps.Surgery.{triangleAt, afterBorder, Surgery, on-new, on-forward, on-backward, on-close, on-split}
+use Rattle.choice_theory.proofs.Steps.Surgery.{on-union}
+use Rattle.choice_theory.proofs.Steps.Tally.{gluesA, gluesB, sideOf, unionsOf}
 use Rattle.counting.proofs.Bools.{and-both}
 
 allowed-true : (b : Bool) (ef : Effect) → b ≡ true → allowed b ef ≡ ef

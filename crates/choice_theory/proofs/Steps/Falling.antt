@@ -9,9 +9,9 @@ use Rattle.rules.specs.declared.Operation.{Operation}
 use Rattle.rules.specs.declared.Operation.the-variants.{New, Forward, Backward, Split, Close, Union}
 use Rattle.rules.specs.Ring.{Node, opened, marked, Ring, vertex, isOpen}
 use Rattle.rules.specs.Table.{inOrder}
-use Rattle.choice_theory.specs.Surgery.{fewer, fewerFirst, Surgery, on-new, on-forward, on-backward, on-close, on-split, on-union}
-use Rattle.choice_theory.specs.Trace.{afterBorder, withRing}
-use Rattle.choice_theory.specs.Tally.{when, openEdges, allOpenEdges}
+use Rattle.choice_theory.specs.Full.{fewer, fewerFirst, withRing}
+use Rattle.choice_theory.proofs.Steps.Surgery.{afterBorder, Surgery, on-new, on-forward, on-backward, on-close, on-split, on-union}
+use Rattle.choice_theory.proofs.Steps.Tally.{when, openEdges, allOpenEdges}
 use Rattle.choice_theory.proofs.Places.Onward.{turned-ring}
 use Rattle.choice_theory.proofs.Steps.Bordering.{rimOf}
 

@@ -10,10 +10,9 @@ use lib.ListN.{length, take, drop}
 use Rattle.rules.specs.declared.Operation.{Operation}
 use Rattle.rules.specs.declared.Operation.the-variants.{New, Forward, Backward, Split, Close, Union}
 use Rattle.rules.specs.Ring.{Node, opened, marked, Ring, vertex, isOpen, vertexAt, reached, loopAt, without}
-use Rattle.book.specs.Shown.{ends}
-use Rattle.book.proofs.Shown.{take-cut, drop-cut}
-use Rattle.choice_theory.specs.Surgery.{fewerFirst, Surgery, on-new, on-forward, on-backward, on-close, on-split, on-union}
-use Rattle.choice_theory.specs.Full.{fullIndex, fullAt}
+use Rattle.book.proofs.Shown.{ends, take-cut, drop-cut}
+use Rattle.choice_theory.specs.Full.{fullIndex, fewerFirst, fullAt}
+use Rattle.choice_theory.proofs.Steps.Surgery.{Surgery, on-new, on-forward, on-backward, on-close, on-split, on-union}
 use Rattle.choice_theory.proofs.Steps.Effects.{vertex-cut, loop-cut, without-cut, last-vertex, front-of}
 
 -- the place that stays, found by its number among those shown

@@ -14,11 +14,10 @@ use Rattle.rules.specs.Ring.{Node, Ring, vertex, firstOpen, allOpen, lastOpen, 
 use Rattle.rules.specs.Choice.{operationFor}
 use Rattle.mesh_theory.specs.Fans.Corner.{In}
 use Rattle.rules.specs.Fan.{Neighbours}
-use Rattle.choice_theory.specs.Corners.{endOr, Everywhere, Filled}
-use Rattle.choice_theory.specs.Spots.{seat}
-use Rattle.choice_theory.specs.Surgery.{Surgery, on-new}
-use Rattle.choice_theory.specs.Trace.{triangleAt}
-use Rattle.choice_theory.specs.Tally.{total}
+use Rattle.choice_theory.proofs.Places.Corners.{endOr, Everywhere, Filled}
+use Rattle.choice_theory.proofs.Places.Spots.{seat}
+use Rattle.choice_theory.proofs.Steps.Surgery.{triangleAt, Surgery, on-new}
+use Rattle.choice_theory.proofs.Steps.Tally.{total}
 use Rattle.mesh_theory.proofs.Fans.Corners.{in-next}
 use Rattle.choice_theory.proofs.Places.Rings.{rings-map}
 use Rattle.choice_theory.proofs.Places.Ends.{spotted-holds}

@@ -13,10 +13,11 @@ use Rattle.rules.specs.declared.Triangle.{Triangle}
 use Rattle.rules.specs.Ring.{Node, Ring, vertex, isOpen, loopAt}
 use Rattle.rules.specs.Choice.{sizeOf, following}
 use Rattle.mesh_theory.specs.Fans.Corner.{at-p, In, here, there}
-use Rattle.choice_theory.specs.Turn.{Unused, Turn, rest, turn, jump}
-use Rattle.choice_theory.specs.Corners.{Filled}
-use Rattle.choice_theory.specs.Spots.{OpenAt, Spotted}
-use Rattle.choice_theory.specs.Trace.{triangleAt}
+use Rattle.choice_theory.specs.Spots.{OpenAt, Unused}
+use Rattle.choice_theory.proofs.Turning.Turn.{Turn, rest, turn, jump}
+use Rattle.choice_theory.proofs.Places.Corners.{Filled}
+use Rattle.choice_theory.proofs.Places.Spots.{Spotted}
+use Rattle.choice_theory.proofs.Steps.Surgery.{triangleAt}
 use Rattle.mesh_theory.proofs.Fans.Corners.{in-next}
 use Rattle.choice_theory.proofs.Turning.Links.{in-last, once-func, once-inj}
 use Rattle.choice_theory.proofs.Places.Ends.{spotted-holds, spotted-site, place-leaving, place-entered}

@@ -11,9 +11,11 @@ use Rattle.rules.specs.declared.Triangle.{Triangle}
 use Rattle.rules.specs.Ring.{Node, Ring, vertex}
 use Rattle.mesh_theory.specs.Fans.Corner.{Rot, at-p, at-q, at-r, In, here, there}
 use Rattle.rules.specs.Fan.{Neighbours}
-use Rattle.choice_theory.specs.Turn.{Unused, Links, Turn, rest, turn, jump}
-use Rattle.choice_theory.specs.Corners.{Along, Around, Everywhere, Filled}
-use Rattle.choice_theory.specs.Trace.{triangleAt}
+use Rattle.rules.specs.Right.{Links}
+use Rattle.choice_theory.specs.Spots.{Unused}
+use Rattle.choice_theory.proofs.Turning.Turn.{Turn, rest, turn, jump}
+use Rattle.choice_theory.proofs.Places.Corners.{Along, Around, Everywhere, Filled}
+use Rattle.choice_theory.proofs.Steps.Surgery.{triangleAt}
 use Rattle.mesh_theory.proofs.Fans.Corners.{in-next, rot-next}
 use Rattle.choice_theory.proofs.Turning.Links.{in-last, free-rot, Last, last-link, first-link, links-meet, links-fork, turn-round}
 use Rattle.choice_theory.proofs.Turning.Links.{turn-map}

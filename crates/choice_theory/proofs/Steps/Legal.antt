@@ -14,10 +14,9 @@ use Rattle.rules.specs.declared.Operation.{Operation}
 use Rattle.rules.specs.Count.{num, hit}
 use Rattle.rules.specs.Ring.{Node, Ring, vertex}
 use Rattle.mesh_theory.specs.Fans.Corner.{at-p, at-q, at-r, In, here, there, Once}
-use Rattle.choice_theory.specs.Turn.{Unused}
-use Rattle.choice_theory.specs.Surgery.{Surgery}
-use Rattle.choice_theory.specs.Trace.{triangleAt}
-use Rattle.choice_theory.specs.Tally.{total, gluesA, gluesB, when, unless}
+use Rattle.choice_theory.specs.Spots.{Unused}
+use Rattle.choice_theory.proofs.Steps.Surgery.{triangleAt, Surgery}
+use Rattle.choice_theory.proofs.Steps.Tally.{total, gluesA, gluesB, when, unless}
 use Rattle.choice_theory.proofs.Steps.Tallies.{total-step}
 use Rattle.counting.proofs.Bools.{and-both, and-true}
 use Rattle.counting.proofs.Counts.{hit-yes}

@@ -17,10 +17,11 @@ use Rattle.rules.specs.Table.{inOrder}
 use Rattle.rules.specs.Choice.{choosePlace}
 use Rattle.mesh_theory.specs.Fans.Corner.{at-p, at-q, at-r, In, here, there, Once}
 use Rattle.rules.specs.Fan.{Neighbours}
-use Rattle.book.specs.Shown.{shownAll, Live}
-use Rattle.choice_theory.specs.Turn.{Unused}
-use Rattle.choice_theory.specs.Surgery.{fewer, fewerFirst, Surgery, on-new, on-forward, on-backward, on-close, on-split, on-union}
-use Rattle.choice_theory.specs.Trace.{afterBorder, withRing}
+use Rattle.book.specs.Shown.{shownAll}
+use Rattle.book.proofs.Shown.{Live}
+use Rattle.choice_theory.specs.Spots.{Unused}
+use Rattle.choice_theory.specs.Full.{fewer, fewerFirst, withRing}
+use Rattle.choice_theory.proofs.Steps.Surgery.{afterBorder, Surgery, on-new, on-forward, on-backward, on-close, on-split, on-union}
 use Rattle.choice_theory.proofs.Turning.Ways.{others, look}
 use Rattle.choice_theory.proofs.Places.Onward.{Turned, turned-ring}
 use Rattle.choice_theory.proofs.Steps.Triangle.{Keeps, Packed, pack-new, pack-old}

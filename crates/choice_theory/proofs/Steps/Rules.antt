@@ -11,8 +11,8 @@ use Rattle.rules.specs.Triangle.{edgesOf}
 use Rattle.rules.specs.Count.{uses, unjoined}
 use Rattle.rules.specs.Table.{glued, fresh, sideRule, edgeRule}
 use Rattle.mesh_theory.proofs.Fans.Corners.{free-unused}
-use Rattle.choice_theory.specs.Turn.{Unused}
-use Rattle.choice_theory.specs.Tally.{sideOf}
+use Rattle.choice_theory.specs.Spots.{Unused}
+use Rattle.choice_theory.proofs.Steps.Tally.{sideOf}
 use Rattle.counting.proofs.Bools.{and-both, and-true, not-eqb}
 
 -- the edge rule, for the triangle b a c of an operation

@@ -12,9 +12,11 @@ use Rattle.rules.specs.Count.{hit}
 use Rattle.rules.specs.Ring.{opened, Ring}
 use Rattle.mesh_theory.specs.Fans.Corner.{Rot, at-p, at-q, at-r, In, here, there}
 use Rattle.rules.specs.Fan.{Neighbours}
-use Rattle.choice_theory.specs.Turn.{Unused, Links, Turn}
-use Rattle.choice_theory.specs.Corners.{Filled}
-use Rattle.choice_theory.specs.Tally.{total}
+use Rattle.rules.specs.Right.{Links}
+use Rattle.choice_theory.specs.Spots.{Unused}
+use Rattle.choice_theory.proofs.Turning.Turn.{Turn}
+use Rattle.choice_theory.proofs.Places.Corners.{Filled}
+use Rattle.choice_theory.proofs.Steps.Tally.{total}
 use Rattle.mesh_theory.proofs.Fans.Corners.{rot-next}
 use Rattle.choice_theory.proofs.Turning.Links.{in-last, free-rot, Last, last-link, first-link, turn-round, turn-map}
 use Rattle.choice_theory.proofs.Turning.Cuts.{first-built, last-built, fan-order, turn-cut}

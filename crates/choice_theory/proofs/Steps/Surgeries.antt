@@ -17,14 +17,14 @@ use Rattle.rules.specs.Triangle.{tri}
 use Rattle.rules.specs.Ring.{Node, opened, marked, Ring, vertex, isOpen, firstOpen, allOpen, startOr, vertexAt, lastOpen, lastVertex, front}
 use Rattle.rules.specs.Ring.{onward, reached, shown, loopAt, without}
 use Rattle.rules.specs.Table.{Side, glued, Effect, not-allowed, builds, marks, allowed, shorterFirst, marking, atEdge}
-use Rattle.book.specs.Shown.{ends, Stays, shownAll, Live}
-use Rattle.book.proofs.Shown.{ends-reached, reached-first, reached-cut, backward-shown, reached-some, take-cut, drop-cut, all-shown-append}
-use Rattle.book.proofs.Shown.{all-shown-length, live-split, shown-live, FullCut, full-cut, open-ends, ends-last}
+use Rattle.book.specs.Shown.{shownAll}
+use Rattle.book.proofs.Shown.{ends, Stays, Live, ends-reached, reached-first, reached-cut, backward-shown, reached-some, take-cut, drop-cut}
+use Rattle.book.proofs.Shown.{all-shown-append, all-shown-length, live-split, shown-live, FullCut, full-cut, open-ends, ends-last}
 use Rattle.book.proofs.Parts.{buildingOf}
-use Rattle.choice_theory.specs.Corners.{endOr}
-use Rattle.choice_theory.specs.Surgery.{fewerFirst, Surgery, on-new, on-forward, on-backward, on-close, on-split, on-union}
-use Rattle.choice_theory.specs.Trace.{triangleAt}
-use Rattle.choice_theory.specs.Tally.{gluesA, gluesB, sideOf, newNumbers, unionsOf}
+use Rattle.choice_theory.specs.Full.{fewerFirst, newNumbers}
+use Rattle.choice_theory.proofs.Places.Corners.{endOr}
+use Rattle.choice_theory.proofs.Steps.Surgery.{triangleAt, Surgery, on-new, on-forward, on-backward, on-close, on-split, on-union}
+use Rattle.choice_theory.proofs.Steps.Tally.{gluesA, gluesB, sideOf, unionsOf}
 use Rattle.choice_theory.proofs.Places.Rings.{last-append}
 use Rattle.choice_theory.proofs.Steps.Effects.{vertex-cut, loop-cut, without-cut, last-vertex, front-of, shown-backward}
 use Rattle.choice_theory.proofs.Steps.Effects.{shown-halves, shown-union}

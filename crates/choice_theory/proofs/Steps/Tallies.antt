@@ -10,8 +10,9 @@ use Rattle.rules.specs.declared.Operation.the-variants.{New, Forward, Backward,
 use Rattle.rules.specs.Count.{hit}
 use Rattle.rules.specs.Ring.{Node, opened, Ring, vertex, startOr}
 use Rattle.rules.specs.Table.{inOrder}
-use Rattle.choice_theory.specs.Surgery.{fewer, fewerFirst, Surgery, on-new, on-forward, on-backward, on-close, on-split, on-union}
-use Rattle.choice_theory.specs.Tally.{tally, ringTally, total, gluesA, gluesB, when, unless}
+use Rattle.choice_theory.specs.Full.{fewer, fewerFirst}
+use Rattle.choice_theory.proofs.Steps.Surgery.{Surgery, on-new, on-forward, on-backward, on-close, on-split, on-union}
+use Rattle.choice_theory.proofs.Steps.Tally.{tally, ringTally, total, gluesA, gluesB, when, unless}
 use Rattle.choice_theory.proofs.Places.Rings.{append-none}
 
 module _ (x y : ℕ) where

@@ -15,13 +15,13 @@ use Rattle.rules.specs.Ring.{Node, opened, Ring, vertex, isOpen, startOr}
 use Rattle.rules.specs.Choice.{choosePlace}
 use Rattle.mesh_theory.specs.Fans.Corner.{Rot, at-p, at-q, at-r, In, here, there, Once}
 use Rattle.rules.specs.Fan.{Neighbours}
-use Rattle.book.specs.Shown.{shownAll, Live}
-use Rattle.choice_theory.specs.Turn.{Unused}
-use Rattle.choice_theory.specs.Corners.{Everywhere, Marks, AllMarks, Filled}
-use Rattle.choice_theory.specs.Surgery.{Surgery, on-new}
-use Rattle.choice_theory.specs.Spots.{EdgeIn, OpenAt, seat}
-use Rattle.choice_theory.specs.Trace.{triangleAt}
-use Rattle.choice_theory.specs.Tally.{tally, total, gluesA, gluesB, when, unless}
+use Rattle.book.specs.Shown.{shownAll}
+use Rattle.book.proofs.Shown.{Live}
+use Rattle.choice_theory.specs.Spots.{EdgeIn, OpenAt, Unused}
+use Rattle.choice_theory.proofs.Places.Corners.{Everywhere, Marks, AllMarks, Filled}
+use Rattle.choice_theory.proofs.Steps.Surgery.{triangleAt, Surgery, on-new}
+use Rattle.choice_theory.proofs.Places.Spots.{seat}
+use Rattle.choice_theory.proofs.Steps.Tally.{tally, total, gluesA, gluesB, when, unless}
 use Rattle.mesh_theory.proofs.Fans.Corners.{in-next, rot-next}
 use Rattle.choice_theory.proofs.Turning.Links.{free-rot}
 use Rattle.choice_theory.proofs.Places.Marking.{marks-step}

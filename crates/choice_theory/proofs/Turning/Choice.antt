@@ -10,8 +10,10 @@ use Rattle.rules.specs.Ring.{Ring}
 use Rattle.rules.specs.Choice.{nowhere, spot, spotOf, operationFor, sizeOf, following, choosePlace, turnIn, turnOut, afterCurrent}
 use Rattle.mesh_theory.specs.Fans.Corner.{In, Once}
 use Rattle.rules.specs.Fan.{Neighbours}
-use Rattle.choice_theory.specs.Turn.{Unused, Links, Turn}
-use Rattle.choice_theory.specs.Spots.{OpenAt, Unique, Site}
+use Rattle.rules.specs.Right.{Links}
+use Rattle.choice_theory.specs.Spots.{OpenAt, Unused, Unique}
+use Rattle.choice_theory.proofs.Turning.Turn.{Turn}
+use Rattle.choice_theory.proofs.Places.Spots.{Site}
 use Rattle.mesh_theory.proofs.Fans.Corners.{in-next}
 use Rattle.choice_theory.proofs.Turning.Links.{in-last, Last, last-link, first-link}
 use Rattle.choice_theory.proofs.Turning.Core.{Blocked, one-way}

@@ -7,7 +7,9 @@ use mathlib.Core.Logic.{_⊎_, inl, inr}
 use Rattle.rules.specs.declared.Triangle.{Triangle}
 use Rattle.mesh_theory.specs.Fans.Corner.{In, Once}
 use Rattle.rules.specs.Fan.{Neighbours}
-use Rattle.choice_theory.specs.Turn.{Unused, Links, Turn}
+use Rattle.rules.specs.Right.{Links}
+use Rattle.choice_theory.specs.Spots.{Unused}
+use Rattle.choice_theory.proofs.Turning.Turn.{Turn}
 use Rattle.mesh_theory.proofs.Fans.Corners.{in-next}
 use Rattle.choice_theory.proofs.Turning.Links.{in-last, Last, last-link, links-meet, Jumped, turn-cases, one-end}
 

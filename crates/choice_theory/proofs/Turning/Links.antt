@@ -7,8 +7,10 @@ use mathlib.Core.Logic.{_⊎_, inl, inr}
 use Rattle.rules.specs.declared.Triangle.{Triangle}
 use Rattle.mesh_theory.specs.Fans.Corner.{Rot, at-p, at-q, at-r, In, here, there, Once}
 use Rattle.rules.specs.Fan.{Linked, Pair, endOf, Round, Neighbours}
+use Rattle.rules.specs.Right.{Links, stop, link}
 use Rattle.mesh_theory.proofs.Fans.Corners.{in-next, rot-third}
-use Rattle.choice_theory.specs.Turn.{Unused, Links, stop, link, Turn, rest, turn, jump}
+use Rattle.choice_theory.specs.Spots.{Unused}
+use Rattle.choice_theory.proofs.Turning.Turn.{Turn, rest, turn, jump}
 
 pub in-last : {x y z : ℕ} {ts : List Triangle} → In x y z ts → In z x y ts
 in-last i = in-next (in-next i)

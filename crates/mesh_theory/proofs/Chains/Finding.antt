@@ -12,11 +12,11 @@ use Rattle.rules.specs.declared.Across.{Across}
 use Rattle.rules.specs.declared.Across.the-variants.{Found, Nothing}
 use Rattle.rules.specs.Triangle.{trianglesOf}
 use Rattle.rules.specs.Across.{inTriangle, across}
-use Rattle.mesh_theory.specs.Chains.Corner.{cornerAfter, firstTriangles, triangleAt, seenFrom, lastWith}
+use Rattle.mesh_theory.specs.Chains.Corner.{cornerAfter, firstTriangles, triangleAt, seenFrom}
 use Rattle.mesh_theory.specs.Chains.Linked.{Chains, Newest, Older, Finds, Linked}
 use Rattle.mesh_theory.proofs.Chains.Prefix.{first-more, first-all, length-first}
-use Rattle.mesh_theory.proofs.Chains.Walking.{after-first, after-second, after-third, before-first, before-second, before-third}
-use Rattle.mesh_theory.proofs.Chains.Walking.{At, at-latest, at-found, at-more, at-none}
+use Rattle.mesh_theory.proofs.Chains.Walking.{lastWith, after-first, after-second, after-third, before-first, before-second}
+use Rattle.mesh_theory.proofs.Chains.Walking.{before-third, At, at-latest, at-found, at-more, at-none}
 use Rattle.mesh_theory.proofs.Fans.Finding.{pair}
 
 -- a triangle added at the end is looked at first

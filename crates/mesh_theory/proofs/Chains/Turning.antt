@@ -16,9 +16,10 @@ use Rattle.rules.specs.Count.{same, hit, occurs, count, uses}
 use Rattle.rules.specs.Across.{across}
 use Rattle.rules.specs.Check.{allDistinct, noneTwice}
 use Rattle.rules.specs.Fan.{about, Taken, no-edge, taken, keep, leaving, entering, turnOn, turnBack}
-use Rattle.mesh_theory.specs.Fans.Ways.{total, starts, ends, Apart}
+use Rattle.mesh_theory.specs.Fans.Ways.{total}
 use Rattle.mesh_theory.specs.Fans.Corner.{Rot, at-p, at-q, at-r, In, Different}
-use Rattle.mesh_theory.proofs.Fans.Counting.{length-total, total-more, hits, count-total, count-starts, count-ends}
+use Rattle.mesh_theory.proofs.Fans.Counting.{starts, ends, Apart, length-total, total-more, hits, count-total, count-starts}
+use Rattle.mesh_theory.proofs.Fans.Counting.{count-ends}
 use Rattle.mesh_theory.proofs.Fans.Turning.{Turn, onward, backward}
 use Rattle.mesh_theory.proofs.Fans.Corners.{in-next}
 use Rattle.mesh_theory.proofs.Fans.Tests.{distinct-first, distinct-rest}

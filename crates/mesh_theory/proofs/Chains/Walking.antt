@@ -2,16 +2,23 @@
 -- Assumes nothing.
 use Prim.Native.Nat.{ℕ, zero, suc, _+_, _*_, _-_, _≤_, _<_, _/_, _%_}
 use native.Mathlib.Omega.{arith}
-use mathlib.Core.Bool.{Bool, true, false}
+use mathlib.Core.Bool.{Bool, true, false, _&&_}
 use mathlib.Core.List.{List}
 use mathlib.Core.Path.{_≡_, refl, sym, ap, _∙_, subst}
 use lib.ListN.{length, getD}
 use lib.Dec.{eqb}
 use borrow.Author.Tests.{eqb-true, eqb-false, eq-eqb, ne-eqb}
 use Rattle.rules.specs.Limits.{maxNumbers, maxVertices}
+use Rattle.rules.specs.declared.Across.{Across}
 use Rattle.rules.specs.declared.Across.the-variants.{Found, Nothing}
-use Rattle.mesh_theory.specs.Chains.Corner.{cornerAfter, cornerBefore, latest, degree, seenFrom, lastWith}
+use Rattle.mesh_theory.specs.Chains.Corner.{cornerAfter, cornerBefore, latest, degree, seenFrom}
 use Rattle.mesh_theory.specs.Chains.Linked.{Chains, Newest, Older, CountsFrom}
+
+-- the last corner below n that the directed edge x→y leaves
+unfoldable pub lastWith : ℕ → ℕ → List ℕ → ℕ → Across
+lastWith x y xs zero = Nothing
+lastWith x y xs (suc c) =
+    elim (eqb (getD xs c 0) x && eqb (getD xs (cornerAfter c) 0) y) [ true ↦ seenFrom xs c | false ↦ lastWith x y xs c ]
 
 -- what the last corner below suc c is, by whether corner c has the vertex
 pub latest-here : (v : ℕ) (xs : List ℕ) (c : ℕ) → getD xs c 0 ≡ v → latest v xs (suc c) ≡ suc c

@@ -13,9 +13,9 @@ use Rattle.rules.specs.Triangle.{edge, edgesOf}
 use Rattle.rules.specs.Count.{count, uses}
 use Rattle.rules.specs.Fan.{about}
 use Rattle.rules.specs.Check.{allDistinct, noneTwice}
-use Rattle.mesh_theory.specs.Fans.Ways.{total, starts, ends, Apart}
+use Rattle.mesh_theory.specs.Fans.Ways.{total}
 use Rattle.mesh_theory.specs.Fans.Corner.{Rot, at-p, at-q, at-r, In, here, there}
-use Rattle.mesh_theory.proofs.Fans.Counting.{member}
+use Rattle.mesh_theory.proofs.Fans.Counting.{starts, ends, Apart, member}
 use Rattle.mesh_theory.proofs.Fans.Corners.{rot-different, uses-rot, uses-cons, sides-leaving, sides-entering, sides-no, rot-others}
 use Rattle.mesh_theory.proofs.Fans.Corners.{sides-yes}
 use Rattle.mesh_theory.proofs.Fans.Tests.{distinct-first, distinct-rest, none-twice}

@@ -9,8 +9,15 @@ use borrow.Author.Tests.{eq-eqb}
 use Rattle.rules.specs.declared.Triangle.{Triangle}
 use Rattle.rules.specs.Triangle.{edgesOf}
 use Rattle.rules.specs.Count.{same, hit, count, uses}
-use Rattle.mesh_theory.specs.Fans.Corner.{Rot, at-p, at-q, at-r, In, here, there, Free, Different, sides, sidesOf}
+use Rattle.mesh_theory.specs.Fans.Corner.{Rot, at-p, at-q, at-r, In, here, there, Free, Different}
 use Rattle.counting.proofs.Counts.{same-yes, same-is, hit-yes, hit-swap, hit-is, no-from}
+
+-- how often the triangle a b c has the directed edge x→y
+unfoldable pub sides : ℕ → ℕ → ℕ → ℕ → ℕ → ℕ
+sides x y a b c = hit x y a b + hit x y b c + hit x y c a
+
+abbrev pub sidesOf : ℕ → ℕ → Triangle → ℕ
+sidesOf x y t = sides x y (t .p) (t .q) (t .r)
 
 -- a triangle seen from its next corner
 pub rot-next : {t : Triangle} {x y z : ℕ} → Rot t x y z → Rot t y z x

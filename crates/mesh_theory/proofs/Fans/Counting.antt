@@ -11,8 +11,20 @@ use lib.Dec.{eqb}
 use borrow.Author.Tests.{eqb-true, eqb-false}
 use Rattle.rules.specs.Triangle.{Edge, edge}
 use Rattle.rules.specs.Count.{same, hit, count}
-use Rattle.mesh_theory.specs.Fans.Ways.{total, starts, ends, Apart}
+use Rattle.mesh_theory.specs.Fans.Ways.{total}
 use Rattle.counting.proofs.Counts.{hit-yes, hit-from, hit-to, hit-is}
+
+-- how many of the edges start at x, and how many end there
+abbrev pub starts : ℕ → List Edge → ℕ
+starts x = total (λ d. same x (d .from))
+
+abbrev pub ends : ℕ → List Edge → ℕ
+ends x = total (λ d. same x (d .to))
+
+-- no two of the edges start at the same vertex, and no two end at the same one
+pub record Apart (ds : List Edge) : Type 0 where
+  pub starts-once : (x : ℕ) → starts x ds ≤ 1
+  pub ends-once : (x : ℕ) → ends x ds ≤ 1
 
 -- what holds for the last number and for those below it
 pub below-suc : (P : ℕ → Type 0) (n v : ℕ) → v < suc n → P n → (v < n → P v) → P v

@@ -15,9 +15,9 @@ use Rattle.rules.specs.declared.Across.the-variants.{Found, Nothing}
 use Rattle.rules.specs.Triangle.{edgesOf}
 use Rattle.rules.specs.Count.{hit, count, uses}
 use Rattle.rules.specs.Across.{inTriangle, across}
-use Rattle.mesh_theory.specs.Fans.Corner.{Rot, at-p, at-q, at-r, third, In, here, there, sides, sidesOf}
+use Rattle.mesh_theory.specs.Fans.Corner.{Rot, at-p, at-q, at-r, third, In, here, there}
 use Rattle.mesh_theory.specs.Fans.Finding.{FoundAt, Told}
-use Rattle.mesh_theory.proofs.Fans.Corners.{uses-cons, in-uses}
+use Rattle.mesh_theory.proofs.Fans.Corners.{sides, sidesOf, uses-cons, in-uses}
 use Rattle.counting.proofs.Bools.{and-left, and-right, and-both}
 use Rattle.counting.proofs.Counts.{hit-is}
 

@@ -10,8 +10,8 @@ use Rattle.rules.specs.declared.Triangle.{Triangle}
 use Rattle.rules.specs.Triangle.{distinct, edgesOf}
 use Rattle.rules.specs.Count.{count, uses}
 use Rattle.rules.specs.Check.{allDistinct, noneTwice}
-use Rattle.mesh_theory.specs.Fans.Corner.{Rot, at-p, at-q, at-r, Free, Different, Once, sides, sidesOf}
-use Rattle.mesh_theory.proofs.Fans.Corners.{uses-rot, uses-cons, sides-yes, sides-rot, free-unused}
+use Rattle.mesh_theory.specs.Fans.Corner.{Rot, at-p, at-q, at-r, Free, Different, Once}
+use Rattle.mesh_theory.proofs.Fans.Corners.{sides, sidesOf, uses-rot, uses-cons, sides-yes, sides-rot, free-unused}
 use Rattle.mesh_theory.proofs.Fans.Tests.{distinct-different, distinct-first, distinct-rest, none-twice}
 use Rattle.counting.proofs.Bools.{and-both}
 use Rattle.counting.proofs.Counts.{hit-from, same-two}

@@ -10,8 +10,8 @@ use lib.ListN.{length}
 use Rattle.rules.specs.Triangle.{Edge}
 use Rattle.rules.specs.Count.{same, count}
 use Rattle.rules.specs.Fan.{Shares, Run, leaving, entering, turnOn, turnBack, isNil, oneRun}
-use Rattle.mesh_theory.specs.Fans.Ways.{total, starts, ends, Apart, Walk, Chain, Chained}
-use Rattle.mesh_theory.proofs.Fans.Counting.{member, length-total, hits, count-total, count-starts, count-ends}
+use Rattle.mesh_theory.specs.Fans.Ways.{total, Walk, Chain, Chained}
+use Rattle.mesh_theory.proofs.Fans.Counting.{starts, ends, Apart, member, length-total, hits, count-total, count-starts, count-ends}
 use Rattle.mesh_theory.proofs.Fans.Turning.{onward, backward, turned}
 use Rattle.counting.proofs.Counts.{same-is, hit-yes}
 

@@ -10,9 +10,9 @@ use Rattle.rules.specs.declared.Triangle.{Triangle}
 use Rattle.rules.specs.declared.Across.the-variants.{Found}
 use Rattle.rules.specs.Count.{hit, uses}
 use Rattle.rules.specs.Across.{across}
-use Rattle.mesh_theory.specs.Fans.Corner.{Rot, at-p, at-q, at-r, third, In, here, there, sides, sidesOf}
+use Rattle.mesh_theory.specs.Fans.Corner.{Rot, at-p, at-q, at-r, third, In, here, there}
 use Rattle.mesh_theory.specs.Fans.Finding.{SameFound}
-use Rattle.mesh_theory.proofs.Fans.Corners.{rot-sum, rot-third, uses-rot, uses-cons, sides-yes, in-uses}
+use Rattle.mesh_theory.proofs.Fans.Corners.{sides, sidesOf, rot-sum, rot-third, uses-rot, uses-cons, sides-yes, in-uses}
 use Rattle.mesh_theory.proofs.Fans.Finding.{across-found, found-below, found-place, place-sides}
 use Rattle.counting.proofs.Counts.{hit-yes}
 

@@ -7,7 +7,7 @@ use lib.ListN.{getD, take}
 use lib.Dec.{eqb}
 use Rattle.rules.specs.declared.Triangle.{Triangle}
 use Rattle.rules.specs.declared.Across.{Across}
-use Rattle.rules.specs.declared.Across.the-variants.{Found, Nothing}
+use Rattle.rules.specs.declared.Across.the-variants.{Found}
 use Rattle.rules.specs.Triangle.{tri, trianglesOf}
 use Rattle.rules.specs.Count.{uses}
 
@@ -38,12 +38,6 @@ degree v xs (suc c) = elim (eqb (getD xs c 0) v) [ true ↦ suc (degree v xs c) 
 -- the triangle of corner c, seen across the directed edge that leaves that corner
 unfoldable pub seenFrom : List ℕ → ℕ → Across
 seenFrom xs c = Found (c / 3) (cornerBefore c % 3) (getD xs (cornerBefore c) 0)
-
--- the last corner below n that the directed edge x→y leaves
-unfoldable pub lastWith : ℕ → ℕ → List ℕ → ℕ → Across
-lastWith x y xs zero = Nothing
-lastWith x y xs (suc c) =
-    elim (eqb (getD xs c 0) x && eqb (getD xs (cornerAfter c) 0) y) [ true ↦ seenFrom xs c | false ↦ lastWith x y xs c ]
 
 -- none of the triangles has x→y
 unfoldable pub isFree : ℕ → ℕ → List Triangle → Bool

@@ -1,10 +1,9 @@
 -- More of a triangle seen from one of its corners, and of the triangles of a list; `Rot`, `In` and `Free` are the rules'.
 -- Assumes nothing.
-use Prim.Native.Nat.{ℕ, _+_}
+use Prim.Native.Nat.{ℕ}
 use mathlib.Core.List.{List, [], _∷_}
 use mathlib.Core.Path.{_≡_}
 use Rattle.rules.specs.declared.Triangle.{Triangle}
-use Rattle.rules.specs.Count.{hit}
 pub use Rattle.rules.specs.Triangle.{Rot, at-p, at-q, at-r, In, here, there, Free}
 
 -- which corner of t then z is: 0 for p, 1 for q, 2 for r
@@ -26,10 +25,3 @@ Once (t ∷ ts) =
     (Free (t .p) (t .q) ts × Free (t .q) (t .r) ts × Free (t .r) (t .p) ts)
     × ((t .p ≡ t .q → ⊥) × (t .q ≡ t .r → ⊥) × (t .r ≡ t .p → ⊥))
     × Once ts
-
--- how often the triangle a b c has the directed edge x→y
-unfoldable pub sides : ℕ → ℕ → ℕ → ℕ → ℕ → ℕ
-sides x y a b c = hit x y a b + hit x y b c + hit x y c a
-
-abbrev pub sidesOf : ℕ → ℕ → Triangle → ℕ
-sidesOf x y t = sides x y (t .p) (t .q) (t .r)

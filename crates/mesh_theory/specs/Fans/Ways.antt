@@ -1,27 +1,14 @@
 -- Sums over directed edges, and chains of them.
 -- Assumes nothing.
-use Prim.Native.Nat.{ℕ, _+_, _≤_}
+use Prim.Native.Nat.{ℕ, _+_}
 use mathlib.Core.List.{List, [], _∷_}
 use mathlib.Core.Path.{_≡_}
 use Rattle.rules.specs.Triangle.{Edge}
-use Rattle.rules.specs.Count.{same}
 
 -- the sum of a weight over the edges
 unfoldable pub total : (Edge → ℕ) → List Edge → ℕ
 total w [] = 0
 total w (d ∷ ds) = w d + total w ds
-
--- how many of the edges start at x, and how many end there
-abbrev pub starts : ℕ → List Edge → ℕ
-starts x = total (λ d. same x (d .from))
-
-abbrev pub ends : ℕ → List Edge → ℕ
-ends x = total (λ d. same x (d .to))
-
--- no two of the edges start at the same vertex, and no two end at the same one
-pub record Apart (ds : List Edge) : Type 0 where
-  pub starts-once : (x : ℕ) → starts x ds ≤ 1
-  pub ends-once : (x : ℕ) → ends x ds ≤ 1
 
 -- a way from s to t over the edges, each taken from its near end to its far end
 abbrev pub Walk : (Edge → ℕ) → (Edge → ℕ) → ℕ → List Edge → ℕ → Type 0

@@ -10,7 +10,7 @@ use Rattle.rules.specs.declared.Triangle.{Triangle}
 use Rattle.rules.specs.Choice.{turnIn, turnOut}
 use Rattle.mesh_theory.specs.Fans.Corner.{In, Once}
 use Rattle.mesh_theory.proofs.Fans.Corners.{in-next}
-use Rattle.choice_theory.specs.Turn.{Unused}
+use Rattle.choice_theory.specs.Spots.{Unused}
 use Rattle.choice_theory.proofs.Turning.Links.{in-last, once-func}
 use Rattle.choice_theory.proofs.Turning.Ways.{across-some, across-none, others, others-length, others-sub, others-once, others-free}
 use Rattle.choice_theory.proofs.Turning.Ways.{look, others-in}

@@ -20,7 +20,7 @@ use Rattle.mesh_theory.proofs.Fans.Corners.{free-unused}
 use Rattle.mesh_theory.proofs.Fans.Tests.{all-distinct}
 use Rattle.mesh_theory.proofs.Fans.Once.{once-tests}
 use Rattle.mesh_theory.proofs.Fans.Finding.{across-found, across-nothing, found-in, found-below}
-use Rattle.choice_theory.specs.Turn.{Unused}
+use Rattle.choice_theory.specs.Spots.{Unused}
 use Rattle.mesh_theory.specs.Chains.Linked.{Finds, Linked}
 use Rattle.mesh_theory.proofs.Chains.Prefix.{length-first}
 use Rattle.mesh_theory.proofs.Chains.Finding.{linked-first, linked-found}

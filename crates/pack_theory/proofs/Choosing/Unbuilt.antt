@@ -14,7 +14,7 @@ use Rattle.rules.specs.Across.{across}
 use Rattle.mesh_theory.specs.Fans.Corner.{Rot, In, here, there, Once}
 use Rattle.mesh_theory.proofs.Fans.Corners.{rot-next}
 use Rattle.mesh_theory.proofs.Fans.Finding.{across-found}
-use Rattle.choice_theory.specs.Turn.{Unused}
+use Rattle.choice_theory.specs.Spots.{Unused}
 use Rattle.choice_theory.proofs.Turning.Links.{free-rot}
 use Rattle.pack_theory.specs.Choosing.Choosable.{flagOf, unbuilt}
 

@@ -20,10 +20,9 @@ use Rattle.rules.specs.Ring.{Node, Ring, vertex, isOpen, reached}
 use Rattle.rules.specs.Choice.{Packing}
 use Rattle.mesh_theory.specs.Fans.Corner.{In, Once}
 use Rattle.mesh_theory.proofs.Fans.Corners.{in-next}
-use Rattle.book.specs.Shown.{shownAll, Live}
-use Rattle.book.proofs.Shown.{reached-first}
-use Rattle.choice_theory.specs.Turn.{Unused}
-use Rattle.choice_theory.specs.Spots.{OpenAt, Unique}
+use Rattle.book.specs.Shown.{shownAll}
+use Rattle.book.proofs.Shown.{Live, reached-first}
+use Rattle.choice_theory.specs.Spots.{OpenAt, Unused, Unique}
 use Rattle.choice_theory.proofs.Turning.Ways.{across-some, across-none, look}
 use Rattle.choice_theory.proofs.Places.Standing.{legal-used}
 use Rattle.choice_theory.proofs.Steps.Triangle.{Keeps, packs}

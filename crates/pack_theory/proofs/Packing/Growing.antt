@@ -15,10 +15,10 @@ use Rattle.rules.specs.Limits.{maxPlaces, maxLoops}
 use Rattle.rules.specs.Ring.{Node, opened, marked, Ring, vertex, isOpen, onward, reached, shown, places}
 use Rattle.rules.specs.Table.{inOrder, shorterFirst}
 use Rattle.rules.specs.Choice.{Packing, refuses, limited}
-use Rattle.book.specs.Shown.{shownAll, Live}
-use Rattle.book.proofs.Shown.{border-shown, backward-shown, reached-first, all-shown-append, live-split, waiting-shown, fewer-shown}
-use Rattle.choice_theory.specs.Surgery.{Surgery, on-new, on-forward, on-backward, on-close, on-split, on-union}
-use Rattle.choice_theory.specs.Trace.{afterBorder, withRing}
+use Rattle.book.specs.Shown.{shownAll}
+use Rattle.book.proofs.Shown.{Live, border-shown, backward-shown, reached-first, all-shown-append, live-split, waiting-shown, fewer-shown}
+use Rattle.choice_theory.specs.Full.{withRing}
+use Rattle.choice_theory.proofs.Steps.Surgery.{afterBorder, Surgery, on-new, on-forward, on-backward, on-close, on-split, on-union}
 use Rattle.choice_theory.proofs.Places.Onward.{turned-ring}
 use Rattle.choice_theory.proofs.Steps.Effects.{shown-forward, shown-backward, shown-cut, shown-halves, shown-union}
 use Rattle.pack_theory.specs.Packing.Doing.{refusalAt}

@@ -24,11 +24,11 @@ use Rattle.rules.specs.Choice.{Packing, has, dropTriangle, choosePlace, refuses
 use Rattle.mesh_theory.specs.Fans.Corner.{In}
 use Rattle.rules.specs.Fan.{Neighbours}
 use Rattle.mesh_theory.proofs.Fans.Corners.{in-next}
-use Rattle.book.specs.Shown.{shownAll, Live}
-use Rattle.book.proofs.Shown.{reached-first}
-use Rattle.choice_theory.specs.Turn.{Unused}
-use Rattle.choice_theory.specs.Trace.{triangleAt, afterBorder, withRing}
-use Rattle.choice_theory.specs.Tally.{newNumbers}
+use Rattle.book.specs.Shown.{shownAll}
+use Rattle.book.proofs.Shown.{Live, reached-first}
+use Rattle.choice_theory.specs.Spots.{Unused}
+use Rattle.choice_theory.specs.Full.{withRing, newNumbers}
+use Rattle.choice_theory.proofs.Steps.Surgery.{triangleAt, afterBorder}
 use Rattle.choice_theory.proofs.Turning.Ways.{others, others-length, Finds, across-some, across-none}
 use Rattle.choice_theory.proofs.Steps.Effects as effects
 use Rattle.choice_theory.proofs.Places.Standing.{legal-used}

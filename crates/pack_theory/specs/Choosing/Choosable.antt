@@ -11,8 +11,7 @@ use Rattle.rules.specs.declared.Across.the-variants.{Found}
 use Rattle.rules.specs.Limits.{maxPlaces}
 use Rattle.rules.specs.Triangle.{trianglesOf}
 use Rattle.rules.specs.Across.{across}
-use Rattle.choice_theory.specs.Turn.{Unused}
-use Rattle.choice_theory.specs.Spots.{OpenAt, Unique}
+use Rattle.choice_theory.specs.Spots.{OpenAt, Unused, Unique}
 use Rattle.mesh_theory.specs.Chains.Linked.{Linked}
 use Rattle.cutborder.specs.declared.Loops.{Loops}
 use Rattle.border_theory.specs.Memory.Stands.{Stands, loopsIn}

@@ -7,7 +7,7 @@ use mathlib.Core.Path.{_≡_}
 use lib.ListN.{length}
 use Rattle.rules.specs.Triangle.{trianglesOf}
 use Rattle.rules.specs.Choice.{turnIn, turnOut}
-use Rattle.choice_theory.specs.Turn.{Unused}
+use Rattle.choice_theory.specs.Spots.{Unused}
 use Rattle.cutborder.specs.declared.Turned.{Turned}
 use Rattle.pack_theory.specs.Choosing.Choosable.{unbuiltOf}
 

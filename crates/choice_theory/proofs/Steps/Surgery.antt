@@ -1,25 +1,24 @@
--- What an operation that builds a triangle does to the full rings, in which no place leaves, part by part. The operation is that of
--- the rings shown: a place is named by its number there.
+-- What an operation does to the full rings, in which no place leaves, part by part, and which triangle it builds. The operation is that
+-- of the rings shown: a place is named by its number there.
 -- Assumes nothing.
 use Prim.Native.Nat.{ℕ, suc, _≤_}
-use mathlib.Core.Bool.{Bool, true, false}
+use mathlib.Core.Bool.{true, false}
 use mathlib.Core.List.{List, [], _∷_, _++_}
 use mathlib.Core.Path.{_≡_}
 use lib.ListN.{length}
-use lib.Dec.{leb}
+use Rattle.rules.specs.declared.Triangle.{Triangle}
 use Rattle.rules.specs.declared.Operation.{Operation}
 use Rattle.rules.specs.declared.Operation.the-variants.{New, Forward, Backward, Split, Close, Union}
-use Rattle.rules.specs.Ring.{Node, opened, Ring, vertex, isOpen, reached, shown}
-use Rattle.rules.specs.Table.{inOrder}
-use Rattle.book.specs.Shown.{Stays}
+use Rattle.rules.specs.Ring.{Node, opened, marked, Ring, vertex, isOpen, onward, reached}
+use Rattle.book.proofs.Shown.{Stays}
+use Rattle.choice_theory.specs.Full.{fewerFirst}
 
--- whether the first of two rings shows no more places
-abbrev pub fewer : Ring → Ring → Bool
-fewer l m = leb (length (shown l)) (length (shown m))
+abbrev pub triangleAt : Node → Node → ℕ → Triangle
+triangleAt e f c = record { p = vertex f; q = vertex e; r = c }
 
--- of the two rings of a split the one goes on that shows fewer places; if equal, the first
-abbrev pub fewerFirst : Ring → Ring → List Ring → List Ring
-fewerFirst l m ws = inOrder (fewer l m) l m ws
+-- the ring after its current edge is marked, from the next open edge on; empty where there is none
+abbrev pub afterBorder : Node → Node → List Node → List Node
+afterBorder e f ps = onward [] (f ∷ (ps ++ (marked (vertex e) ∷ [])))
 
 -- from the rings (e ∷ f ∷ ps) ∷ ws to the rings ls, with the third corner c
 pub data Surgery (e f : Node) (ps : List Node) (ws ls : List Ring) (c : ℕ) : Operation → Type 0 where

@@ -1,4 +1,4 @@
--- How often a directed edge stands in the rings, open or marked.
+-- How often a directed edge stands in the rings, open or marked; what an operation glues, and how many edges are open.
 -- Assumes nothing.
 use Prim.Native.Nat.{ℕ, _+_}
 use mathlib.Core.Bool.{Bool, true, false}
@@ -47,17 +47,7 @@ abbrev pub sideOf : Bool → Side
 sideOf true = glued
 sideOf false = fresh
 
--- how many numbers are new, and how many unions there are
-abbrev pub newNumbers : Operation → ℕ
-newNumbers New = 1
-newNumbers Forward = 0
-newNumbers Backward = 0
-newNumbers Border = 0
-newNumbers (Split i) = 0
-newNumbers Close = 0
-newNumbers (Union n j) = 0
-newNumbers Start = 3
-
+-- how many unions there are
 abbrev pub unionsOf : Operation → ℕ
 unionsOf New = 0
 unionsOf Forward = 0

@@ -3,12 +3,8 @@
 use Prim.Native.Nat.{ℕ}
 use mathlib.Core.List.{List}
 use Rattle.rules.specs.declared.Triangle.{Triangle}
-use Rattle.mesh_theory.specs.Fans.Corner.{In, Free}
-pub use Rattle.rules.specs.Right.{Links, stop, link}
-
--- the directed edge x→y is not used
-abbrev pub Unused : ℕ → ℕ → List Triangle → Type 0
-Unused x y ts = Free x y ts
+use Rattle.mesh_theory.specs.Fans.Corner.{In}
+use Rattle.choice_theory.specs.Spots.{Unused}
 
 -- turning about c (`Links` of the rules) with jumps from border to border: u→c has no other side in M, nor has c→w
 pub data Turn (M : List Triangle) (c : ℕ) (ts : List Triangle) : ℕ → ℕ → Type 0 where

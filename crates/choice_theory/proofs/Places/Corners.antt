@@ -6,7 +6,8 @@ use mathlib.Core.List.{List, [], _∷_}
 use mathlib.Core.Path.{_≡_}
 use Rattle.rules.specs.declared.Triangle.{Triangle}
 use Rattle.rules.specs.Ring.{Node, Ring, vertex, isOpen, startOr}
-use Rattle.choice_theory.specs.Turn.{Unused, Turn}
+use Rattle.choice_theory.specs.Spots.{Unused}
+use Rattle.choice_theory.proofs.Turning.Turn.{Turn}
 
 -- the vertex of the last place, or else x
 abbrev pub endOr : ℕ → List Node → ℕ
