@@ -56,7 +56,8 @@ SHAPES = {
     'reads': COUNT + LOAD + rf'{CORE}, &mut m, n\)',
 }
 
-RECORDS = '''use Rattle.border_theory.specs.Records.Plain.{countOf, blank, counted, memoryOf}
+RECORDS = '''use Rattle.border_theory.specs.Records.Plain.{countOf, blank}
+use Rattle.border_theory.proofs.Records.Reading.{counted, memoryOf}
 use Rattle.border_theory.proofs.Records.Counting.{count-within, count-fits}
 use Rattle.places.proofs.Walking.{tyAt}
 use Rattle.border_theory.specs.Records.Changes.{clearedTo}

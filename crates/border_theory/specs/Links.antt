@@ -1,2 +1,2 @@
--- Loops of places as links: one lemma for all surgery, and the table of operations on places.
+-- Loops of places as links.
 pub mod Held

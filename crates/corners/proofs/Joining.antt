@@ -11,11 +11,10 @@ use borrow.Author.Tests.{eqb-false, eq-eqb, ne-eqb}
 use Rattle.rules.specs.Triangle.{edgesOf, trianglesOf}
 use Rattle.rules.specs.Count.{hit, count, uses}
 use Rattle.mesh_theory.specs.Chains.Corner.{cornerAfter, cornerBefore, firstTriangles, latest}
-use Rattle.mesh_theory.specs.Chains.Linked.{Chains, Newest, Older}
+use Rattle.mesh_theory.specs.Chains.Linked.{Chains, Newest, Older, UnjoinedIs}
 use Rattle.mesh_theory.proofs.Chains.Prefix.{uses-more}
 use Rattle.mesh_theory.proofs.Chains.Walking.{after-first, after-second, after-third, before-first, before-second, before-third}
 use Rattle.mesh_theory.proofs.Chains.Walking.{latest-below, latest-has, latest-other}
-use Rattle.corners.specs.Joins.{UnjoinedIs}
 use Rattle.counting.proofs.Counts.{same-no, hit-yes, hit-from, hit-to}
 
 -- how many corners below c the edge x→y leaves, and how many with x the edge y→x enters

@@ -9,8 +9,7 @@ ghost use lib.ListN.{length};
 ghost use Rattle.rules.specs.Limits.{maxNumbers, maxVertices};
 ghost use Rattle.mesh_theory.specs.Chains.Corner.{cornerAfter, cornerBefore, seenFrom};
 ghost use Rattle.mesh_theory.specs.Chains.Linked.{Chains, Finds, Newest, Older, linked, linkable, relinked, Sound, AllLinked};
-ghost use Rattle.mesh_theory.specs.Chains.Linked.{FreeIs, NewIs};
-ghost use Rattle.corners.specs.Joins.{UnjoinedIs};
+ghost use Rattle.mesh_theory.specs.Chains.Linked.{FreeIs, NewIs, UnjoinedIs};
 
 // The chains of the corners of each vertex, the latest corner first: the entry of vertex v stands at v, that of corner c at
 // VERTICES + c. An entry is 1 more than a corner, or 0 for none. All zeros are the chains of no triangle.

@@ -14,7 +14,7 @@ use Rattle.rules.specs.Code.{operationBits}
 use Rattle.rules.specs.Buffer.{over}
 use Rattle.wire_theory.specs.Header.{headerOf}
 use Rattle.wire_theory.specs.Buffer.{writtenAt, bytesFor}
-use Rattle.wire_theory.specs.Whole.{widthOf}
+use Rattle.wire_theory.specs.Shape.{widthOf}
 use Rattle.wire.specs.declared.writer.Written.{Written}
 use Rattle.wire.specs.Fields.{pickBuffer, headed}
 use Rattle.wire.specs.Writer.{lastNumber, writtenOf, bufferAfter}

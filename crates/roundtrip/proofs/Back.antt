@@ -31,9 +31,9 @@ use Rattle.choice_theory.proofs.Runs.Working.{works-stated}
 use Rattle.choice_theory.proofs.Runs.Repacking.{Repacked}
 use Rattle.choice_theory.proofs.Runs.RoundBack.{Done, packs-back, checks-back}
 use Rattle.choice_theory.proofs.Runs.Running.{Held, held-of, no-loops}
-use Rattle.wire_theory.specs.Shape.{Bits, Bytes}
+use Rattle.wire_theory.specs.Shape.{Bytes}
 use Rattle.wire_theory.specs.Header.{headerOf}
-use Rattle.wire_theory.proofs.Lists.{below-rest}
+use Rattle.wire_theory.proofs.Lists.{Bits, below-rest}
 use Rattle.wire_theory.proofs.Bytes.{fill, length-bits-of-bytes, bits-of-bytes-are, bytes-of-bits, bytes-filled}
 use Rattle.wire_theory.proofs.Operations.{operation-read, operations-bits-are}
 use Rattle.wire_theory.proofs.Fields.{pack-header, PackFound, pack-found}

@@ -12,8 +12,7 @@ use Rattle.rules.specs.Code.{Read, breaks-off, read, readOperation, operationBi
 use Rattle.rules.specs.Bits.{bitsOfBytes}
 use Rattle.rules.specs.Machine.{Machine, empty, Step, refused, begun, built, declared, finished, operation, complete}
 use Rattle.rules.specs.Unpack.{Ran, stopped, completed, runAll, runOf}
-use Rattle.wire_theory.specs.Shape.{Bits}
-use Rattle.wire_theory.proofs.Lists.{below-rest}
+use Rattle.wire_theory.proofs.Lists.{Bits, below-rest}
 use Rattle.wire_theory.proofs.Bytes.{bits-of-bytes-are}
 use Rattle.wire_theory.proofs.Operations.{operation-read, length-read, width-least}
 use Rattle.roundtrip.specs.Enough.{runOr, CountIsEnough}

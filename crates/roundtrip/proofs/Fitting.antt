@@ -32,9 +32,9 @@ use Rattle.choice_theory.proofs.Runs.Tracking.{shownPlaces, shownLoops, Within,
 use Rattle.choice_theory.proofs.Runs.Whole.{Complete}
 use Rattle.choice_theory.proofs.Runs.RoundTrip.{statedBy}
 use Rattle.mesh_theory.proofs.Fans.Checks.{check-accepted}
-use Rattle.wire_theory.specs.Shape.{Fits, AllFit}
-use Rattle.wire_theory.specs.Header.{CountsFit}
-use Rattle.wire_theory.specs.Whole.{widthOf}
+use Rattle.wire_theory.specs.Shape.{Fits, widthOf}
+use Rattle.wire_theory.proofs.Whole.{AllFit}
+use Rattle.wire_theory.proofs.Fields.{CountsFit}
 use Rattle.wire_theory.proofs.Bytes.{length-bytes}
 use Rattle.wire_theory.proofs.Operations.{length-operation, width-least, width-most, read-operation}
 use Rattle.roundtrip.proofs.Limits.{chosen-same, peaks-kept}

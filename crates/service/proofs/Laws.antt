@@ -23,14 +23,15 @@ use Rattle.rules.specs.Unpack.{unpack}
 use Rattle.rules.specs.Fields.{Fields, no-pack, fields, fieldsOf}
 use Rattle.rules.specs.Book.{answerOf}
 use Rattle.border_theory.specs.Memory.Layout.{openOf}
-use Rattle.border_theory.specs.Records.Plain.{countOf, counted, memoryOf}
+use Rattle.border_theory.specs.Records.Plain.{countOf}
+use Rattle.border_theory.proofs.Records.Reading.{counted, memoryOf}
 use Rattle.border_theory.specs.Records.Notes.{linkedAll, freedAll}
 use Rattle.border_theory.specs.Records.Changes.{clearedTo}
 use Rattle.border_theory.proofs.Records.Counting.{count-within}
 use Rattle.border_theory.proofs.Records.Clearing.{cleared-to}
 use Rattle.state_theory.proofs.Reading.Flags.{loaded-open}
-use Rattle.unpack_theory.specs.Lent.{unpackOn, isPast, clearedBy, UnpackedOn}
-use Rattle.unpack_theory.proofs.Lending.{Alike, clearedIf, lend-places, lend-unpack}
+use Rattle.unpack_theory.specs.Lent.{unpackOn, clearedBy, UnpackedOn}
+use Rattle.unpack_theory.proofs.Lending.{isPast, Alike, clearedIf, lend-places, lend-unpack}
 use Rattle.unpack_theory.proofs.Cleared.{unpacked-clears}
 use Rattle.promises.specs.Promises.{lentTo, Beginning, Operating, Finishing}
 use Rattle.state_theory.specs.Finishing.Core.{BeginsOn, FinishesOn, clearedBy as clearedBegun}

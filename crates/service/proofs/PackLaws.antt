@@ -10,10 +10,10 @@ use Rattle.rules.specs.declared.Packed.{Packed}
 use Rattle.rules.specs.Check.{check}
 use Rattle.rules.specs.Answer.{packedAnswer}
 use Rattle.rules.specs.Pack.{pack}
-use Rattle.border_theory.specs.Records.Plain.{counted}
+use Rattle.border_theory.proofs.Records.Reading.{counted}
 use Rattle.border_theory.specs.Records.Changes.{clearedTo}
-use Rattle.pack_theory.specs.Packing.Lent.{packOn, isPast, clearedBy, PackedOn}
-use Rattle.pack_theory.proofs.Packing.Lending.{Alike, lentTo, lend-pack, lend-places, past-long}
+use Rattle.pack_theory.specs.Packing.Lent.{packOn, clearedBy, PackedOn}
+use Rattle.pack_theory.proofs.Packing.Lending.{isPast, Alike, lentTo, lend-pack, lend-places, past-long}
 use Rattle.pack_theory.proofs.Packing.Clearing.{packed-clears}
 use Rattle.promises.specs.Promises.{Packs}
 use Rattle.service.proofs.Laws.{counted-long, fits-after, places-after}

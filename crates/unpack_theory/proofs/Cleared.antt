@@ -24,7 +24,8 @@ use Rattle.rules.specs.Buffer.{Buffers, lengths}
 use Rattle.rules.specs.Fields.{Fields, no-pack, fields, fieldsOf}
 use Rattle.rules.specs.Unpack.{Ran, stopped, completed, runAll, runOf, restFits, UnpackResult, turnedDown, unpackRefused, unpackDone}
 use Rattle.rules.specs.Unpack.{unpackRun, unpackFields, unpack}
-use Rattle.unpack_theory.specs.Lent.{isPast, clearedBy}
+use Rattle.unpack_theory.specs.Lent.{clearedBy}
+use Rattle.unpack_theory.proofs.Lending.{isPast}
 
 -- a call that is refused by 15 or a number above it, or is not refused
 abbrev LateStep : Step → Type 0

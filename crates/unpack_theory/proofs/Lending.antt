@@ -24,8 +24,13 @@ use Rattle.rules.specs.Unpack.{unpackEnded, unpackRun, unpackFields, unpack}
 use Rattle.cutborder.specs.declared.Stepped.{Stepped}
 use Rattle.cutborder.specs.declared.Stepped.the-variants.{Going, Refused}
 use Rattle.unpack_theory.specs.Runs.{Beyond, bitsFrom, endBy, endAnswer, Ends, Answers, tidied}
-use Rattle.unpack_theory.specs.Lent.{lent, unpackOn, isPast}
+use Rattle.unpack_theory.specs.Lent.{lent, unpackOn}
 use Rattle.unpack_theory.proofs.Ending.{whole-over}
+
+-- whether the bytes get past 12 to 14, with n place records and k triangle entries
+abbrev pub isPast : Fields → ℕ → ℕ → Bool
+isPast no-pack n k = false
+isPast (fields s ops) n k = inRange s && (leb (3 * s .triangles) k && leb maxPlaces n)
 
 -- two tests: both passed, the second failed, the first failed
 abbrev pick : Bool → Bool → UnpackResult → UnpackResult → UnpackResult → UnpackResult

@@ -12,10 +12,10 @@ use Rattle.rules.specs.Table.{sideRule}
 use Rattle.mesh_theory.specs.Fans.Corner.{Different}
 use Rattle.mesh_theory.proofs.Fans.Tests.{distinct-different}
 use Rattle.mesh_theory.specs.Chains.Corner.{firstTriangles}
-use Rattle.mesh_theory.specs.Chains.Linked.{Chains}
+use Rattle.mesh_theory.specs.Chains.Linked.{Chains, UnjoinedIs}
 use Rattle.cutborder.specs.declared.Plan.{Plan}
 use Rattle.border_theory.specs.Memory.Decision.{sideOf}
-use Rattle.unpack_theory.specs.Rule.{isTested, planRule, ruledBy, UnjoinedIs, SideIs, PlanIs, RuleIs}
+use Rattle.unpack_theory.specs.Rule.{isTested, planRule, ruledBy, SideIs, PlanIs, RuleIs}
 
 module _ (xs cs : List ℕ) (x y : ℕ) where
   pub side-glued : (k : ℕ) → k ≡ 0 → SideIs xs cs k x y true

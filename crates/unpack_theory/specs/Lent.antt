@@ -1,7 +1,7 @@
 -- Unpacking with n place records, of which only the number counts.
 -- Assumes nothing.
 use Prim.Native.Nat.{ℕ, _*_, _≤_, _<_}
-use mathlib.Core.Bool.{Bool, true, false, _&&_}
+use mathlib.Core.Bool.{true, false}
 use mathlib.Core.List.{List}
 use mathlib.Core.Path.{_≡_}
 use lib.ListN.{length, replicate}
@@ -12,7 +12,6 @@ use Rattle.rules.specs.declared.Unpacked.the-variants as U
 use Rattle.rules.specs.Limits.{maxPlaces, inRange}
 use Rattle.rules.specs.Answer.{unpackedAnswer}
 use Rattle.rules.specs.Buffer.{freePlace, Buffers}
-use Rattle.rules.specs.Fields.{Fields, no-pack, fields}
 use Rattle.rules.specs.Unpack.{UnpackResult, runOf, unpackRun, unpack}
 use Rattle.border_theory.specs.Records.Plain.{coreSize}
 
@@ -21,11 +20,6 @@ lent n ts = record { triangles = ts; places = replicate n freePlace }
 
 abbrev pub unpackOn : List ℕ → ℕ → List ℕ → UnpackResult
 unpackOn bytes n ts = unpack bytes (lent n ts)
-
--- whether the bytes get past 12 to 14, with n place records and k triangle entries
-abbrev pub isPast : Fields → ℕ → ℕ → Bool
-isPast no-pack n k = false
-isPast (fields s ops) n k = inRange s && (leb (3 * s .triangles) k && leb maxPlaces n)
 
 -- how many place records an unpacking clears, read off its answer: none after 12 to 14, and past 14 the first 1,024
 abbrev pub clearedBy : Unpacked → ℕ

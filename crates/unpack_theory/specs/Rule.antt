@@ -7,8 +7,6 @@ use mathlib.Core.Path.{_≡_}
 use Rattle.rules.specs.declared.Triangle.{Triangle}
 use Rattle.rules.specs.declared.Operation.{Operation}
 use Rattle.rules.specs.declared.Operation.the-variants.{New, Forward, Backward, Border, Split, Close, Union, Start}
-use Rattle.rules.specs.Triangle.{edgesOf}
-use Rattle.rules.specs.Count.{unjoined}
 use Rattle.rules.specs.Table.{sideRule, edgeRule}
 use Rattle.mesh_theory.specs.Chains.Corner.{firstTriangles}
 use Rattle.mesh_theory.specs.Chains.Linked.{Chains}
@@ -36,10 +34,6 @@ ruledBy false b = true
 
 abbrev pub ruleAt : Operation → Plan → List Triangle → Bool
 ruleAt o p us = ruledBy (isTested o) (planRule p us)
-
--- b tells, among the triangles that the chains hold, whether x and y are not joined
-abbrev pub UnjoinedIs : List ℕ → List ℕ → ℕ → ℕ → Bool → Type 0
-UnjoinedIs xs cs x y b = (n : ℕ) → Chains xs (3 * n) cs → (x ≡ y → ⊥) → b ≡ unjoined x y (edgesOf (firstTriangles n xs))
 
 -- whether a side of a plan passes
 abbrev pub SideIs : List ℕ → List ℕ → ℕ → ℕ → ℕ → Bool → Type 0

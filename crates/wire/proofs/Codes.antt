@@ -17,8 +17,7 @@ use Rattle.rules.specs.Bits as Bits
 use Rattle.rules.specs.Bits.{valueOf, bitsOfBytes, broken-off, number, readNumber}
 use Rattle.rules.specs.Code.{code, operationBits, Read, breaks-off, read, readSplit, readPlace, readUnion, kinds, kindIn, readIndices}
 use Rattle.rules.specs.Code.{readCode, readOperation}
-use Rattle.wire_theory.specs.Shape.{Fits}
-use Rattle.wire_theory.specs.Whole.{widthOf}
+use Rattle.wire_theory.specs.Shape.{Fits, widthOf}
 use Rattle.wire_theory.proofs.Lists.{below-drop}
 use Rattle.wire_theory.proofs.Numbers.{read-enough, read-short}
 use Rattle.wire_theory.proofs.Bytes.{length-bits-of-bytes, bits-of-bytes-are}
@@ -29,7 +28,7 @@ use Rattle.wire.specs.declared.reader.Number.the-variants.{Value, Broken
 use Rattle.wire.specs.declared.reader.OperationRead.{OperationRead}
 use Rattle.wire.specs.declared.reader.OperationRead.the-variants.{Found, BreaksOff}
 use Rattle.wire.specs.Reader.{mostBytes, numberIn, numberWithin, numberAt, IndexedIs, operationIn, operationWithin, operationAt}
-use Rattle.wire.specs.Reader.{splitOf, placeOf, unionOf, OperationFound, Ahead}
+use Rattle.wire.specs.Reader.{splitOf, placeOf, OperationFound, Ahead}
 
 -- ---- a kind by its code
 
@@ -142,6 +141,11 @@ plain-kind t (suc (suc (suc (suc (suc (suc (suc c))))))) ys h k =
     kind-rest (suc (suc (suc (suc (suc (suc (suc c))))))) (λ x. omega arith) (λ x. omega arith) (λ x. omega arith) (λ x. omega arith) h
     (λ x. omega arith) k in
     ap (λ (o : Operation). operationIn t (readIndices o ys)) (sym e) ∙ ap (λ (o : Operation). Found o (t - length ys)) e
+
+-- a union by its first index, the loop's number
+abbrev pub unionOf : List ℕ → Number → OperationRead
+unionOf bs BrokenOff = BreaksOff
+unionOf bs (Value p next) = placeOf p (numberAt 10 bs next)
 
 module _ (bs : List ℕ) (at : ℕ) where
   -- by its code

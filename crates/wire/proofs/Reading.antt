@@ -12,9 +12,9 @@ use Rattle.wire.specs.declared.reader.Number.{Number}
 use Rattle.wire.specs.declared.reader.Number.the-variants.{Value, BrokenOff}
 use Rattle.wire.specs.declared.reader.OperationRead.{OperationRead}
 use Rattle.wire.specs.declared.reader.OperationRead.the-variants.{Found}
-use Rattle.wire.specs.Reader.{numberAt, IndexedIs, PlainIs, plainOf, nextOf, placeAt, splitOf, unionOf, unionIn, indexedOf, indicesAt}
+use Rattle.wire.specs.Reader.{numberAt, IndexedIs, PlainIs, plainOf, nextOf, placeAt, splitOf, unionIn, indexedOf, indicesAt}
 use Rattle.wire.specs.Reader.{ReadIs}
-use Rattle.wire.proofs.Codes.{answered, breaks-code, by-split, by-union, by-kind}
+use Rattle.wire.proofs.Codes.{unionOf, answered, breaks-code, by-split, by-union, by-kind}
 
 -- one law for each way through the functions that the reader calls
 pub plain-broken : (n : Number) → n ≡ BrokenOff → PlainIs n true

@@ -17,7 +17,7 @@ use Rattle.rules.specs.declared.Operation.the-variants.{New, Forward, Backward,
 use Rattle.rules.specs.Bits.{bits, valueOf}
 use Rattle.rules.specs.Code.{operationBits}
 use Rattle.wire_theory.specs.Buffer.{writtenAt, bytesFor, fourBytes, wordOf}
-use Rattle.wire_theory.specs.Whole.{widthOf}
+use Rattle.wire_theory.specs.Shape.{widthOf}
 use Rattle.wire_theory.proofs.Lists.{below-all}
 use Rattle.wire_theory.proofs.Numbers.{value-append, value-bits, value-below}
 use Rattle.wire_theory.proofs.Operations.{length-operation, operation-bits-are, width-least, width-most}

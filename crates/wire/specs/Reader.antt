@@ -12,8 +12,7 @@ use Rattle.rules.specs.declared.Operation.the-variants.{Split, Union}
 use Rattle.rules.specs.Bits as Bits
 use Rattle.rules.specs.Bits.{bitsOfBytes, broken-off, number, readNumber}
 use Rattle.rules.specs.Code.{Read, breaks-off, read, readOperation, kinds, kindIn}
-use Rattle.wire_theory.specs.Shape.{Fits}
-use Rattle.wire_theory.specs.Whole.{widthOf}
+use Rattle.wire_theory.specs.Shape.{Fits, widthOf}
 use Rattle.wire.specs.declared.reader.Number.{Number}
 use Rattle.wire.specs.declared.reader.Number.the-variants.{Value, BrokenOff}
 use Rattle.wire.specs.declared.reader.OperationRead.{OperationRead}
@@ -62,10 +61,6 @@ splitOf (Value i next) = Found (Split i) next
 abbrev pub placeOf : ℕ → Number → OperationRead
 placeOf p BrokenOff = BreaksOff
 placeOf p (Value j next) = Found (Union p j) next
-
-abbrev pub unionOf : List ℕ → Number → OperationRead
-unionOf bs BrokenOff = BreaksOff
-unionOf bs (Value p next) = placeOf p (numberAt 10 bs next)
 
 -- whether a code alone tells an operation, or broke off
 abbrev pub PlainIs : Number → Bool → Type 0

@@ -10,7 +10,7 @@ use Rattle.rules.specs.declared.Operation.{Operation}
 use Rattle.rules.specs.Bits.{valueOf}
 use Rattle.rules.specs.Code.{operationBits}
 use Rattle.wire_theory.specs.Buffer.{writtenAt, bytesFor}
-use Rattle.wire_theory.specs.Whole.{widthOf}
+use Rattle.wire_theory.specs.Shape.{widthOf}
 use Rattle.wire.specs.declared.writer.Written.{Written}
 use Rattle.wire.specs.Fields.{pickBuffer}
 

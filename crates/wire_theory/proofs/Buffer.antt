@@ -12,9 +12,9 @@ use lib.Seq.{paste, length-take-le, length-paste-head, take-append-le, take-at, 
 use lib.Seq.{drop-append-add, getD-drop, take-nil}
 use Rattle.rules.specs.Bits.{bits, valueOf, bitsOfBytes, bytesOf}
 use Rattle.rules.specs.Buffer.{over}
-use Rattle.wire_theory.specs.Shape.{Bits, Bytes}
+use Rattle.wire_theory.specs.Shape.{Bytes}
 use Rattle.wire_theory.specs.Buffer.{writtenAt, bytesFor, fourBytes, wordOf}
-use Rattle.wire_theory.proofs.Lists.{below-append, below-take, below-replicate, below-getD}
+use Rattle.wire_theory.proofs.Lists.{Bits, below-append, below-take, below-replicate, below-getD}
 use Rattle.wire_theory.proofs.Numbers.{length-bits, bits-are, value-append, value-from, value-of-bits, value-part, twice}
 use Rattle.wire_theory.proofs.Bytes.{length-bits-of-bytes, bits-of-bytes-append, drop-bytes, bytes-step, bytes-nil, bytes-append}
 use Rattle.wire_theory.proofs.Bytes.{bytes-of-bits, bits-of-bytes, bytes-of-front, length-bytes, fill}
@@ -46,9 +46,6 @@ written-more bs xs buffer h =
     let l : length (bytesOf bs) ≤ length (bytesOf (bs ++ xs)) =
     omega (arith, length-bytes bs, length-bytes (bs ++ xs), length-append bs xs) in
     ap (λ (us : List ℕ). over (bytesOf (us ++ xs)) (over (bytesOf bs) buffer)) e ∙ over-over (bytesOf bs) (bytesOf (bs ++ xs)) buffer l
-
-pub length-over : (xs buffer : List ℕ) → length xs ≤ length buffer → length (over xs buffer) ≡ length buffer
-length-over xs buffer h = omega (arith, length-append xs (drop (length xs) buffer), length-drop (length xs) buffer)
 
 -- ---- by bytes
 

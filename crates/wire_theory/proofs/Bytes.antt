@@ -8,8 +8,8 @@ use mathlib.Core.Path.{_≡_, refl, sym, ap, ap₂, _∙_}
 use lib.ListN.{length, take, drop, replicate, length-append, length-replicate, take-append-drop, length-drop, drop-of-length-le}
 use lib.Seq.{length-take-le, take-append-le, take-at, drop-at, drop-drop, take-append-add, drop-append-add, drop-nil}
 use Rattle.rules.specs.Bits.{bits, valueOf, bitsOfBytes, bytesWithin, bytesOf}
-use Rattle.wire_theory.specs.Shape.{Bits, Bytes}
-use Rattle.wire_theory.proofs.Lists.{below-append, below-take, below-drop, below-replicate}
+use Rattle.wire_theory.specs.Shape.{Bytes}
+use Rattle.wire_theory.proofs.Lists.{Bits, below-append, below-take, below-drop, below-replicate}
 use Rattle.wire_theory.proofs.Numbers.{length-bits, bits-are, value-below, value-of-bits, bits-of-value}
 
 pub length-bits-of-bytes : (bs : List ℕ) → length (bitsOfBytes bs) ≡ 8 * length bs

@@ -13,8 +13,15 @@ use Rattle.rules.specs.declared.Counts.{Counts}
 use Rattle.rules.specs.Fields.{countsTag, operationsTag, word, fieldOf, countsOf, packBytes, Field, no-field, field, takeField, Fields}
 use Rattle.rules.specs.Fields.{no-pack, fields, countsFrom, lastField, firstField, fieldsOf}
 use Rattle.wire_theory.specs.Shape.{Bytes}
-use Rattle.wire_theory.specs.Header.{headerOf, CountsFit}
+use Rattle.wire_theory.specs.Header.{headerOf}
 use Rattle.wire_theory.proofs.Lists.{below-front, below-rest, below-getD}
+
+-- each count fits two bytes
+pub record CountsFit (s : Counts) : Type 0 where
+  pub vertices : s .vertices < 65536
+  pub triangles : s .triangles < 65536
+  pub places : s .places < 65536
+  pub loops : s .loops < 65536
 
 -- the 14 bytes before the operations, and the operations
 pub pack-header : (s : Counts) (ops : List ℕ) → packBytes s ops ≡ headerOf s (length ops) ++ ops

@@ -8,6 +8,10 @@ use lib.ListN.{length, take, drop, getD, replicate, length-drop}
 use lib.Seq.{take-append-le, drop-append-le}
 use Rattle.wire_theory.specs.Shape.{Below}
 
+-- zeros and ones
+abbrev pub Bits : List ℕ → Type 0
+Bits xs = Below 2 xs
+
 pub below-append : (n : ℕ) (xs ys : List ℕ) → Below n xs → Below n ys → Below n (xs ++ ys)
 below-append n [] ys h k = k
 below-append n (x ∷ xs) ys h k = (h .0, below-append n xs ys (h .1) k)

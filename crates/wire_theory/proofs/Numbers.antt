@@ -12,8 +12,7 @@ use lib.Seq.{length-take-le}
 use lib.Arith.{digits-lt}
 use native.Mathlib.Decide.{decLe}
 use Rattle.rules.specs.Bits.{bits, valueOf, broken-off, number, readNumber}
-use Rattle.wire_theory.specs.Shape.{Bits}
-use Rattle.wire_theory.proofs.Lists.{below-take, below-drop}
+use Rattle.wire_theory.proofs.Lists.{Bits, below-take, below-drop}
 
 pub length-bits : (n v : ℕ) → length (bits n v) ≡ n
 unfolding bits

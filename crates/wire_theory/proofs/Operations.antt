@@ -10,9 +10,8 @@ use Rattle.rules.specs.declared.Operation.the-variants.{New, Forward, Backward,
 use Rattle.rules.specs.Bits.{bits, Number, broken-off, number, readNumber}
 use Rattle.rules.specs.Code.{placeBits, loopBits, code, indexBits, operationBits, operationsBits, breaks-off, read, readSplit, readPlace}
 use Rattle.rules.specs.Code.{readUnion, kinds, kindIn, readIndices, readCode, readOperation}
-use Rattle.wire_theory.specs.Shape.{Bits, Fits}
-use Rattle.wire_theory.specs.Whole.{widthOf}
-use Rattle.wire_theory.proofs.Lists.{below-append, below-rest}
+use Rattle.wire_theory.specs.Shape.{Fits, widthOf}
+use Rattle.wire_theory.proofs.Lists.{Bits, below-append, below-rest}
 use Rattle.wire_theory.proofs.Numbers.{bits-are, read-bits, read-inverse, NumberRead}
 
 pub length-operation : (o : Operation) → length (operationBits o) ≡ widthOf o

@@ -9,11 +9,29 @@ use lib.ListN.{length, replicate}
 use Rattle.rules.specs.declared.Operation.{Operation}
 use Rattle.rules.specs.Bits.{bitsOfBytes, bytesOf}
 use Rattle.rules.specs.Code.{operationBits, operationsBits, Read, breaks-off, read, readOperation}
-use Rattle.wire_theory.specs.Shape.{Bits, Fits, AllFit}
-use Rattle.wire_theory.specs.Whole.{ReadAll, all-break-off, all-read, readOnto, readAll}
-use Rattle.wire_theory.proofs.Lists.{below-rest}
+use Rattle.wire_theory.specs.Shape.{Fits}
+use Rattle.wire_theory.proofs.Lists.{Bits, below-rest}
 use Rattle.wire_theory.proofs.Bytes.{fill, bits-of-bytes}
 use Rattle.wire_theory.proofs.Operations.{read-operation, OperationRead, operation-read, operations-bits-are}
+
+-- each operation's indices fit
+abbrev pub AllFit : List Operation → Type 0
+AllFit [] = Unit {0}
+AllFit (o ∷ os) = Fits o × AllFit os
+
+-- the operations at the front of some bits, and the bits after them; or they break off
+pub data ReadAll : Type 0 where
+  all-break-off : ReadAll
+  all-read : List Operation → List ℕ → ReadAll
+
+abbrev pub readOnto : Operation → ReadAll → ReadAll
+readOnto o all-break-off = all-break-off
+readOnto o (all-read os xs) = all-read (o ∷ os) xs
+
+-- the first n operations
+unfoldable pub readAll : ℕ → List ℕ → ReadAll
+readAll zero xs = all-read [] xs
+readAll (suc n) xs = elim (readOperation xs) [ breaks-off ↦ all-break-off | read o ys ↦ readOnto o (readAll n ys) ]
 
 -- the first operation of a list, read
 read-first : (o : Operation) (os : List Operation) (xs : List ℕ) → Fits o

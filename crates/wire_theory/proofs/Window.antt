@@ -8,8 +8,8 @@ use mathlib.Core.Path.{_≡_, refl, sym, ap, _∙_}
 use lib.ListN.{length, take, drop, getD, length-drop}
 use lib.Seq.{getD-drop}
 use Rattle.rules.specs.Bits.{bits, valueOf, bitsOfBytes}
-use Rattle.wire_theory.specs.Shape.{Bits, Bytes}
-use Rattle.wire_theory.proofs.Lists.{below-append, below-drop, below-getD, part-front}
+use Rattle.wire_theory.specs.Shape.{Bytes}
+use Rattle.wire_theory.proofs.Lists.{Bits, below-append, below-drop, below-getD, part-front}
 use Rattle.wire_theory.proofs.Numbers.{bits-are, value-append, value-bits, value-of-bits, value-part}
 use Rattle.wire_theory.proofs.Bytes.{drop-bits}
 

@@ -1,7 +1,6 @@
 -- Bits, codes and fields.
--- Interface: Shape, Whole (the claims of roundtrip), Header, Buffer (the contracts of wire).
+-- Interface: Shape (the claims of roundtrip, the contracts of wire), Header, Buffer (the contracts of wire and packer).
 -- Assumes nothing.
 pub mod Buffer
 pub mod Header
 pub mod Shape
-pub mod Whole

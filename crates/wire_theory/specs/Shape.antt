@@ -1,4 +1,4 @@
--- Which lists are bits, which are bytes, and which operations have indices that fit their widths.
+-- Which lists are bytes, which operations have indices that fit their widths, and how many bits an operation takes.
 -- Assumes nothing.
 use Prim.Native.Nat.{ℕ, _<_, _^_}
 use mathlib.Core.List.{List, [], _∷_}
@@ -10,10 +10,6 @@ use Rattle.rules.specs.Code.{placeBits, loopBits}
 abbrev pub Below : ℕ → List ℕ → Type 0
 Below n [] = Unit {0}
 Below n (x ∷ xs) = (x < n) × Below n xs
-
--- zeros and ones
-abbrev pub Bits : List ℕ → Type 0
-Bits xs = Below 2 xs
 
 abbrev pub Bytes : List ℕ → Type 0
 Bytes bs = Below 256 bs
@@ -29,6 +25,13 @@ Fits Close = Unit {0}
 Fits (Union p j) = (p < 2 ^ loopBits) × (j < 2 ^ placeBits)
 Fits Start = Unit {0}
 
-abbrev pub AllFit : List Operation → Type 0
-AllFit [] = Unit {0}
-AllFit (o ∷ os) = Fits o × AllFit os
+-- how many bits an operation takes
+abbrev pub widthOf : Operation → ℕ
+widthOf New = 3
+widthOf Forward = 3
+widthOf Backward = 3
+widthOf Border = 3
+widthOf (Split i) = 13
+widthOf Close = 3
+widthOf (Union p j) = 20
+widthOf Start = 3

@@ -6,15 +6,41 @@ use native.Mathlib.Omega.{arith}
 use mathlib.Core.Bool.{Bool, true, false}
 use mathlib.Core.List.{List, [], _∷_}
 use mathlib.Core.Path.{_≡_, refl, sym, ap, _∙_, subst}
-use lib.ListN.{length-set}
+use lib.ListN.{length, set, length-set}
 use lib.Seq.{getD-set-same, getD-set-other}
 use lib.Dec.{eqb}
 use borrow.Author.Tests.{eqb-true, eqb-false}
 use Rattle.rules.specs.Count.{num, same}
 use Rattle.rules.specs.Ring.{Node, Ring, vertex, isOpen, startOr}
 use Rattle.book.specs.Sums.{Weight, pathSum, ringSum, loopsSum}
-use Rattle.border_theory.specs.Links.Held.{Memory, Long, Link, Arc, arcHit, arcs, among, Holds, Apart, stored}
+use Rattle.border_theory.specs.Links.Held.{Memory, Link, Arc, arcHit, arcs, Holds, placed}
 use Rattle.counting.proofs.Counts.{same-no, hit-yes, hit-from, hit-to}
+
+-- a memory of n places
+pub record Long (n : ℕ) (m : Memory) : Type 0 where
+  pub afters : length (m .afters) ≡ n
+  pub befores : length (m .befores) ≡ n
+  pub opens : length (m .opens) ≡ n
+
+-- no place is in the loops twice
+abbrev pub Apart : List Ring → Type 0
+Apart ls = (x : ℕ) → placed x ls ≤ 1
+
+-- how often an edge is in a list
+unfoldable pub among : ℕ → ℕ → Bool → List Arc → ℕ
+among x y o [] = 0
+among x y o (d ∷ ds) = arcHit x y o (d .from) (d .to) (d .live) + among x y o ds
+
+-- edges stored, the last of the list first
+unfoldable pub stored : List Arc → Memory → Memory
+stored [] m = m
+stored (d ∷ ds) m =
+    let r = stored ds m in
+    record {
+      afters = set (r .afters) (d .from) (d .to);
+      befores = set (r .befores) (d .to) (d .from);
+      opens = set (r .opens) (d .from) (num (d .live));
+    }
 
 -- weights that are together at most a third one
 path-le : (v w z : Weight) → ((p q : ℕ) (o : Bool) → v p q o + w p q o ≤ z p q o) → (ps : List Node) (b : ℕ)

@@ -14,10 +14,10 @@ use Rattle.rules.specs.Ring.{without}
 use Rattle.book.specs.Sums.{Weight, pathSum, ringSum, loopsSum}
 use Rattle.book.proofs.Sums.{start-append, sum-append, sum-turn, front-last, start-drop, sum-without, turned}
 use Rattle.book.proofs.Effects.{at-path}
-use Rattle.border_theory.specs.Links.Held.{Memory, Long, arc, Holds, placed, Apart, stored}
+use Rattle.border_theory.specs.Links.Held.{Memory, arc, Holds, placed}
 use Rattle.rules.specs.Places.{alive}
 use Rattle.border_theory.proofs.Links.Stores.{placesAfter, stores, Takes, Fits}
-use Rattle.border_theory.proofs.Links.Relink.{long-stored}
+use Rattle.border_theory.proofs.Links.Relink.{Long, Apart, stored, long-stored}
 use Rattle.border_theory.proofs.Links.Surgery.{end-there, Done, do-new, do-forward, do-backward, do-split, do-union, do-mark}
 use Rattle.border_theory.proofs.Links.Surgery.{do-fewer}
 use Rattle.counting.proofs.Counts.{same-yes}

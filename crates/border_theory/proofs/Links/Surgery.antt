@@ -13,8 +13,8 @@ use Rattle.rules.specs.Table.{inOrder}
 use Rattle.book.specs.Sums.{Weight, pathSum, ringSum, loopsSum}
 use Rattle.book.proofs.Sums.{start-append, sum-append}
 use Rattle.book.proofs.Effects.{sum-order}
-use Rattle.border_theory.specs.Links.Held.{Memory, Long, arc, arcHit, among, Holds, placed, Apart, stored}
-use Rattle.border_theory.proofs.Links.Relink.{arc-yes, relink}
+use Rattle.border_theory.specs.Links.Held.{Memory, arc, arcHit, Holds, placed}
+use Rattle.border_theory.proofs.Links.Relink.{Long, among, Apart, stored, arc-yes, relink}
 use Rattle.counting.proofs.Counts.{same-yes, same-no, same-two}
 
 -- one free place more, or no place more

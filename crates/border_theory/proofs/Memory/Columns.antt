@@ -10,7 +10,8 @@ use lib.Seq.{getD-set-same, getD-set-other, ext-getD}
 use lib.Dec.{eqb}
 use borrow.Author.Tests.{eqb-true, eqb-false}
 use Rattle.rules.specs.Count.{num}
-use Rattle.border_theory.specs.Links.Held.{Memory, Long, Arc, stored}
+use Rattle.border_theory.specs.Links.Held.{Memory, Arc}
+use Rattle.border_theory.proofs.Links.Relink.{Long, stored}
 use Rattle.border_theory.specs.Memory.Layout.{at, column, verticesOf, linksOf, edgeStored, edgesStored}
 
 pub column-length : (m : List ℕ) (k n : ℕ) → length (column m k n) ≡ n

@@ -14,7 +14,8 @@ use Rattle.book.specs.Sums.{pathSum, ringSum, loopsSum}
 use Rattle.book.specs.Consistent.{AllCurrent}
 use Rattle.book.proofs.Sums.{start-append, sum-append}
 use Rattle.book.proofs.Spaced.{spaced-any, spaced-front}
-use Rattle.border_theory.specs.Links.Held.{Memory, Arc, arc, Holds, placed, Apart, stored}
+use Rattle.border_theory.specs.Links.Held.{Memory, Arc, arc, Holds, placed}
+use Rattle.border_theory.proofs.Links.Relink.{Apart, stored}
 use Rattle.border_theory.proofs.Links.Stores.{cutNext}
 use Rattle.border_theory.proofs.Links.Surgery.{do-forward, do-cut}
 use Rattle.border_theory.proofs.Links.Cut.{front-marked}

@@ -16,7 +16,8 @@ use Rattle.rules.specs.Table.{Effect}
 use Rattle.book.specs.Sums.{Weight, pathSum, ringSum, loopsSum}
 use Rattle.book.specs.Consistent.{AllCurrent}
 use Rattle.book.proofs.Sums.{sum-append, start-append}
-use Rattle.border_theory.specs.Links.Held.{Memory, Arc, arc, Holds, placed, stored, namedLoops}
+use Rattle.border_theory.specs.Links.Held.{Memory, Arc, arc, Holds, placed, namedLoops}
+use Rattle.border_theory.proofs.Links.Relink.{stored}
 use Rattle.rules.specs.Places.{alive}
 use Rattle.border_theory.proofs.Links.Stores.{placesAfter, stores, verticesAfter, HasLoops, OpenNext}
 use Rattle.border_theory.proofs.Links.Surgery.{do-mark}

@@ -13,7 +13,8 @@ use Rattle.rules.specs.Count.{same}
 use Rattle.rules.specs.Ring.{Node, opened, Ring, startOr, vertexAt, lastOpen, lastVertex, front, places}
 use Rattle.book.specs.Sums.{pathSum, ringSum, loopsSum}
 use Rattle.book.proofs.Sums.{sum-append, front-last}
-use Rattle.border_theory.specs.Links.Held.{Arc, arc, placed, stored}
+use Rattle.border_theory.specs.Links.Held.{Arc, arc, placed}
+use Rattle.border_theory.proofs.Links.Relink.{stored}
 use Rattle.border_theory.proofs.Links.Stores.{placesAfter, stores, verticesAfter, Takes, Whole}
 use Rattle.cutborder.specs.declared.Loops.{Loops}
 use Rattle.border_theory.specs.Memory.Layout.{at, beforeOf, afterOf, verticesOf, edgesStored, freed, walked}

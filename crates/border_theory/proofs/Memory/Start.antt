@@ -12,7 +12,8 @@ use Rattle.rules.specs.Count.{same}
 use Rattle.rules.specs.Ring.{opened, Ring}
 use Rattle.rules.specs.Table.{atRest}
 use Rattle.book.specs.Sums.{pathSum, ringSum, loopsSum}
-use Rattle.border_theory.specs.Links.Held.{Memory, Arc, arc, Holds, stored, namedRing, namedLoops}
+use Rattle.border_theory.specs.Links.Held.{Memory, Arc, arc, Holds, namedRing, namedLoops}
+use Rattle.border_theory.proofs.Links.Relink.{stored}
 use Rattle.border_theory.proofs.Links.Surgery.{do-start}
 use Rattle.cutborder.specs.declared.Loops.{Loops}
 use Rattle.border_theory.specs.Memory.Layout.{at, verticesOf, linksOf, edgesStored, stacked}

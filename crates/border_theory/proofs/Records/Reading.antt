@@ -13,9 +13,16 @@ use borrow.Author.Tests.{ltb-true, ltb-false}
 use Rattle.rules.specs.declared.Place.{Place}
 use Rattle.rules.specs.Buffer.{freePlace}
 use Rattle.rules.specs.View.{placeAt}
-use Rattle.border_theory.specs.Records.Plain.{memorySize, storedAt, recordAt, records, loaded, blank, counted, memoryOf}
+use Rattle.border_theory.specs.Records.Plain.{memorySize, storedAt, recordAt, records, loaded, blank, countOf}
 use Rattle.border_theory.proofs.Records.Counting.{count-within}
 use Rattle.border_theory.proofs.Records.Stored.{length-stored, record-other, record-same}
+
+-- how many records of a list are read, and the plain memory that they are read into
+abbrev pub counted : List Place → ℕ
+counted ps = countOf (length ps)
+
+abbrev pub memoryOf : List Place → List ℕ
+memoryOf ps = loaded (counted ps) ps blank
 
 -- lengths
 pub length-loaded : (n : ℕ) (ps : List Place) (m : List ℕ) → length (loaded n ps m) ≡ length m

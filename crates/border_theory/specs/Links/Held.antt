@@ -1,11 +1,11 @@
 -- Loops of places, kept in three lists: for each place the place after it, the place before it, and whether its edge is open. A loop
 -- of places is a ring whose vertices are place numbers.
 -- Assumes nothing.
-use Prim.Native.Nat.{ℕ, zero, suc, _+_, _≤_}
+use Prim.Native.Nat.{ℕ, zero, suc, _≤_}
 use mathlib.Core.Bool.{Bool, true, false}
 use mathlib.Core.List.{List, [], _∷_}
 use mathlib.Core.Path.{_≡_}
-use lib.ListN.{length, getD, set}
+use lib.ListN.{getD}
 use Rattle.rules.specs.Count.{num, same}
 use Rattle.rules.specs.Ring.{Node, opened, marked, Ring}
 use Rattle.book.specs.Sums.{Weight, loopsSum, openHit, markHit}
@@ -15,12 +15,6 @@ pub record Memory : Type 0 where
   pub befores : List ℕ
   -- 1 for an open edge, 0 for a marked one
   pub opens : List ℕ
-
--- a memory of n places
-pub record Long (n : ℕ) (m : Memory) : Type 0 where
-  pub afters : length (m .afters) ≡ n
-  pub befores : length (m .befores) ≡ n
-  pub opens : length (m .opens) ≡ n
 
 -- the edge from place x to place y is recorded, open or marked
 pub record Link (m : Memory) (x y : ℕ) (o : Bool) : Type 0 where
@@ -37,17 +31,13 @@ pub record Arc : Type 0 where
 abbrev pub arc : ℕ → ℕ → Bool → Arc
 arc x y o = record { from = x; to = y; live = o }
 
--- how often an edge is in the loops, and in a list
+-- how often an edge is in the loops
 abbrev pub arcHit : ℕ → ℕ → Bool → Weight
 arcHit x y true = openHit x y
 arcHit x y false = markHit x y
 
 abbrev pub arcs : ℕ → ℕ → Bool → List Ring → ℕ
 arcs x y o ls = loopsSum (arcHit x y o) ls
-
-unfoldable pub among : ℕ → ℕ → Bool → List Arc → ℕ
-among x y o [] = 0
-among x y o (d ∷ ds) = arcHit x y o (d .from) (d .to) (d .live) + among x y o ds
 
 -- the memory holds the loops: each of their edges is recorded
 abbrev pub Holds : Memory → List Ring → Type 0
@@ -56,21 +46,6 @@ Holds m ls = (x y : ℕ) (o : Bool) → 1 ≤ arcs x y o ls → Link m x y o
 -- how often place x is in the loops
 abbrev pub placed : ℕ → List Ring → ℕ
 placed x ls = loopsSum (λ p q o. same x p) ls
-
--- no place is in the loops twice
-abbrev pub Apart : List Ring → Type 0
-Apart ls = (x : ℕ) → placed x ls ≤ 1
-
--- edges stored, the last of the list first
-unfoldable pub stored : List Arc → Memory → Memory
-stored [] m = m
-stored (d ∷ ds) m =
-    let r = stored ds m in
-    record {
-      afters = set (r .afters) (d .from) (d .to);
-      befores = set (r .befores) (d .to) (d .from);
-      opens = set (r .opens) (d .from) (num (d .live));
-    }
 
 -- k places read off from place x on, by following the links
 abbrev pub nodeFrom : ℕ → ℕ → Node

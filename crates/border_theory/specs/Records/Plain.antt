@@ -5,7 +5,7 @@ use Prim.Native.Nat.{ℕ, zero, suc, _+_, _*_}
 use mathlib.Core.Bool.{Bool, true, false}
 use mathlib.Core.List.{List, [], _∷_, _++_}
 use lib.Dec.{ltb, eqb}
-use lib.ListN.{replicate, set, getD, length}
+use lib.ListN.{replicate, set, getD}
 use Rattle.rules.specs.declared.Place.{Place}
 use Rattle.rules.specs.Limits.{maxPlaces, maxLoops}
 use Rattle.rules.specs.View.{placeAt}
@@ -60,10 +60,3 @@ blank = replicate memorySize 0
 -- how many of n records are read: all, or the first 1,024
 unfoldable pub countOf : ℕ → ℕ
 countOf n = elim (ltb n maxPlaces) [ true ↦ n | false ↦ maxPlaces ]
-
--- how many records of a list are read, and the plain memory that they are read into
-abbrev pub counted : List Place → ℕ
-counted ps = countOf (length ps)
-
-abbrev pub memoryOf : List Place → List ℕ
-memoryOf ps = loaded (counted ps) ps blank

@@ -4,7 +4,7 @@ use Prim.Native.Nat.{ℕ, zero, suc, _+_, _≤_}
 use native.Mathlib.Omega.{arith}
 use mathlib.Core.Bool.{Bool, true, false}
 use mathlib.Core.List.{List, [], _∷_}
-use mathlib.Core.Path.{_≡_, refl, sym, ap, _∙_, subst}
+use mathlib.Core.Path.{_≡_, refl, sym, ap, _∙_}
 use lib.ListN.{length}
 use lib.Dec.{eqb}
 use borrow.Author.Tests.{eqb-true, eqb-false}
@@ -15,12 +15,12 @@ use Rattle.rules.specs.Triangle.{Edge, edgesOf, corners}
 use Rattle.rules.specs.Count.{same, hit, occurs, count, uses}
 use Rattle.rules.specs.Across.{across}
 use Rattle.rules.specs.Check.{allDistinct, noneTwice}
-use Rattle.rules.specs.Fan.{about, Taken, no-edge, taken, keep, leaving, entering, turnOn, turnBack}
+use Rattle.rules.specs.Fan.{about, Taken, no-edge, taken, leaving, entering, turnOn, turnBack}
 use Rattle.mesh_theory.specs.Fans.Ways.{total}
 use Rattle.mesh_theory.specs.Fans.Corner.{Rot, at-p, at-q, at-r, In, Different}
 use Rattle.mesh_theory.proofs.Fans.Counting.{starts, ends, Apart, length-total, total-more, hits, count-total, count-starts}
 use Rattle.mesh_theory.proofs.Fans.Counting.{count-ends}
-use Rattle.mesh_theory.proofs.Fans.Turning.{Turn, onward, backward}
+use Rattle.mesh_theory.proofs.Fans.Turning.{Turn, onward, backward, Parts, parts}
 use Rattle.mesh_theory.proofs.Fans.Corners.{in-next}
 use Rattle.mesh_theory.proofs.Fans.Tests.{distinct-first, distinct-rest}
 use Rattle.mesh_theory.proofs.Fans.About.{First, meets, misses, first, about-edges, about-apart, in-about}
@@ -47,32 +47,12 @@ about-length v (t ∷ ts) h = go (first v t ts) (about-length v ts (distinct-res
     go (meets x y r e) k = rw e (omega (arith, rot-same t (distinct-first t ts h) r))
     go (misses a b c e) k = rw e (omega (arith, same-no v (t .p) a, same-no v (t .q) b, same-no v (t .r) c))
 
--- what taking an edge out gives: none has the near end x, or one that has it is taken and the others are left
-abbrev Parts : (Edge → ℕ) → ℕ → List Edge → Taken → Type 0
-Parts near x ds no-edge = total (λ d. same x (near d)) ds ≡ 0
-Parts near x ds (taken d es) = (near d ≡ x) × ((w : Edge → ℕ) → total w ds ≡ w d + total w es)
-
 module _ (near far : Edge → ℕ) (pick : ℕ → List Edge → Taken) (turn : ℕ → ℕ → List Edge → List Edge)
     (law : Turn near far pick turn) where
-  parts-keep : (x : ℕ) (d : Edge) (ds : List Edge) (r : Taken) → eqb (near d) x ≡ false → Parts near x ds r
-      → Parts near x (d ∷ ds) (keep d r)
-  unfolding total
-  parts-keep x d ds no-edge e h = omega (arith, h, same-no x (near d) (λ q. eqb-false (near d) x e (sym q)))
-  parts-keep x d ds (taken f es) e h = (h .0, λ w. omega (arith, h .1 w))
-
-  parts : (x : ℕ) (ds : List Edge) → Parts near x ds (pick x ds)
-  unfolding total
-  parts x [] = subst (Parts near x []) (sym (law .pick-none x)) refl
-  parts x (d ∷ ds) = go (eqb (near d) x) refl (parts x ds)
-    where
-      go : (b : Bool) → eqb (near d) x ≡ b → Parts near x ds (pick x ds) → Parts near x (d ∷ ds) (pick x (d ∷ ds))
-      go true e h = subst (Parts near x (d ∷ ds)) (sym (law .pick-here x d ds e)) (eqb-true (near d) x e, λ w. refl)
-      go false e h = subst (Parts near x (d ∷ ds)) (sym (law .pick-later x d ds e)) (parts-keep x d ds (pick x ds) e h)
-
   -- where no edge is at x, turning stops
   stops : (n x : ℕ) (ds : List Edge) → total (λ d. same x (near d)) ds ≡ 0 → turn n x ds ≡ ds
   stops zero x ds h = law .turn-zero x ds
-  stops (suc n) x ds h = go (pick x ds) refl (parts x ds)
+  stops (suc n) x ds h = go (pick x ds) refl (parts near far pick turn law x ds)
     where
       go : (r : Taken) → pick x ds ≡ r → Parts near x ds r → turn (suc n) x ds ≡ ds
       go no-edge e p = law .turn-stop n x ds e
@@ -87,7 +67,7 @@ module _ (near far : Edge → ℕ) (pick : ℕ → List Edge → Taken) (turn : 
     turns : turn (suc n) x ds ≡ turn n (far edge-taken) rest
 
   nexts : (n x : ℕ) (ds : List Edge) → 1 ≤ total (λ d. same x (near d)) ds → Next n x ds
-  nexts n x ds h = go (pick x ds) refl (parts x ds)
+  nexts n x ds h = go (pick x ds) refl (parts near far pick turn law x ds)
     where
       go : (r : Taken) → pick x ds ≡ r → Parts near x ds r → Next n x ds
       go no-edge e p = absurd (omega arith)

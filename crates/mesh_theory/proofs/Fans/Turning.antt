@@ -47,8 +47,8 @@ backward = record {
   turn-more = λ n x ds d es e. rw (turnBack, e);
 }
 
--- the edge taken starts at x and the others are left, or none starts at x
-abbrev Parts : (Edge → ℕ) → ℕ → List Edge → Taken → Type 0
+-- what taking an edge out gives: none has the near end x, or one that has it is taken and the others are left
+abbrev pub Parts : (Edge → ℕ) → ℕ → List Edge → Taken → Type 0
 Parts near x ds no-edge = total (λ d. same x (near d)) ds ≡ 0
 Parts near x ds (taken d es) = (near d ≡ x) × ((w : Edge → ℕ) → total w ds ≡ w d + total w es)
 
@@ -68,7 +68,7 @@ module _ (near far : Edge → ℕ) (pick : ℕ → List Edge → Taken) (turn : 
   parts-keep x d ds no-edge e h = omega (arith, h, same-no x (near d) (λ q. eqb-false (near d) x e (sym q)))
   parts-keep x d ds (taken f es) e h = (h .0, λ w. omega (arith, h .1 w))
 
-  parts : (x : ℕ) (ds : List Edge) → Parts near x ds (pick x ds)
+  pub parts : (x : ℕ) (ds : List Edge) → Parts near x ds (pick x ds)
   unfolding total
   parts x [] = subst (Parts near x []) (sym (law .pick-none x)) refl
   parts x (d ∷ ds) = go (eqb (near d) x) refl (parts x ds)

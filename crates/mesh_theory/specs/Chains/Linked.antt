@@ -12,6 +12,7 @@ use Rattle.rules.specs.declared.Across.{Across}
 use Rattle.rules.specs.declared.Across.the-variants.{Nothing}
 use Rattle.rules.specs.Limits.{maxNumbers, maxTriangles, maxVertices}
 use Rattle.rules.specs.Triangle.{tri, trianglesOf, edgesOf}
+use Rattle.rules.specs.Count.{unjoined}
 use Rattle.rules.specs.Across.{across}
 use Rattle.rules.specs.Check.{allDistinct, noneTwice}
 use Rattle.mesh_theory.specs.Fans.Corner.{Different}
@@ -69,6 +70,10 @@ FreeIs xs cs x y b = (n : ℕ) → Chains xs (3 * n) cs → (x ≡ y → ⊥) �
 
 abbrev pub NewIs : List ℕ → List ℕ → ℕ → ℕ → ℕ → Bool → Type 0
 NewIs xs cs p q r b = (n : ℕ) → Chains xs (3 * n) cs → Different p q r → b ≡ isNew (firstTriangles n xs) (tri p q r)
+
+-- b tells, among the triangles that the chains hold, whether x and y are not joined
+abbrev pub UnjoinedIs : List ℕ → List ℕ → ℕ → ℕ → Bool → Type 0
+UnjoinedIs xs cs x y b = (n : ℕ) → Chains xs (3 * n) cs → (x ≡ y → ⊥) → b ≡ unjoined x y (edgesOf (firstTriangles n xs))
 
 -- the chain that begins at the entry c has k corners
 abbrev pub CountsFrom : List ℕ → ℕ → ℕ → Type 0

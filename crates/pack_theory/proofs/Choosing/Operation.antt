@@ -24,7 +24,7 @@ use Rattle.cutborder.specs.declared.Seat.{Seat}
 use Rattle.cutborder.specs.declared.Seat.the-variants.{Nowhere, At}
 use Rattle.cutborder.specs.declared.Turned.{Turned}
 use Rattle.pack_theory.specs.Choosing.Choosable.{unbuiltOf, Choosable}
-use Rattle.pack_theory.specs.Choosing.Seeking.{seatIn, seatOf, operationBy, placeFor, Seekable}
+use Rattle.pack_theory.specs.Choosing.Seeking.{seatIn, seatOf, operationBy, Seekable}
 use Rattle.pack_theory.specs.Choosing.Turning.{EndsIn, EndsOut}
 use Rattle.pack_theory.specs.Choosing.Places.{enterSeat, leaveSeat}
 use Rattle.pack_theory.proofs.Choosing.Turning.{in-turned, out-turned, differ}
@@ -53,6 +53,14 @@ by-flags ps zero i =
           [ true ↦ Forward | false ↦ elim (eqb (i + 1) (suc (length ps)) && lastOpen ps) [ true ↦ Backward | false ↦ Split (i - 1) ] ]
     ]) (all-open ps)
 by-flags ps (suc w) i = refl
+
+-- the operation for the two places that turning ends at: c is where the edge of the first ends, or else where that of the second starts
+unfoldable pub placeFor : ℕ → Bool → Bool → Seat → Seat → Operation
+placeFor k u v s t =
+    elim s [
+      | At w n i ↦ operationBy k u v w (following n i)
+      | Nowhere ↦ elim t [ At w n i ↦ operationBy k u v w i | Nowhere ↦ Border ]
+    ]
 
 -- the definition, by its two places
 choice-by : (a b c : ℕ) (ts : List Triangle) (ls : List Ring) → let ps = afterCurrent ls in

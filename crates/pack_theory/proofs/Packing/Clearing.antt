@@ -23,8 +23,8 @@ use Rattle.rules.specs.Pack.{Chosen, stopped, chosen, most, nothingBuilt, chose
 use Rattle.rules.specs.Pack.{packRefused, packDone, packStored, packChosen, packLongEnough, packChecked, pack}
 use Rattle.choice_theory.proofs.Runs.Whole as whole
 use Rattle.choice_theory.proofs.Runs.Accepted.{accepted-packs}
-use Rattle.pack_theory.specs.Packing.Lent.{isPast, clearedBy}
-use Rattle.pack_theory.proofs.Packing.Lending.{lentTo}
+use Rattle.pack_theory.specs.Packing.Lent.{clearedBy}
+use Rattle.pack_theory.proofs.Packing.Lending.{isPast, lentTo}
 
 -- 1 to 8, or none
 abbrev Early : Checked → Type 0

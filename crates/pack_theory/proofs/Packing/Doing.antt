@@ -33,11 +33,17 @@ use Rattle.border_theory.proofs.Memory.Room.{room}
 use Rattle.border_theory.proofs.Memory.Counts.{places-named}
 use Rattle.border_theory.proofs.Memory.Deciding.{decides}
 use Rattle.border_theory.proofs.Memory.Ready.{ready}
-use Rattle.cutborder.specs.declared.Done.the-variants.{Refused}
-use Rattle.pack_theory.specs.Packing.Doing.{readied, doneBy, memoryBy, doneOf, memoryOf, Standing, Outcome}
+use Rattle.cutborder.specs.declared.Done.{Done}
+use Rattle.cutborder.specs.declared.Done.the-variants.{Going, Refused}
+use Rattle.pack_theory.specs.Packing.Doing.{readied, refusalAt, doneBy, memoryBy, doneOf, memoryOf, Standing}
 use Rattle.counting.proofs.Bools.{and-both, and-true, not-eqb}
 use Rattle.counting.proofs.Counts.{no-from, no-to}
 use Rattle.book.proofs.EdgeRule.{test-passed}
+
+-- what an operation comes to that leaves the loops ls and builds n triangles: it exceeds a limit, or they stand
+abbrev pub Outcome : ℕ → ℕ → Front → List Ring → ℕ → ℕ → ℕ → Done → List ℕ → Type 0
+Outcome v k f ls a b n (Refused j) m′ = (j ≡ refusalAt (f .loops .free)) × (places ls ≤ maxPlaces → length ls ≤ maxLoops → ⊥)
+Outcome v k f ls a b n (Going f′) m′ = Standing v k f′ m′ ls (max a (places ls)) (max b (length ls)) × (f′ .built ≡ f .built + n)
 
 -- the triangles of the machine do not matter: they join nothing
 abbrev joinless : ℕ → List Triangle

@@ -17,10 +17,15 @@ use Rattle.rules.specs.Check.{check}
 use Rattle.rules.specs.Buffer.{freePlace, cleared}
 use Rattle.rules.specs.Pack.{Chosen, stopped, chosen, most, chosenFor, packOf, newNumbers, PackBuffers, PackResult, turnedDown, packRefused}
 use Rattle.rules.specs.Pack.{packDone, packStored, packChosen, packLongEnough, packChecked, pack}
-use Rattle.pack_theory.specs.Packing.Lent.{packOn, isPast}
+use Rattle.pack_theory.specs.Packing.Lent.{packOn}
 
 abbrev pub lentTo : List ℕ → List Place → List ℕ → PackBuffers
 lentTo ns ps bs = record { numbering = ns; places = ps; pack = bs }
+
+-- whether a list gets past 1 to 8, with n place records and k numbering entries
+abbrev pub isPast : Checked → ℕ → ℕ → ℕ → Bool
+isPast (Refused j) v n k = false
+isPast Accepted v n k = leb v k && leb maxPlaces n
 
 -- the place list afterwards
 abbrev pub clearedIf : Bool → List Place → List Place

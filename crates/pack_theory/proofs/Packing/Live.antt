@@ -50,13 +50,13 @@ use Rattle.cutborder.specs.declared.Move.{Move}
 use Rattle.cutborder.specs.declared.Done.{Done}
 use Rattle.cutborder.specs.declared.Done.the-variants.{Going, Refused}
 use Rattle.pack_theory.specs.Packing.Numbers.{unnumbered, entries}
-use Rattle.pack_theory.specs.Packing.Doing.{readied, doneOf, memoryOf, Outcome}
+use Rattle.pack_theory.specs.Packing.Doing.{readied, doneOf, memoryOf}
 use Rattle.pack_theory.specs.Packing.Course.{Holds, startOf, endOf, isNumbered, placedBy, flagsBy, moveBy, moveOf, flagsOf, givenBy}
 use Rattle.pack_theory.specs.Packing.Course.{numbersBy}
 use Rattle.pack_theory.specs.Packing.Steps.{StepsTo}
 use Rattle.pack_theory.proofs.Packing.Numbers.{entry-read, entry-none, entry-some, number-stored}
 use Rattle.pack_theory.proofs.Packing.Flags.{flag-drops, found-below}
-use Rattle.pack_theory.proofs.Packing.Doing.{standing-places, built-outcome, border-outcome}
+use Rattle.pack_theory.proofs.Packing.Doing.{Outcome, standing-places, built-outcome, border-outcome}
 use Rattle.pack_theory.proofs.Packing.Growing.{Grows, surgery-grows, border-shrinks, limited-refuses}
 use Rattle.pack_theory.proofs.Packing.Reading.{EdgeRead, edge-read, none-live}
 use Rattle.roundtrip.proofs.Numbers.{index-below}

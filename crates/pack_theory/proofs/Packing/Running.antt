@@ -1,4 +1,4 @@
--- One law for each way through the loop of a run.
+-- The loop of a run: its invariant, and one law for each way through it.
 -- Assumes nothing.
 use Prim.Native.Nat.{ℕ, zero, suc, _+_, _-_, _*_, _≤_, _<_}
 use native.Mathlib.Omega.{arith}
@@ -14,7 +14,7 @@ use Rattle.rules.specs.Code.{operationBits}
 use Rattle.rules.specs.Choice.{Packing, ended, refuses, takes, choose}
 use Rattle.rules.specs.Pack.{Chosen, stopped, chosen, cons, chooseAll}
 use Rattle.wire_theory.specs.Buffer.{writtenAt, bytesFor}
-use Rattle.wire_theory.specs.Whole.{widthOf}
+use Rattle.wire_theory.specs.Shape.{widthOf}
 use Rattle.wire_theory.proofs.Operations.{width-most}
 use Rattle.choice_theory.proofs.Runs.Whole.{all-ended, all-taken, choose-ended}
 use Rattle.border_theory.specs.Memory.Stands.{ringsIn}
@@ -24,12 +24,39 @@ use Rattle.cutborder.specs.declared.Taken.the-variants as T
 use Rattle.cutborder.specs.declared.Ran.{Ran}
 use Rattle.cutborder.specs.declared.Ran.the-variants as R
 use Rattle.pack_theory.specs.Packing.Course.{Holds, Held}
-use Rattle.pack_theory.specs.Packing.Writing.{headerBits}
-use Rattle.pack_theory.specs.Packing.Steps.{StepsTo, Steps, StepOf, EndsAt, Ends, RunOf, prepended, Comes, Loop}
+use Rattle.pack_theory.specs.Packing.Writing.{headerBits, Writes}
+use Rattle.pack_theory.specs.Packing.Steps.{StepsTo, Steps, StepOf, EndsAt, Ends, RunOf}
 use Rattle.border_theory.specs.Memory.Finish.{isComplete}
 use Rattle.border_theory.proofs.Memory.Finish.{complete-parts}
 use Rattle.pack_theory.proofs.Packing.Reading.{live-none}
 use Rattle.pack_theory.proofs.Packing.Writing.{writes-none, writes-more}
+
+-- operations taken before the others
+unfoldable pub prepended : List Operation → Chosen → Chosen
+prepended [] c = c
+prepended (o ∷ os) c = cons o (prepended os c)
+
+-- the run C has come to the state t, with `left` steps to go
+pub record Comes (v : ℕ) (xs : List ℕ) (C : Chosen) (budget : ℕ) (buffer₀ : List ℕ) (left : ℕ) (t : Course) (at : ℕ)
+    (fs ns rest buffer m : List ℕ) : Type 0 where
+  pub operations : List Operation
+  pub packing : Packing
+  pub ran : C ≡ prepended operations (chooseAll left packing)
+  pub holds : Holds v xs packing t fs ns rest m
+  pub writes : Writes operations buffer₀ buffer at
+  pub count : length operations + left ≡ budget
+
+-- the invariant of the loop
+pub record Loop (xs cs : List ℕ) (budget : ℕ) (t₀ : Course) (fs₀ ns₀ buffer₀ m₀ : List ℕ) (left : ℕ) (t : Course) (at : ℕ)
+    (fs ns buffer m : List ℕ) : Type 0 where
+  pub come : (v : ℕ) (s : Packing) (rest : List ℕ) → Holds v xs s t₀ fs₀ ns₀ rest m₀
+      → Comes v xs (chooseAll budget s) budget buffer₀ left t at fs ns rest buffer m
+  pub held : Held xs cs t fs ns m
+  pub few : left ≤ budget
+  pub near : at + 20 * left ≤ headerBits + 20 * budget
+  pub numbers-long : length ns ≡ length ns₀
+  pub buffer-long : length buffer ≡ length buffer₀
+  pub memory-long : length m ≡ length m₀
 
 -- ---- operations before others
 

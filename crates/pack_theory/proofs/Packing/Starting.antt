@@ -32,12 +32,12 @@ use Rattle.cutborder.specs.declared.Course.{Course}
 use Rattle.cutborder.specs.declared.Done.{Done}
 use Rattle.cutborder.specs.declared.Done.the-variants.{Going, Refused}
 use Rattle.pack_theory.specs.Packing.Numbers.{entries}
-use Rattle.pack_theory.specs.Packing.Doing.{readied, doneOf, memoryOf, Outcome}
+use Rattle.pack_theory.specs.Packing.Doing.{readied, doneOf, memoryOf}
 use Rattle.pack_theory.specs.Packing.Course.{Holds, renamed, numberedThree}
 use Rattle.pack_theory.specs.Packing.Steps.{StepsTo}
 use Rattle.pack_theory.proofs.Packing.Numbers.{number-stored}
 use Rattle.pack_theory.proofs.Packing.Flags.{lowest-first, lowest-rest, lowest-set, lowest-none}
-use Rattle.pack_theory.proofs.Packing.Doing.{built-outcome}
+use Rattle.pack_theory.proofs.Packing.Doing.{Outcome, built-outcome}
 use Rattle.pack_theory.proofs.Packing.Reading.{live-none}
 use Rattle.pack_theory.proofs.Packing.Renaming.{Renamed, renamed-three}
 

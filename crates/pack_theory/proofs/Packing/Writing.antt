@@ -12,11 +12,10 @@ use Rattle.rules.specs.Bits.{bitsOfBytes, bytesOf}
 use Rattle.rules.specs.Code.{operationBits, operationsBits}
 use Rattle.rules.specs.Fields.{packBytes}
 use Rattle.rules.specs.Buffer.{over}
-use Rattle.wire_theory.specs.Shape.{Bits}
 use Rattle.wire_theory.specs.Header.{headerOf}
 use Rattle.wire_theory.specs.Buffer.{writtenAt, bytesFor}
-use Rattle.wire_theory.specs.Whole.{widthOf}
-use Rattle.wire_theory.proofs.Lists.{below-append, below-take}
+use Rattle.wire_theory.specs.Shape.{widthOf}
+use Rattle.wire_theory.proofs.Lists.{Bits, below-append, below-take}
 use Rattle.wire_theory.proofs.Bytes.{length-bits-of-bytes, bits-of-bytes-are, length-bytes, bytes-append, bytes-nil}
 use Rattle.wire_theory.proofs.Operations.{length-operation, operations-bits-are, operations-more}
 use Rattle.wire_theory.proofs.Fields.{pack-header, length-header, length-pack}

@@ -7,10 +7,10 @@ use mathlib.Core.List.{List}
 use lib.ListN.{length}
 use lib.Dec.{eqb, ltb}
 use Rattle.rules.specs.declared.Operation.{Operation}
-use Rattle.rules.specs.declared.Operation.the-variants.{Forward, Backward, Border, Split, Close, Union}
+use Rattle.rules.specs.declared.Operation.the-variants.{Forward, Backward, Split, Close, Union}
 use Rattle.rules.specs.Limits.{maxPlaces}
 use Rattle.rules.specs.Ring.{Ring}
-use Rattle.rules.specs.Choice.{Spot, nowhere, spot, sizeOf, following}
+use Rattle.rules.specs.Choice.{Spot, nowhere, spot, sizeOf}
 use Rattle.cutborder.specs.declared.Loops.{Loops}
 use Rattle.border_theory.specs.Memory.Layout.{at, vertexOf, beforeOf, afterOf, walked}
 use Rattle.border_theory.specs.Memory.Decision.{isOpenAt}
@@ -68,14 +68,6 @@ operationBy k u v zero i =
       | false ↦ elim (eqb i 2 && u) [ true ↦ Forward | false ↦ elim (eqb (i + 1) k && v) [ true ↦ Backward | false ↦ Split (i - 1) ] ]
     ]
 operationBy k u v (suc w) i = Union (suc w) i
-
--- the operation for the two places that turning ends at: c is where the edge of the first ends, or else where that of the second starts
-unfoldable pub placeFor : ℕ → Bool → Bool → Seat → Seat → Operation
-placeFor k u v s t =
-    elim s [
-      | At w n i ↦ operationBy k u v w (following n i)
-      | Nowhere ↦ elim t [ At w n i ↦ operationBy k u v w i | Nowhere ↦ Border ]
-    ]
 
 -- place p and the place after it are in the memory
 abbrev pub Inside : List ℕ → ℕ → Type 0

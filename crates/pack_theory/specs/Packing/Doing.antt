@@ -1,6 +1,6 @@
 -- An operation on the loops of a packing: the state that it is done from, and what it comes to.
 -- Assumes nothing.
-use Prim.Native.Nat.{ℕ, _+_, _≤_, max}
+use Prim.Native.Nat.{ℕ, _≤_}
 use mathlib.Core.Bool.{true, false}
 use mathlib.Core.List.{List}
 use mathlib.Core.Path.{_≡_}
@@ -9,7 +9,7 @@ use lib.Dec.{eqb}
 use Rattle.rules.specs.declared.Counts.{Counts}
 use Rattle.rules.specs.declared.Operation.{Operation}
 use Rattle.rules.specs.Limits.{maxPlaces, maxLoops, maxTriangles, between, vertexRange}
-use Rattle.rules.specs.Ring.{Ring, places}
+use Rattle.rules.specs.Ring.{Ring}
 use Rattle.border_theory.specs.Records.Plain.{coreSize}
 use Rattle.cutborder.specs.declared.Front.{Front}
 use Rattle.cutborder.specs.declared.Decided.{Decided}
@@ -73,8 +73,3 @@ pub record Standing (v k : ℕ) (f : Front) (m : List ℕ) (ls : List Ring) (a b
   pub most : b ≡ f .peaks .loops
   pub few-places : a ≤ maxPlaces
   pub few-loops : b ≤ maxLoops
-
--- what an operation comes to that leaves the loops ls and builds n triangles: it exceeds a limit, or they stand
-abbrev pub Outcome : ℕ → ℕ → Front → List Ring → ℕ → ℕ → ℕ → Done → List ℕ → Type 0
-Outcome v k f ls a b n (Refused j) m′ = (j ≡ refusalAt (f .loops .free)) × (places ls ≤ maxPlaces → length ls ≤ maxLoops → ⊥)
-Outcome v k f ls a b n (Going f′) m′ = Standing v k f′ m′ ls (max a (places ls)) (max b (length ls)) × (f′ .built ≡ f .built + n)

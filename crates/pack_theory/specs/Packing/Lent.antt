@@ -1,15 +1,14 @@
 -- Packing with n place records, of which only the number counts.
 -- Assumes nothing.
 use Prim.Native.Nat.{ℕ, _≤_}
-use mathlib.Core.Bool.{Bool, true, false, _&&_}
+use mathlib.Core.Bool.{true, false}
 use mathlib.Core.List.{List}
 use mathlib.Core.Path.{_≡_}
 use lib.ListN.{length, replicate, drop}
 use lib.Dec.{leb}
 use Rattle.rules.specs.declared.Packed.{Packed}
 use Rattle.rules.specs.declared.Packed.the-variants as P
-use Rattle.rules.specs.declared.Checked.{Checked}
-use Rattle.rules.specs.declared.Checked.the-variants.{Accepted, Refused}
+use Rattle.rules.specs.declared.Checked.the-variants.{Accepted}
 use Rattle.rules.specs.Limits.{maxPlaces, maxTriangles}
 use Rattle.rules.specs.Triangle.{trianglesOf}
 use Rattle.rules.specs.Check.{check}
@@ -28,11 +27,6 @@ lent n ns bs = record { numbering = ns; places = replicate n freePlace; pack = b
 
 abbrev pub packOn : ℕ → List ℕ → ℕ → List ℕ → List ℕ → PackResult
 packOn v xs n ns bs = pack v xs (lent n ns bs)
-
--- whether a list gets past 1 to 8, with n place records and k numbering entries
-abbrev pub isPast : Checked → ℕ → ℕ → ℕ → Bool
-isPast (Refused j) v n k = false
-isPast Accepted v n k = leb v k && leb maxPlaces n
 
 -- how many place records a packing clears, read off its answer: none after 1 to 8, and past 8 the first 1,024
 abbrev pub clearedBy : Packed → ℕ

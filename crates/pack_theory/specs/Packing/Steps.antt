@@ -1,13 +1,13 @@
 -- A step of a packing, and the run of them: what the code's answers say of the packing of the rules.
 -- Assumes nothing.
 use Prim.Native.Nat.{ℕ, _+_, _*_, _≤_, _<_}
-use mathlib.Core.List.{List, [], _∷_}
+use mathlib.Core.List.{List}
 use mathlib.Core.Path.{_≡_}
 use lib.ListN.{length, drop}
 use Rattle.rules.specs.declared.Operation.{Operation}
 use Rattle.rules.specs.Triangle.{trianglesOf}
 use Rattle.rules.specs.Choice.{Packing, Next, refuses, takes, choose}
-use Rattle.rules.specs.Pack.{Chosen, stopped, chosen, cons, chooseAll}
+use Rattle.rules.specs.Pack.{Chosen, stopped, chosen, chooseAll}
 use Rattle.border_theory.specs.Memory.Layout.{afterOf}
 use Rattle.pack_theory.specs.Choosing.Choosable.{flagOf}
 use Rattle.cutborder.specs.declared.Course.{Course}
@@ -92,30 +92,3 @@ Ends v xs C budget buffer (R.Ended t′ at′) fs′ ns′ rest buffer′ m′ =
 abbrev pub RunOf : List ℕ → ℕ → Course → List ℕ → List ℕ → List ℕ → List ℕ → Ran → List ℕ → List ℕ → List ℕ → List ℕ → Type 0
 RunOf xs budget t fs ns buffer m r fs′ ns′ buffer′ m′ = (v : ℕ) (s : Packing) (rest : List ℕ) → Holds v xs s t fs ns rest m
     → Ends v xs (chooseAll budget s) budget buffer r fs′ ns′ rest buffer′ m′
-
--- operations taken before the others
-unfoldable pub prepended : List Operation → Chosen → Chosen
-prepended [] c = c
-prepended (o ∷ os) c = cons o (prepended os c)
-
--- the run C has come to the state t, with `left` steps to go
-pub record Comes (v : ℕ) (xs : List ℕ) (C : Chosen) (budget : ℕ) (buffer₀ : List ℕ) (left : ℕ) (t : Course) (at : ℕ)
-    (fs ns rest buffer m : List ℕ) : Type 0 where
-  pub operations : List Operation
-  pub packing : Packing
-  pub ran : C ≡ prepended operations (chooseAll left packing)
-  pub holds : Holds v xs packing t fs ns rest m
-  pub writes : Writes operations buffer₀ buffer at
-  pub count : length operations + left ≡ budget
-
--- the invariant of the loop
-pub record Loop (xs cs : List ℕ) (budget : ℕ) (t₀ : Course) (fs₀ ns₀ buffer₀ m₀ : List ℕ) (left : ℕ) (t : Course) (at : ℕ)
-    (fs ns buffer m : List ℕ) : Type 0 where
-  pub come : (v : ℕ) (s : Packing) (rest : List ℕ) → Holds v xs s t₀ fs₀ ns₀ rest m₀
-      → Comes v xs (chooseAll budget s) budget buffer₀ left t at fs ns rest buffer m
-  pub held : Held xs cs t fs ns m
-  pub few : left ≤ budget
-  pub near : at + 20 * left ≤ headerBits + 20 * budget
-  pub numbers-long : length ns ≡ length ns₀
-  pub buffer-long : length buffer ≡ length buffer₀
-  pub memory-long : length m ≡ length m₀

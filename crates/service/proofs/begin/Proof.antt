@@ -52,7 +52,8 @@ use Rattle.rules.proofs.Counts.Laws as MCounts′
 use Rattle.rules.specs.declared.Begun.{Begun}
 use Rattle.rules.proofs.Begun as MBegun
 use Rattle.rules.proofs.Begun.Laws as MBegun′
-use Rattle.border_theory.specs.Records.Plain.{countOf, counted}
+use Rattle.border_theory.specs.Records.Plain.{countOf}
+use Rattle.border_theory.proofs.Records.Reading.{counted}
 use Rattle.border_theory.proofs.Records.Counting.{count-fits}
 use Rattle.places.proofs.Walking.{tyAt}
 use Rattle.border_theory.specs.Records.Changes.{clearedTo}

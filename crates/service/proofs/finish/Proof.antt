@@ -56,7 +56,8 @@ use Rattle.rules.proofs.Builder.Laws as MBuilder′
 use Rattle.rules.specs.declared.Finished.{Finished}
 use Rattle.rules.proofs.Finished as MFinished
 use Rattle.rules.proofs.Finished.Laws as MFinished′
-use Rattle.border_theory.specs.Records.Plain.{countOf, blank, counted, memoryOf}
+use Rattle.border_theory.specs.Records.Plain.{countOf, blank}
+use Rattle.border_theory.proofs.Records.Reading.{counted, memoryOf}
 use Rattle.border_theory.proofs.Records.Counting.{count-within, count-fits}
 use Rattle.places.proofs.Walking.{tyAt}
 use Rattle.state_theory.specs.Finishing.Core.{FinishesOn}

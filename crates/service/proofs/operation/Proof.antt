@@ -60,7 +60,8 @@ use Rattle.rules.proofs.Operation.Laws as MOperation′
 use Rattle.rules.specs.declared.Performed.{Performed}
 use Rattle.rules.proofs.Performed as MPerformed
 use Rattle.rules.proofs.Performed.Laws as MPerformed′
-use Rattle.border_theory.specs.Records.Plain.{countOf, blank, counted, memoryOf}
+use Rattle.border_theory.specs.Records.Plain.{countOf, blank}
+use Rattle.border_theory.proofs.Records.Reading.{counted, memoryOf}
 use Rattle.border_theory.proofs.Records.Counting.{count-within, count-fits}
 use Rattle.places.proofs.Walking.{tyAt}
 use Rattle.border_theory.specs.Records.Notes.{Linkable, Freeable, linkedAll, freedAll}

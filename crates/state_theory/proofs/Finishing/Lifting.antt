@@ -20,7 +20,8 @@ use Rattle.rules.specs.Answer.{begunAnswer}
 use Rattle.rules.specs.Book.{answerOf}
 use Rattle.rules.specs.Buffer.{freePlace, cleared, Buffers}
 use Rattle.rules.specs.Build.{begins, BegunBy, Begins}
-use Rattle.border_theory.specs.Records.Plain.{countOf, counted}
+use Rattle.border_theory.specs.Records.Plain.{countOf}
+use Rattle.border_theory.proofs.Records.Reading.{counted}
 use Rattle.border_theory.specs.Records.Changes.{clearedTo}
 use Rattle.border_theory.proofs.Records.Counting.{count-within}
 use Rattle.border_theory.proofs.Records.Clearing.{cleared-to}

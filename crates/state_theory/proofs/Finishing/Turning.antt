@@ -4,7 +4,7 @@ use Prim.Native.Nat.{ℕ, zero, suc, _+_, _-_, _*_, _≤_, _<_}
 use native.Mathlib.Omega.{arith}
 use native.Mathlib.Numerals.{unary-clauses}
 use mathlib.Core.Bool.{Bool, true, false}
-use mathlib.Core.List.{List, _∷_}
+use mathlib.Core.List.{List, [], _∷_}
 use mathlib.Core.Path.{_≡_, refl, sym, ap, ap₂, _∙_, subst}
 use lib.ListN.{length, getD, set, replicate, length-set, length-replicate, getD-replicate}
 use lib.Seq.{getD-set-same, getD-set-other}
@@ -17,9 +17,14 @@ use Rattle.rules.specs.Fan.{about, Taken, no-edge, taken, keep, leaving, enteri
 use Rattle.rules.specs.View.{trianglesBuilt}
 use Rattle.mesh_theory.proofs.Fans.Turning.{Turn, onward, backward}
 use Rattle.mesh_theory.specs.Chains.Corner.{triangleAt}
-use Rattle.state_theory.specs.Finishing.Turning.{edgeAt, listed, kept, isLeft, latestLeft, turned, allTaken, Adds, Spacious, Holds}
+use Rattle.state_theory.specs.Finishing.Turning.{edgeAt, listed, isLeft, latestLeft, turned, allTaken, Adds, Spacious, Holds}
 
 -- ---- the list in the arrays
+
+-- those of the first n edges that are not taken, the latest first
+unfoldable kept : List ℕ → List ℕ → List ℕ → ℕ → List Edge
+kept fs ts gs zero = []
+kept fs ts gs (suc n) = elim (eqb (getD gs n 0) 0) [ true ↦ edgeAt fs ts n ∷ kept fs ts gs n | false ↦ kept fs ts gs n ]
 
 kept-yes : (fs ts gs : List ℕ) (n : ℕ) → getD gs n 0 ≡ 0 → kept fs ts gs (suc n) ≡ edgeAt fs ts n ∷ kept fs ts gs n
 unfolding kept

@@ -14,9 +14,13 @@ use Rattle.rules.specs.Count.{same, occurs}
 use Rattle.rules.specs.Buffer.{freePlace}
 use Rattle.rules.specs.View.{placeAt}
 use Rattle.border_theory.specs.Records.Plain.{recordAt}
-use Rattle.border_theory.specs.Records.Notes.{linkedTo, freedTo, freedAll}
-use Rattle.state_theory.specs.Performing.Noted.{linkedPart, freedPart, toLink, toFree, writtenBack}
+use Rattle.border_theory.specs.Records.Notes.{linkedTo, freedTo, linkedAll, freedAll}
+use Rattle.state_theory.specs.Performing.Noted.{linkedPart, freedPart, toLink, toFree}
 use Rattle.counting.proofs.Counts.{same-yes, same-is}
+
+-- the list after the records that are noted are written back
+abbrev pub writtenBack : List ℕ → List Place → List Place
+writtenBack m ps = freedAll m (linkedAll m ps)
 
 -- the list with these records as the memory has them; and with these records free
 unfoldable pub linkedList : List ℕ → List ℕ → List Place → List Place

@@ -24,11 +24,11 @@ use Rattle.rules.specs.View.{placeAt, placesOf}
 use Rattle.rules.specs.Sound.{countsFit, apart, placesFit, loopsFit, linksFit, trianglesFit, sound, soundElse}
 use Rattle.rules.specs.Build.{viewed, operates, finishes, withTriangle, Leaves, OperatedBy}
 use Rattle.border_theory.specs.Links.Held.{placed}
-use Rattle.border_theory.specs.Records.Plain.{records, counted, memoryOf}
+use Rattle.border_theory.specs.Records.Plain.{records}
 use Rattle.border_theory.specs.Records.Notes.{linkedPlace, freedPlace, linkedTo, freedTo, Linkable, Freeable}
-use Rattle.state_theory.specs.Performing.Noted.{linkedPart, freedPart, toLink, toFree, writtenBack}
+use Rattle.state_theory.specs.Performing.Noted.{linkedPart, freedPart, toLink, toFree}
 use Rattle.border_theory.proofs.Records.Counting.{count-short}
-use Rattle.border_theory.proofs.Records.Reading.{memory-reads}
+use Rattle.border_theory.proofs.Records.Reading.{counted, memoryOf, memory-reads}
 use Rattle.border_theory.specs.Memory.Layout.{at}
 use Rattle.border_theory.proofs.Memory.Around.{either}
 use Rattle.state_theory.specs.Reading.Opens.{lent}
@@ -38,8 +38,8 @@ use Rattle.state_theory.proofs.Reading.Lifting.{loaded-sound, loaded-vi
 use Rattle.state_theory.proofs.Reading.Rings.{places-placed}
 use Rattle.promises.specs.Promises.{lentTo, Operating}
 use Rattle.state_theory.specs.Performing.Core.{ringsOf, Written, Accepts, Done, OperatesOn}
-use Rattle.state_theory.proofs.Performing.Back.{linkedList, freedList, back-is, length-linked, length-freed, freed-in, freed-out}
-use Rattle.state_theory.proofs.Performing.Back.{linked-in, linked-out}
+use Rattle.state_theory.proofs.Performing.Back.{writtenBack, linkedList, freedList, back-is, length-linked, length-freed, freed-in}
+use Rattle.state_theory.proofs.Performing.Back.{freed-out, linked-in, linked-out}
 use Rattle.counting.proofs.Bools.{and-left, and-right}
 use Rattle.counting.proofs.Counts.{same-yes, same-is}
 use Rattle.promises.proofs.Kept.{sound-links}

@@ -12,6 +12,8 @@ use Rattle.rules.specs.declared.Counts.{Counts}
 use Rattle.rules.specs.declared.Operation.{Operation}
 use Rattle.rules.specs.declared.Place.{Place}
 use Rattle.rules.specs.declared.Builder.{Builder}
+use Rattle.rules.specs.declared.Triangle.{Triangle}
+use Rattle.rules.specs.declared.Operated.the-variants as O
 use Rattle.rules.specs.declared.Performed.{Performed}
 use Rattle.rules.specs.Limits.{maxPlaces, maxLoops, inRange}
 use Rattle.rules.specs.Check.{allBelow}
@@ -47,7 +49,7 @@ use Rattle.state_theory.specs.Reading.Closing.{builderOf}
 use Rattle.state_theory.proofs.Reading.Records.{all-alike}
 use Rattle.state_theory.proofs.Reading.Closing.{closes}
 use Rattle.state_theory.proofs.Reading.Sound.{closes-sound}
-use Rattle.state_theory.specs.Performing.Core.{Written, Accepts, Done, OperatesOn, Open, refusedWith, builtWith, markedWith, MarkedIn}
+use Rattle.state_theory.specs.Performing.Core.{Written, Accepts, Done, OperatesOn, Open, refusedWith, markedWith, MarkedIn}
 use Rattle.state_theory.proofs.Performing.Sound.{parts, sound-ranges, sound-below, sound-current}
 use Rattle.state_theory.proofs.Performing.Writing.{written-next, below-more, written-below}
 use Rattle.counting.proofs.Triangles.{written-long}
@@ -67,6 +69,10 @@ use Rattle.state_theory.proofs.Performing.Leaving.{unused, rings-are, s
 use Rattle.counting.proofs.Bools.{and-left}
 use Rattle.book.proofs.Bounds.{within-each}
 use Rattle.promises.proofs.Kept.{built-long}
+
+-- what is answered and given back where a triangle is built
+abbrev pub builtWith : Builder → Triangle → Performed
+builtWith b t = record { state = b; answer = O.Built t }
 
 -- a refusal
 refuses : (b : Builder) (o : Operation) (xs m : List ℕ) (n : ℕ) (m′ : List ℕ) (k : ℕ) → operates b (lent xs n m) o ≡ refused k

@@ -18,7 +18,8 @@ use Rattle.rules.specs.View.{placeAt, follow, followed, nodes, placeNodes, plac
 use Rattle.rules.specs.Sound.{sizesOf, apart, placesFit, loopsFit, linksFit}
 use Rattle.book.specs.Consistent.{AllCurrent}
 use Rattle.book.specs.Numbers.{LoopsBelow}
-use Rattle.border_theory.specs.Links.Held.{Apart, namedLoops}
+use Rattle.border_theory.specs.Links.Held.{namedLoops}
+use Rattle.border_theory.proofs.Links.Relink.{Apart}
 use Rattle.border_theory.proofs.Links.Named.{named-lives}
 use Rattle.border_theory.specs.Records.Plain.{records}
 use Rattle.cutborder.specs.declared.Loops.{Loops}
@@ -28,11 +29,31 @@ use Rattle.border_theory.specs.Memory.Stands.{ringsIn, Waits, Named, StandsAt}
 use Rattle.border_theory.specs.Memory.Keeps.{Keeps}
 use Rattle.border_theory.proofs.Memory.Standing.{Trail, Trails, apart as stands-apart, trails, rings-read}
 use Rattle.state_theory.proofs.Reading.Walked.{ringPlaces, ringsPlaces}
-use Rattle.state_theory.specs.Reading.Closing.{waitingRow, liveRow, waitingAt, builderOf, Closes}
+use Rattle.state_theory.specs.Reading.Closing.{waitingRow, liveRow, waitingAt, builderOf}
 use Rattle.state_theory.proofs.Reading.Rings.{trail-nodes}
 use Rattle.state_theory.proofs.Reading.Trails.{follow-trail, nodes-trail, loop-fits, rings-apart, rings-below, rings-fit}
 use Rattle.counting.proofs.Bools.{and-both}
 use Rattle.border_theory.proofs.Memory.Counts.{places-named}
+
+-- the builder's state b and the records of m are read as the machine M, and their links pass 21; its counts are those of f
+pub record Closes (f : Front) (m xs : List ℕ) (M : Machine) (b : Builder) : Type 0 where
+  pub machine : view b xs (records maxPlaces m) ≡ M
+  pub links : linksFit b (records maxPlaces m) ≡ true
+  -- each place has the record that it has in the memory
+  pub rings : placeRings b (records maxPlaces m) (b .live) ≡ ringsIn maxPlaces (f .loops) m
+  -- past the live loops both arrays are zero
+  pub currents-past : drop (b .live) (b .current) ≡ replicate (maxLoops - b .live) 0
+  pub sizes-past : drop (b .live) (b .sizes) ≡ replicate (maxLoops - b .live) 0
+  pub places : sizesOf b (b .live) ≡ places (M .loops)
+  pub live : b .live ≡ length (M .loops)
+  pub stated : b .stated ≡ f .stated
+  pub used : b .used ≡ f .used
+  pub built : b .built ≡ f .built
+  pub peaks : b .peaks ≡ f .peaks
+  pub edges : b .edges ≡ f .edges
+  pub starts : b .starts ≡ f .starts
+  pub unions : b .unions ≡ f .unions
+  pub rims : b .rims ≡ f .rims
 
 -- the rows: the waiting loops' numbers, and the current one's
 module _ (m : List ℕ) (a : ℕ) where

@@ -10,7 +10,8 @@ use lib.Seq.{getD-set-other}
 use Rattle.rules.specs.declared.Place.{Place}
 use Rattle.rules.specs.Limits.{maxPlaces}
 use Rattle.rules.specs.View.{placeAt}
-use Rattle.border_theory.specs.Records.Plain.{memorySize, numberOf, storedAt, loaded, blank, counted, memoryOf}
+use Rattle.border_theory.specs.Records.Plain.{memorySize, numberOf, storedAt, loaded, blank}
+use Rattle.border_theory.proofs.Records.Reading.{counted, memoryOf}
 use Rattle.border_theory.specs.Memory.Layout.{openOf}
 
 number-le : (t : Bool) → numberOf t ≤ 1

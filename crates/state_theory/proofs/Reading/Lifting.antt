@@ -16,9 +16,9 @@ use Rattle.rules.specs.Limits.{maxPlaces}
 use Rattle.rules.specs.Buffer.{freePlace, Buffers}
 use Rattle.rules.specs.View.{view}
 use Rattle.rules.specs.Sound.{linksFit, sound}
-use Rattle.border_theory.specs.Records.Plain.{records, counted, memoryOf}
+use Rattle.border_theory.specs.Records.Plain.{records}
 use Rattle.border_theory.proofs.Records.Counting.{count-short, count-long}
-use Rattle.border_theory.proofs.Records.Reading.{memory-reads}
+use Rattle.border_theory.proofs.Records.Reading.{counted, memoryOf, memory-reads}
 use Rattle.state_theory.specs.Reading.Opens.{lent}
 use Rattle.state_theory.proofs.Reading.Alike.{Alike, sound-alike, view-alike}
 use Rattle.promises.proofs.Kept.{sound-links}

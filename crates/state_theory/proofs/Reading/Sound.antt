@@ -19,7 +19,7 @@ use Rattle.border_theory.specs.Records.Plain.{records}
 use Rattle.border_theory.proofs.Records.Reading.{length-records}
 use Rattle.cutborder.specs.declared.Front.{Front}
 use Rattle.state_theory.specs.Reading.Opens.{lent}
-use Rattle.state_theory.specs.Reading.Closing.{Closes}
+use Rattle.state_theory.proofs.Reading.Closing.{Closes}
 use Rattle.counting.proofs.Bools.{and-left, and-right, and-both}
 use Rattle.promises.proofs.Kept.{built-long}
 

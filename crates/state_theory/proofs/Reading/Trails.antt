@@ -18,7 +18,8 @@ use Rattle.book.specs.Sums.{pathSum, ringSum, loopsSum}
 use Rattle.book.specs.Numbers.{NodesBelow, LoopsBelow}
 use Rattle.book.specs.Spaced.{Spaced}
 use Rattle.book.specs.Consistent.{AllCurrent}
-use Rattle.border_theory.specs.Links.Held.{nodeFrom, named, namedRing, namedLoops, placed, Apart}
+use Rattle.border_theory.specs.Links.Held.{nodeFrom, named, namedRing, namedLoops, placed}
+use Rattle.border_theory.proofs.Links.Relink.{Apart}
 use Rattle.border_theory.proofs.Links.Named.{named-vertex}
 use Rattle.border_theory.specs.Records.Plain.{isOne, records}
 use Rattle.border_theory.specs.Memory.Layout.{at, openOf, verticesOf}

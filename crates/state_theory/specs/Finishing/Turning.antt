@@ -22,11 +22,6 @@ unfoldable pub listed : List ℕ → List ℕ → ℕ → List Edge
 listed fs ts zero = []
 listed fs ts (suc n) = edgeAt fs ts n ∷ listed fs ts n
 
--- those of them that are not taken
-unfoldable pub kept : List ℕ → List ℕ → List ℕ → ℕ → List Edge
-kept fs ts gs zero = []
-kept fs ts gs (suc n) = elim (eqb (getD gs n 0) 0) [ true ↦ edgeAt fs ts n ∷ kept fs ts gs n | false ↦ kept fs ts gs n ]
-
 -- edge i is not taken, and its end in the array is x
 unfoldable pub isLeft : List ℕ → List ℕ → ℕ → ℕ → Bool
 isLeft es gs i x = elim (eqb (getD gs i 0) 0) [ true ↦ eqb (getD es i 0) x | false ↦ false ]

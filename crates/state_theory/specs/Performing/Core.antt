@@ -7,10 +7,9 @@ use mathlib.Core.Path.{_≡_}
 use lib.ListN.{drop, replicate}
 use Rattle.rules.specs.declared.Operation.{Operation}
 use Rattle.rules.specs.declared.Place.{Place}
-use Rattle.rules.specs.declared.Triangle.{Triangle}
 use Rattle.rules.specs.declared.Builder.{Builder}
 use Rattle.rules.specs.declared.Operation.the-variants.{Border}
-use Rattle.rules.specs.declared.Operated.the-variants.{Built, Marked, Refused}
+use Rattle.rules.specs.declared.Operated.the-variants.{Marked, Refused}
 use Rattle.rules.specs.declared.Performed.{Performed}
 use Rattle.rules.specs.Limits.{maxPlaces, maxLoops}
 use Rattle.rules.specs.Count.{occurs}
@@ -94,9 +93,6 @@ Open b xs m f = Passes b xs maxPlaces m f m
 -- what is answered and given back
 abbrev pub refusedWith : Builder → ℕ → Performed
 refusedWith b k = record { state = b; answer = Refused k }
-
-abbrev pub builtWith : Builder → Triangle → Performed
-builtWith b t = record { state = b; answer = Built t }
 
 abbrev pub markedWith : Builder → Performed
 markedWith b = record { state = b; answer = Marked }

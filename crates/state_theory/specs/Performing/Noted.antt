@@ -2,8 +2,7 @@
 -- Assumes nothing.
 use Prim.Native.Nat.{ℕ, zero, suc, _+_, _-_}
 use mathlib.Core.List.{List, [], _∷_}
-use Rattle.rules.specs.declared.Place.{Place}
-use Rattle.border_theory.specs.Records.Notes.{linkedCount, linkedPlace, freedStart, freedEnd, freedPlace, linkedAll, freedAll}
+use Rattle.border_theory.specs.Records.Notes.{linkedCount, linkedPlace, freedStart, freedEnd, freedPlace}
 
 -- the first k records to be linked, the latest first; and of the stack the k records from a on
 unfoldable pub linkedPart : List ℕ → ℕ → List ℕ
@@ -20,7 +19,3 @@ toLink m = linkedPart m (linkedCount m)
 
 abbrev pub toFree : List ℕ → List ℕ
 toFree m = freedPart m (freedStart m) (freedEnd m - freedStart m)
-
--- the list after they are written back
-abbrev pub writtenBack : List ℕ → List Place → List Place
-writtenBack m ps = freedAll m (linkedAll m ps)

@@ -2,8 +2,7 @@
 -- Assumes nothing.
 use mathlib.Core.Path.{sym, _∙_}
 use borrow.Author.Needs.{needs}
-use Rattle.pack_theory.specs.Packing.Steps.{Loop}
-use Rattle.pack_theory.proofs.Packing.Running.{loop-first, loop-done, loop-out, loop-stopped, loop-room, loop-on}
+use Rattle.pack_theory.proofs.Packing.Running.{Loop, loop-first, loop-done, loop-out, loop-stopped, loop-room, loop-on}
 use Rattle.packer.proofs.Wiring.{written-position, written-buffer}
 use Rattle.packer.proofs.step.run.Statement.{statement}
 use Rattle.packer.proofs.step.run.Tie as tie

@@ -1,3 +1,0 @@
--- What the contracts of this crate cite beside mesh_theory.
--- Assumes nothing.
-pub mod Joins
