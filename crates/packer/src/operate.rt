@@ -47,7 +47,8 @@ fn refusal_at(free: u16) -> u8
     10
 }
 
-// Does the operation o: 9 or 10, or the state after it.
+// Does the operation o: 9 or 10, or the state after it. It is decided as by `border::decide`, in two steps: handed over whole, the state
+// would be copied, and packing take a quarter longer.
 pub(crate) fn operate(m: &mut [u16], s: Front, o: Operation) -> Done
     requires { ⌜ Ready maxPlaces s (now m) ⌝ }
     ensures done { λ r. ⌜ r ≡ doneOf s (now (m .entry)) o ⌝ }

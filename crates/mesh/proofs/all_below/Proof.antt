@@ -35,11 +35,13 @@ loop-less c = omega arith
 loop-again : tie.Need-loop-again Inv-loop μ-loop
 loop-again c =
     let b = c .before .before in
-    let to = b .before .loop .inv .1 in
-    (search needs, elim (c .if1 .came) [
-      inl t ↦ below-not _ _ _ _ _ to _ refl (b .loop-test .taken) (t .0 .taken) (t .1)
-    | inr t ↦ below-more _ _ _ _ _ to _ refl (b .loop-test .taken) (t .0 .left) (t .1)
-    ])
+    let to = b .before .loop .inv .1 in (
+      search needs,
+      elim (c .if1 .came) [
+        | inl t ↦ below-not _ _ _ _ _ to _ refl (b .loop-test .taken) (t .0 .taken) (t .1)
+        | inr t ↦ below-more _ _ _ _ _ to _ refl (b .loop-test .taken) (t .0 .left) (t .1)
+      ],
+    )
 
 returns : tie.Need-returns Inv-loop μ-loop
 returns c = below-all _ _ _ _ (c .before .loop .inv .1) (c .loop-test .left)
