@@ -3,7 +3,9 @@
 // gets a line on standard error and nothing else; a write that fails gets such a line too.
 use libc::STDIN_FILENO;
 use rules::Builder;
+use rules::CORNERS;
 use rules::Packed;
+use rules::VERTICES;
 use text::show::print_refusal;
 use text::streams::Output;
 use text::streams::Read;
@@ -18,7 +20,7 @@ const PART: usize = 65536;
 const PARTS: usize = 256;
 
 // V, the most numbers of a list, and one more to tell a longer list.
-const NUMBERS: usize = 24578;
+const NUMBERS: usize = CORNERS + 2;
 
 // More bytes than any pack has.
 const BUFFER: usize = 65550;
@@ -236,7 +238,7 @@ fn run(part: &mut [u8], numbers: &mut [u16], numbering: &mut [u16], buffer: &mut
 fn main() {
     let mut part = [0u8; PART];
     let mut numbers = [0u16; NUMBERS];
-    let mut numbering = [0u16; 4096];
+    let mut numbering = [0u16; VERTICES];
     let mut buffer = [0u8; BUFFER];
     run(&mut part, &mut numbers, &mut numbering, &mut buffer).end(b"pack");
 }

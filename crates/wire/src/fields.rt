@@ -3,6 +3,8 @@
 use crate::wide;
 use rules::Builder;
 use rules::Counts;
+use rules::TRIANGLES;
+use rules::VERTICES;
 ghost use mathlib.Core.Path.{_≡_};
 ghost use Prim.Native.Nat.{_+_, _/_, _%_, _<_, _≤_};
 ghost use lib.Dec.{leb};
@@ -84,10 +86,10 @@ fn is_between(low: u16, n: u16, high: u16) -> bool
 pub fn is_in_range(counts: Counts) -> bool
     ensures { λ r. ⌜ r ≡ inRange counts ⌝ }
 {
-    if !is_between(3, counts.vertices, 4096) {
+    if !is_between(3, counts.vertices, VERTICES as u16) {
         return false;
     }
-    if !is_between(1, counts.triangles, 8192) {
+    if !is_between(1, counts.triangles, TRIANGLES as u16) {
         return false;
     }
     if !is_between(3, counts.places, Builder::MAX_PLACES as u16) {

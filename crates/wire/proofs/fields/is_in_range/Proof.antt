@@ -7,11 +7,17 @@ use Rattle.wire.proofs.Contents.{out-first, out-second, out-third, by-f
 use Rattle.wire.proofs.fields.is_in_range.Statement.{statement}
 use Rattle.wire.proofs.fields.is_in_range.Tie as tie
 
+cast-is-between : tie.Need-cast-is-between
+cast-is-between c = search needs
+
 is-between-requires : tie.Need-is-between-requires
 is-between-requires c κs = tt
 
 returns : tie.Need-returns
 returns c = out-first _ _ _ _ (sym (c .before .is-between .ensures) ∙ not-true _ (c .if1 .taken))
+
+cast-is-between-2 : tie.Need-cast-is-between-2
+cast-is-between-2 c = search needs
 
 is-between-requires-2 : tie.Need-is-between-requires-2
 is-between-requires-2 c κs = tt
@@ -22,8 +28,8 @@ returns-2 c =
     out-second _ _ _ _ (sym (k .before .is-between .ensures) ∙ not-false _ (k .if1 .left))
     (sym (c .before .is-between2 .ensures) ∙ not-true _ (c .if2 .taken))
 
-cast-is-between : tie.Need-cast-is-between
-cast-is-between c = search needs
+cast-is-between-3 : tie.Need-cast-is-between-3
+cast-is-between-3 c = search needs
 
 is-between-requires-3 : tie.Need-is-between-requires-3
 is-between-requires-3 c κs = tt
@@ -36,8 +42,8 @@ returns-3 c =
     (sym (k .before .is-between2 .ensures) ∙ not-false _ (k .if2 .left))
     (sym (c .before .is-between3 .ensures) ∙ not-true _ (c .if3 .taken))
 
-cast-is-between-2 : tie.Need-cast-is-between-2
-cast-is-between-2 c = search needs
+cast-is-between-4 : tie.Need-cast-is-between-4
+cast-is-between-4 c = search needs
 
 is-between-requires-4 : tie.Need-is-between-requires-4
 is-between-requires-4 c κs = tt
@@ -56,13 +62,15 @@ pub is-in-range-spec : {M : Type 1} → statement M
 is-in-range-spec =
     tie.close
     (tie.spec
+    cast-is-between
     is-between-requires
     returns
+    cast-is-between-2
     is-between-requires-2
     returns-2
-    cast-is-between
+    cast-is-between-3
     is-between-requires-3
     returns-3
-    cast-is-between-2
+    cast-is-between-4
     is-between-requires-4
     returns-4)
