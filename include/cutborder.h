@@ -1,7 +1,8 @@
 /* The service's calls for C: checking, packing and unpacking triangle lists, and building them one operation at a time.
  *
  * Each call returns 0 for acceptance or the number of the refusal, 1 to 21 (docs/FORMAT.md, Refusals). A refusal leaves the
- * memory for results as it was, and changes a buffer only where a rule says so. Nothing is kept between two calls, and no memory is allocated.
+ * memory for results as it was, and changes a buffer only where a rule says so. Nothing is kept between two calls, and no
+ * memory is allocated.
  *
  * What a caller owes: each pointer leads to as many entries as are stated, no two of them overlap, and nobody else writes them
  * meanwhile. All of it holds values of its type: the `open` of a record is 0 or 1, so memory from malloc is cleared first. A
@@ -37,7 +38,16 @@ struct cutborder_builder {
 };
 
 /* The operations' codes; split has the index j, union p and j. */
-enum { CUTBORDER_NEW, CUTBORDER_FORWARD, CUTBORDER_BACKWARD, CUTBORDER_BORDER, CUTBORDER_SPLIT, CUTBORDER_CLOSE, CUTBORDER_UNION, CUTBORDER_START };
+enum {
+    CUTBORDER_NEW,
+    CUTBORDER_FORWARD,
+    CUTBORDER_BACKWARD,
+    CUTBORDER_BORDER,
+    CUTBORDER_SPLIT,
+    CUTBORDER_CLOSE,
+    CUTBORDER_UNION,
+    CUTBORDER_START
+};
 
 /* 1 to 7: a list of a model of v vertices, three numbers a triangle. */
 uint32_t cutborder_check(size_t v, const uint16_t *list, size_t entries);

@@ -74,7 +74,8 @@ def main():
             bend = (y2 - y1) // 2
             out.append(f'<path d="M{x1} {y1} C{x1} {y1 + bend} {x2} {y2 - bend} {x2} {y2}" fill="none" stroke="#888" stroke-width="1"/>')
     for n in uses:
-        out.append(f'<rect x="{x[n] - WIDTH // 2}" y="{y[n]}" width="{WIDTH}" height="{HEIGHT}" rx="4" fill="{COLOURS[parts[n]]}" stroke="#555"/>')
+        out.append(f'<rect x="{x[n] - WIDTH // 2}" y="{y[n]}" width="{WIDTH}" height="{HEIGHT}" rx="4"'
+                   f' fill="{COLOURS[parts[n]]}" stroke="#555"/>')
         out.append(f'<text x="{x[n]}" y="{y[n] + 20}" text-anchor="middle">{n}</text>')
     for i, (part, colour) in enumerate(COLOURS.items()):
         at = MARGIN + i * 130

@@ -1,4 +1,4 @@
--- Demand 3 of the three building calls, to be held against the rules' part on the builder's book. proofs/Building.antt proves it.
+-- Demand 3 of the three building calls, to be held against the rules' part on the builder's book. proofs/BuildersBook.antt proves it.
 -- Assumes nothing.
 use Prim.Native.Nat.{ℕ, _*_, _≤_, _<_}
 use mathlib.Core.Bool.{true}

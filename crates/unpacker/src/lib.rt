@@ -1,5 +1,5 @@
-// Unpacking: a pack's operations are run on the cut-border, and the model is tested. What the contracts cite stands in the crate
-// unpacking.
+// Unpacking: a pack's operations are run on the cut-border, and the model is tested. What the contracts cite stands in
+// unpack_theory/specs/.
 mod tidy; // what the triangle buffer is left with
 mod common; // deciding and doing, new and forward at hand
 mod conclude; // 19, 20, and the answer

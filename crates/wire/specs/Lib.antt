@@ -1,4 +1,5 @@
 -- What the contracts of this crate cite beside rules and wire_theory.
+-- Interface: Fields and Writer, which packer cites, Fields and Reader, which unpacker cites.
 -- Assumes nothing.
 pub mod Fields
 pub mod Reader

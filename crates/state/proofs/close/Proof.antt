@@ -1,4 +1,4 @@
--- `closer::close` meets its contract.
+-- `state::close` meets its contract.
 -- Assumes nothing.
 use Rattle.state.proofs.Rows.{closed}
 use borrow.Author.Needs.{needs}

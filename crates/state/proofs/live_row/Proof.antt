@@ -1,4 +1,4 @@
--- `closer::live_row` meets its contract.
+-- `state::live_row` meets its contract.
 -- Assumes nothing.
 use Rattle.state.proofs.Rows.{live-none, live-some}
 use borrow.Author.Needs.{needs}

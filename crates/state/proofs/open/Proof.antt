@@ -1,4 +1,4 @@
--- `opener::open` meets its contract: the tests in their order, and what is made of a state that passes.
+-- `state::open` meets its contract: the tests in their order, and what is made of a state that passes.
 -- Assumes nothing.
 use borrow.Author.Needs.{needs}
 use Prim.Native.Nat.{ℕ, _≤_}

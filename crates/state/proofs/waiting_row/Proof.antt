@@ -1,4 +1,4 @@
--- `closer::waiting_row` meets its contract.
+-- `state::waiting_row` meets its contract.
 -- Assumes nothing.
 use Prim.Native.Nat.{_-_}
 use Rattle.state.proofs.Rows.{Copies, copies-start, copies-more, copies-done}

@@ -1,4 +1,4 @@
--- `calls::begin::begin_on` meets its contract: 13, 14, or the builder that holds nothing.
+-- `builder::begin::begin_on` meets its contract: 13, 14, or the builder that holds nothing.
 -- Assumes nothing.
 use borrow.Author.Needs.{needs}
 use Rattle.state_theory.proofs.Finishing.Beginning.{begins-range, begins-triangles, begins-places, begins-done}

@@ -1,4 +1,4 @@
--- `calls::begin::begun` meets its contract: the empty builder with the counts.
+-- `builder::begin::begun` meets its contract: the empty builder with the counts.
 -- Assumes nothing.
 use borrow.Author.Needs.{needs}
 use Rattle.state_theory.proofs.Finishing.Beginning.{begun-is}

@@ -1,4 +1,4 @@
--- `calls::begin::cleared` meets its contract: an accepted beginning clears all, a refused one none.
+-- `builder::begin::cleared` meets its contract: an accepted beginning clears all, a refused one none.
 -- Assumes nothing.
 use borrow.Author.Needs.{needs}
 use Rattle.state_theory.proofs.Finishing.Beginning.{cleared-none, cleared-all}

@@ -1,4 +1,4 @@
--- `calls::begin::refused` meets its contract: the empty builder and the number.
+-- `builder::begin::refused` meets its contract: the empty builder and the number.
 -- Assumes nothing.
 use borrow.Author.Needs.{needs}
 use Rattle.state_theory.proofs.Finishing.Beginning.{refused-is}

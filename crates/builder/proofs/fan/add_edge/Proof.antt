@@ -1,4 +1,4 @@
--- `calls::fan::add_edge` meets its contract: the corners in their order.
+-- `builder::fan::add_edge` meets its contract: the corners in their order.
 -- Assumes nothing.
 use borrow.Author.Needs.{needs}
 use Rattle.state_theory.proofs.Finishing.Turning.{adds-p, adds-q, adds-r, adds-none}

@@ -1,4 +1,4 @@
--- `calls::fan::all_runs` meets its contract.
+-- `builder::fan::all_runs` meets its contract.
 -- The loop's invariant: the vertices from u on have one fan each. The measure is u.
 -- Assumes nothing.
 use Prim.Native.Nat.{_≤_}

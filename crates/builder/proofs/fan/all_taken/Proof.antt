@@ -1,4 +1,4 @@
--- `calls::fan::all_taken` meets its contract.
+-- `builder::fan::all_taken` meets its contract.
 -- The loop's invariant: the edges from i on are taken. The measure is i.
 -- Assumes nothing.
 use Prim.Native.Nat.{_≤_}

@@ -1,4 +1,4 @@
--- `calls::fan::collect` meets its contract.
+-- `builder::fan::collect` meets its contract.
 -- The loop's invariant: the edges of the first t triangles are collected. The measure is what is left of n.
 -- Assumes nothing.
 use Prim.Native.Nat.{_≤_, _-_}

@@ -1,4 +1,4 @@
--- `calls::fan::is_left` meets its contract: the mark, and then the end.
+-- `builder::fan::is_left` meets its contract: the mark, and then the end.
 -- Assumes nothing.
 use borrow.Author.Needs.{needs}
 use Rattle.state_theory.proofs.Finishing.Turning.{left-no, left-is}

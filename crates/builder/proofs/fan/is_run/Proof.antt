@@ -1,4 +1,4 @@
--- `calls::fan::is_run` meets its contract: no triangle about v, or the latest and the turn from it both ways.
+-- `builder::fan::is_run` meets its contract: no triangle about v, or the latest and the turn from it both ways.
 -- Assumes nothing.
 use Prim.Native.Nat.{_-_}
 use native.Mathlib.Omega.{arith}

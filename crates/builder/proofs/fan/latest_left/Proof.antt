@@ -1,4 +1,4 @@
--- `calls::fan::latest_left` meets its contract.
+-- `builder::fan::latest_left` meets its contract.
 -- The loop's invariant: none of the edges from i on is the one. The measure is i.
 -- Assumes nothing.
 use Prim.Native.Nat.{_≤_}

@@ -1,4 +1,4 @@
--- `calls::fan::one_fan_each` meets its contract: the list is accepted, or only 7 refuses it, or the fans are turned through.
+-- `builder::fan::one_fan_each` meets its contract: the list is accepted, or only 7 refuses it, or the fans are turned through.
 -- Assumes nothing.
 use mathlib.Core.Path.{sym}
 use lib.Seq.{length-take-le}

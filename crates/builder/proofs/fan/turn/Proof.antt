@@ -1,4 +1,4 @@
--- `calls::fan::turn` meets its contract.
+-- `builder::fan::turn` meets its contract.
 -- The loop's invariant: turning on from here leaves the marks that the whole turn leaves. The measure is what is left.
 -- Assumes nothing.
 use Prim.Native.Nat.{_≤_}

@@ -1,4 +1,4 @@
--- `calls::finish::finish_front` meets its contract: 15, 19, 20 in their order, and the four numbers.
+-- `builder::finish::finish_front` meets its contract: 15, 19, 20 in their order, and the four numbers.
 -- Assumes nothing.
 use borrow.Author.Needs.{needs}
 use Rattle.state_theory.proofs.Finishing.Finish.{front-15, front-19, front-20, front-done}

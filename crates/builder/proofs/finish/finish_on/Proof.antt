@@ -1,4 +1,4 @@
--- `calls::finish::finish_on` meets its contract: 21, or the finish of the core's state.
+-- `builder::finish::finish_on` meets its contract: 21, or the finish of the core's state.
 -- Assumes nothing.
 use borrow.Author.Needs.{needs}
 use Rattle.state_theory.proofs.Finishing.Finish.{failed-on, passed-fits, passed-on}

@@ -1,4 +1,4 @@
--- `calls::operation::build_triangle` meets its contract: 18 leaves all as it was; else buffer and memory hold the triangle.
+-- `builder::operation::build_triangle` meets its contract: 18 leaves all as it was; else buffer and memory hold the triangle.
 -- Assumes nothing.
 use Prim.Native.Nat.{_≤_}
 use native.Mathlib.Omega.{arith}

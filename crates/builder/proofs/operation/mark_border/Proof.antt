@@ -1,4 +1,4 @@
--- `calls::operation::mark_border` meets its contract: the edge is marked, the state is given back, and what that touched is noted.
+-- `builder::operation::mark_border` meets its contract: the edge is marked, the state is given back, and what that touched is noted.
 -- Assumes nothing.
 use Prim.Native.Nat.{_≤_}
 use mathlib.Core.Path.{sym, subst}

@@ -1,4 +1,4 @@
--- `calls::operation::operate` meets its contract: what is decided is what the machine does.
+-- `builder::operation::operate` meets its contract: what is decided is what the machine does.
 -- Assumes nothing.
 use Prim.Native.Nat.{_≤_}
 use mathlib.Core.Path.{sym, _∙_}

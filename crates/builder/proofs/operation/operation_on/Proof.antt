@@ -1,4 +1,4 @@
--- `calls::operation::operation_on` meets its contract: 21, or the operation on the state that has passed it.
+-- `builder::operation::operation_on` meets its contract: 21, or the operation on the state that has passed it.
 -- Assumes nothing.
 use Rattle.state_theory.proofs.Performing.Operating.{opens-failed, opens-passed, opened, from-open}
 use borrow.Author.Needs.{needs}

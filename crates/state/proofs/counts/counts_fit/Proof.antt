@@ -1,4 +1,4 @@
--- `opener::counts::counts_fit` meets its contract: the seven tests in their order.
+-- `state::counts::counts_fit` meets its contract: the seven tests in their order.
 -- Assumes nothing.
 use borrow.Author.Needs.{needs}
 use mathlib.Core.Path.{sym, _∙_}

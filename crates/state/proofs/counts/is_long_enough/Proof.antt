@@ -1,4 +1,4 @@
--- `opener::counts::is_long_enough` meets its contract: the two tests in their order.
+-- `state::counts::is_long_enough` meets its contract: the two tests in their order.
 -- Assumes nothing.
 use borrow.Author.Needs.{needs}
 use mathlib.Core.Path.{sym}

@@ -1,4 +1,4 @@
--- `opener::counts::numbers_fit` meets its contract: the four tests in their order.
+-- `state::counts::numbers_fit` meets its contract: the four tests in their order.
 -- Assumes nothing.
 use borrow.Author.Needs.{needs}
 use borrow.Author.Tests.{not-true, not-false}

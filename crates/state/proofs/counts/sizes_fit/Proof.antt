@@ -1,4 +1,4 @@
--- `opener::counts::sizes_fit` meets its contract.
+-- `state::counts::sizes_fit` meets its contract.
 -- The loop's invariant: the first w loops have at most what is left of the places.
 -- Assumes nothing.
 use borrow.Author.Needs.{needs}

@@ -1,4 +1,4 @@
--- `opener::counts::sums_fit` meets its contract: the four tests in their order.
+-- `state::counts::sums_fit` meets its contract: the four tests in their order.
 -- Assumes nothing.
 use borrow.Author.Needs.{needs}
 use Rattle.state_theory.proofs.Opening.Tests.{many-edges, many-starts, many-unions, by-rims}

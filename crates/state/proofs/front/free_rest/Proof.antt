@@ -1,4 +1,4 @@
--- `opener::front::free_rest` meets its contract.
+-- `state::front::free_rest` meets its contract.
 -- The loop's invariant: of the places below i those that are not marked are on the stack.
 -- Assumes nothing.
 use borrow.Author.Needs.{needs}

@@ -1,4 +1,4 @@
--- `opener::front::front_of` meets its contract.
+-- `state::front::front_of` meets its contract.
 -- Assumes nothing.
 use borrow.Author.Needs.{needs}
 use Rattle.state_theory.proofs.Opening.Writing.{front-is}

@@ -1,4 +1,4 @@
--- `opener::front::unmarked` meets its contract.
+-- `state::front::unmarked` meets its contract.
 -- Assumes nothing.
 use borrow.Author.Needs.{needs}
 use mathlib.Core.Path.{sym, ap}

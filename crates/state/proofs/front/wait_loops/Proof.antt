@@ -1,4 +1,4 @@
--- `opener::front::wait_loops` meets its contract.
+-- `state::front::wait_loops` meets its contract.
 -- The loop's invariant: the first w loops wait.
 -- Assumes nothing.
 use borrow.Author.Needs.{needs}

@@ -1,4 +1,4 @@
--- `opener::marks::mark_loop` meets its contract: the tests in their order, and the walk.
+-- `state::marks::mark_loop` meets its contract: the tests in their order, and the walk.
 -- Assumes nothing.
 use borrow.Author.Needs.{needs}
 use borrow.Author.Tests.{not-true, not-false}

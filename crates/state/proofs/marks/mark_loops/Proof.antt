@@ -1,4 +1,4 @@
--- `opener::marks::mark_loops` meets its contract.
+-- `state::marks::mark_loops` meets its contract.
 -- The loop's invariant: the loops that are left are marked as all are.
 -- Assumes nothing.
 use borrow.Author.Needs.{needs}

@@ -1,4 +1,4 @@
--- `opener::marks::mark_place` meets its contract: the three tests in their order.
+-- `state::marks::mark_place` meets its contract: the three tests in their order.
 -- Assumes nothing.
 use borrow.Author.Needs.{needs}
 use borrow.Author.Tests.{not-true, not-false}

@@ -1,4 +1,4 @@
--- `opener::marks::mark_walk` meets its contract.
+-- `state::marks::mark_walk` meets its contract.
 -- The loop's invariant: the places that are left are marked and return as all do.
 -- Assumes nothing.
 use borrow.Author.Needs.{needs}

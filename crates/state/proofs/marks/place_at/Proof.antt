@@ -1,4 +1,4 @@
--- `opener::marks::place_at` meets its contract: a record, or none.
+-- `state::marks::place_at` meets its contract: a record, or none.
 -- Assumes nothing.
 use borrow.Author.Needs.{needs}
 use Rattle.state_theory.proofs.Reading.Records.{place-none}

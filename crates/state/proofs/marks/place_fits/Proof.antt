@@ -1,4 +1,4 @@
--- `opener::marks::place_fits` meets its contract: the tests in their order.
+-- `state::marks::place_fits` meets its contract: the tests in their order.
 -- Assumes nothing.
 use borrow.Author.Needs.{needs}
 use Rattle.rules.specs.Limits.{maxPlaces}
