@@ -15,7 +15,10 @@ pub const PLACES: usize = Builder::MAX_PLACES;
 // where to where the stack holds those that it freed.
 pub const RECORDS: usize = 4 * PLACES;
 
-pub const CORE: usize = RECORDS + PLACES + 2 * Builder::MAX_LOOPS;
+// The waiting loops' numbers stand from here on, the oldest loop's first: where its current edge starts, and how many places it has.
+pub const WAITING: usize = RECORDS + PLACES;
+
+pub const CORE: usize = WAITING + 2 * Builder::MAX_LOOPS;
 
 pub const LINKED: usize = CORE;
 

@@ -3,6 +3,8 @@ use crate::marks::Flags;
 use cutborder::Front;
 use cutborder::Loops;
 use cutborder::PLACES;
+use cutborder::RECORDS;
+use cutborder::WAITING;
 use rules::Builder;
 ghost use mathlib.Core.Path.{_≡_};
 ghost use Prim.Native.Nat.{_≤_};
@@ -28,7 +30,7 @@ pub(crate) fn free_rest(flags: &Flags, m: &mut [u16]) -> u16
     let mut free = 0;
     let mut i = 0;
     while i < PLACES {
-        m[4 * PLACES + free] = i as u16;
+        m[RECORDS + free] = i as u16;
         free += unmarked(flags[i]);
         i += 1;
     }
@@ -43,7 +45,7 @@ pub(crate) fn wait_loops(b: Builder, m: &mut [u16])
     let n = b.live as usize;
     let mut w = 0;
     while w < n {
-        let at = 5 * PLACES + 2 * w;
+        let at = WAITING + 2 * w;
         m[at] = b.current[w];
         m[at + 1] = b.sizes[w];
         w += 1;

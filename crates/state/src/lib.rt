@@ -14,12 +14,13 @@ use cutborder::Front;
 use cutborder::Memory;
 use cutborder::Opened;
 use cutborder::PLACES;
+use cutborder::WAITING;
 use rules::Builder;
-ghost use Prim.Native.Nat.{ℕ, _≤_, _<_};
+ghost use Prim.Native.Nat.{ℕ, _+_, _≤_, _<_};
 ghost use mathlib.Core.Path.{_≡_};
 ghost use Rattle.rules.specs.Limits.{maxLoops, maxPlaces};
 ghost use Rattle.border_theory.specs.Memory.Layout.{openOf};
-ghost use Rattle.state_theory.specs.Reading.Closing.{waitingRow, liveRow, builderOf};
+ghost use Rattle.state_theory.specs.Reading.Closing.{waitingAt, waitingRow, liveRow, builderOf};
 ghost use Rattle.state_theory.specs.Reading.Opens.{Opens};
 
 // Tests 21 on a state, a triangle buffer and the n place records that m has. Of a state that passes it makes the core's, and writes
@@ -40,13 +41,9 @@ pub fn open(b: Builder, triangles: &[u16], m: &mut Memory, n: usize) -> Opened
     Opened::Passed(front_of(b, free))
 }
 
-// The waiting loops' numbers stand from here on, two each, the oldest loop's first: where its current edge starts, and how
-// many places it has.
-const WAITING: usize = 5 * PLACES;
-
 // A number of each of the first k waiting loops, the first loop's at a.
 fn waiting_row(m: &Memory, a: usize, k: usize) -> [u16; Builder::MAX_LOOPS]
-    requires { ⌜ (a ≤ 5121) × (k ≤ maxLoops) ⌝ }
+    requires { ⌜ (a ≤ waitingAt + 1) × (k ≤ maxLoops) ⌝ }
     ensures { λ r. ⌜ r ≡ waitingRow (now (m .entry)) a k ⌝ }
 {
     let mut row = [0u16; Builder::MAX_LOOPS];
@@ -60,7 +57,7 @@ fn waiting_row(m: &Memory, a: usize, k: usize) -> [u16; Builder::MAX_LOOPS]
 
 // The same of all live loops: the current one, whose number is x, comes last.
 fn live_row(m: &Memory, a: usize, live: u16, x: u16) -> [u16; Builder::MAX_LOOPS]
-    requires { ⌜ (a ≤ 5121) × (live ≤ maxLoops) ⌝ }
+    requires { ⌜ (a ≤ waitingAt + 1) × (live ≤ maxLoops) ⌝ }
     ensures { λ r. ⌜ r ≡ liveRow (now (m .entry)) a live x ⌝ }
 {
     if live == 0 {

@@ -20,14 +20,11 @@ loop-holds c = (search needs, freed-none _ _)
 cast-m : tie.Need-cast-m Inv-loop μ-loop
 cast-m c = search needs
 
-mul-m : tie.Need-mul-m Inv-loop μ-loop
-mul-m c = search needs
-
 add-m : tie.Need-add-m Inv-loop μ-loop
 add-m c = search needs
 
-mul-m-2 : tie.Need-mul-m-2 Inv-loop μ-loop
-mul-m-2 c = search needs
+mul-m : tie.Need-mul-m Inv-loop μ-loop
+mul-m c = search needs
 
 slice-write-m : tie.Need-slice-write-m Inv-loop μ-loop
 slice-write-m c = search needs
@@ -70,9 +67,8 @@ free-rest-spec =
     μ-loop
     loop-holds
     cast-m
-    mul-m
     add-m
-    mul-m-2
+    mul-m
     slice-write-m
     element-copy-out-unmarked
     unmarked-requires

@@ -25,9 +25,6 @@ loop-holds c = (search needs, waited-none _ _)
 mul-at : tie.Need-mul-at Inv-loop μ-loop
 mul-at c = search needs
 
-mul-at-2 : tie.Need-mul-at-2 Inv-loop μ-loop
-mul-at-2 c = search needs
-
 add-at : tie.Need-add-at Inv-loop μ-loop
 add-at c = search needs
 
@@ -86,7 +83,6 @@ wait-loops-spec =
     cast-n
     loop-holds
     mul-at
-    mul-at-2
     add-at
     mul-m
     element-copy-out-m
