@@ -5,6 +5,7 @@ use places::buffers::clear;
 use places::buffers::clear_bytes;
 use rules::Counts;
 use rules::Packed;
+use wire::fields::HEADER;
 use wire::fields::write_header;
 ghost use mathlib.Core.Path.{_≡_};
 ghost use Prim.Native.Nat.{ℕ, _≤_};
@@ -73,6 +74,6 @@ pub(crate) fn finish(
         return refuse(11, v, numbering, buffer);
     }
     let counts = counts_at(v, k, t);
-    write_header(buffer, counts, n - 14);
+    write_header(buffer, counts, n - HEADER);
     Packed::Length(n as u32)
 }

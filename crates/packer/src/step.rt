@@ -11,6 +11,7 @@ use cutborder::Done;
 use cutborder::Flags;
 use cutborder::Ran;
 use cutborder::Taken;
+use wire::fields::HEADER;
 use wire::writer::write_operation;
 ghost use mathlib.Core.Bool.{false};
 ghost use mathlib.Core.Path.{_≡_};
@@ -21,6 +22,9 @@ ghost use Rattle.cutborder.specs.declared.Ran.the-variants as Runs;
 ghost use Rattle.border_theory.specs.Memory.Finish.{isComplete};
 ghost use Rattle.pack_theory.specs.Packing.Course.{Held, givenBy, numbersBy};
 ghost use Rattle.pack_theory.specs.Packing.Steps.{Alive, StepOf, RunOf};
+
+// The bit position of the first operation.
+const FIRST: usize = 8 * HEADER;
 
 // The next number k is given to the vertex c, or not: how many are given then.
 fn give(numbering: &mut [u16], fresh: bool, c: u16, k: u16) -> u16
@@ -99,7 +103,7 @@ fn refusal_from(r: Taken) -> Ran
     }
 }
 
-// Steps until nothing is left to do, by at most `budget` of them, each operation written after the first 14 bytes of the buffer
+// Steps until nothing is left to do, by at most `budget` of them, each operation written after the header's bytes in the buffer
 // as long as it fits: 9 or 10, or the state then and the bit position after the last operation.
 pub fn run(
     list: &[u16],
@@ -116,7 +120,7 @@ pub fn run(
         (now (m .entry)) r (now (built .exit)) (now (numbering .exit)) (now (buffer .exit)) (now (m .exit)) ⌝ }
 {
     let mut t = start;
-    let mut at = 112;
+    let mut at = FIRST;
     let mut left = budget;
     while 0 < left {
         if is_complete(t.front) {

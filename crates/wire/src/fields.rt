@@ -18,6 +18,9 @@ const COUNTS_TAG: u8 = 1;
 
 const OPERATIONS_TAG: u8 = 2;
 
+// So many bytes stand before the operations: 11 for the counts with their tag and length, 3 for the operations' tag and length.
+pub const HEADER: usize = 14;
+
 // What a pack holds: its counts, and where its operations start and end; or the refusal, 12 or 13.
 pub enum PackFields {
     Found(Counts, usize, usize),
@@ -141,7 +144,7 @@ fn low(v: usize) -> u8
 }
 
 // What stands before n bytes of operations: the field of the counts, and the next field's tag and length.
-fn header_of(counts: Counts, n: usize) -> [u8; 14]
+fn header_of(counts: Counts, n: usize) -> [u8; HEADER]
     ensures { λ r. ⌜ r ≡ headerOf counts n ⌝ }
 {
     let v = counts.vertices as usize;
@@ -166,16 +169,16 @@ fn header_of(counts: Counts, n: usize) -> [u8; 14]
     ]
 }
 
-// Writes the 14 bytes before n bytes of operations, if the buffer has as many; it answers whether it has.
+// Writes the header before n bytes of operations, if the buffer is long enough for it; it answers whether it is.
 pub fn write_header(pack: &mut [u8], counts: Counts, n: usize) -> bool
     ensures { λ r. ⌜ (r ≡ leb 14 (length (now (pack .entry)))) × (now (pack .exit) ≡ headed (now (pack .entry)) counts n) ⌝ }
 {
-    if pack.len() < 14 {
+    if pack.len() < HEADER {
         return false;
     }
     let header = header_of(counts, n);
     let mut i = 0;
-    while i < 14 {
+    while i < HEADER {
         pack[i] = header[i];
         i += 1;
     }
