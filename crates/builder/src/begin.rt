@@ -5,6 +5,7 @@ use rules::Builder;
 use rules::Checked;
 use rules::Counts;
 use wire::fields::is_in_range;
+use wire::fields::is_long_enough;
 ghost use mathlib.Core.Path.{_≡_};
 ghost use Rattle.rules.specs.Build.{begunBuilder};
 ghost use Rattle.state_theory.specs.Finishing.Core.{refusedBy, BeginsOn, clearedBy};
@@ -37,10 +38,7 @@ pub fn begin_on(stated: Counts, triangles: &mut [u16], n: usize) -> Begun
     if !is_in_range(stated) {
         return refused(13);
     }
-    if triangles.len() < 3 * (stated.triangles as usize) {
-        return refused(14);
-    }
-    if n < PLACES {
+    if !is_long_enough(stated, triangles.len(), n) {
         return refused(14);
     }
     let state = begun(stated);

@@ -1,27 +1,15 @@
 // The counts and sums of a builder's state, and the numbers of its triangles.
-use cutborder::PLACES;
 use mesh::all_below;
 use rules::Builder;
-use rules::Counts;
 use wire::fields::is_in_range;
+use wire::fields::is_long_enough;
 ghost use mathlib.Core.Path.{_≡_};
 ghost use Prim.Native.Nat.{_*_, _≤_};
 ghost use lib.Dec.{leb};
 ghost use lib.ListN.{length};
-ghost use Rattle.rules.specs.Machine.{longEnough};
 ghost use Rattle.rules.specs.Sound.{sizesOf, countsFit, sumsFit, trianglesFit};
 ghost use Rattle.rules.specs.Limits.{maxLoops};
 ghost use Rattle.state_theory.specs.Opening.Marks.{numbersFit};
-
-// 14: whether the buffers are long enough for what is stated.
-fn is_long_enough(stated: Counts, length: usize, n: usize) -> bool
-    ensures { λ r. ⌜ r ≡ longEnough (record { triangles = length; places = n }) stated ⌝ }
-{
-    if length < 3 * (stated.triangles as usize) {
-        return false;
-    }
-    PLACES <= n
-}
 
 // Whether the loops together have at most the places stated.
 fn sizes_fit(b: Builder) -> bool

@@ -7,7 +7,7 @@ use mathlib.Core.List.{List, [], _++_}
 use mathlib.Core.Path.{_≡_, refl, sym, ap, ap₂, _∙_, subst}
 use lib.ListN.{length, replicate, length-replicate}
 use lib.Dec.{leb}
-use borrow.Author.Tests.{le-leb, lt-leb}
+use borrow.Author.Tests.{leb-true}
 use Rattle.rules.specs.declared.Counts.{Counts}
 use Rattle.rules.specs.declared.Place.{Place}
 use Rattle.rules.specs.declared.Model.{Model}
@@ -23,6 +23,7 @@ use Rattle.rules.specs.Unpack.{Ran, stopped, completed, runOf, numbersOf, restF
 use Rattle.rules.specs.Unpack.{unpackEnded, unpackRun, unpackFields, unpack}
 use Rattle.cutborder.specs.declared.Stepped.{Stepped}
 use Rattle.cutborder.specs.declared.Stepped.the-variants.{Going, Refused}
+use Rattle.counting.proofs.Bools.{and-left}
 use Rattle.unpack_theory.specs.Runs.{Beyond, bitsFrom, endBy, endAnswer, Ends, Answers, tidied}
 use Rattle.unpack_theory.specs.Lent.{lent, unpackOn}
 use Rattle.unpack_theory.proofs.Ending.{whole-over}
@@ -159,24 +160,14 @@ module _ (bytes : List ℕ) (n : ℕ) (ts : List ℕ) (s : Counts) (ops : List �
         on-pick ∙ ap (λ (b : Bool).
         pick true b (unpackRun s (lent n ts) (runOf s ops)) (turnedDown 14 (lent n ts)) (turnedDown 13 (lent n ts))) short
 
-  module _ (long : 3 * s .triangles ≤ length ts) (many : maxPlaces ≤ n) where
-    both : leb (3 * s .triangles) (length ts) && leb maxPlaces n ≡ true
-    both = ap₂ _&&_ (le-leb (3 * s .triangles) (length ts) long) (le-leb maxPlaces n many)
-
+  module _ (long : leb (3 * s .triangles) (length ts) && leb maxPlaces n ≡ true) where
     pub enough-is : unpackOn bytes n ts ≡ unpackRun s (lent n ts) (runOf s ops)
     enough-is =
         on-pick ∙ ap (λ (b : Bool).
-        pick true b (unpackRun s (lent n ts) (runOf s ops)) (turnedDown 14 (lent n ts)) (turnedDown 13 (lent n ts))) both
+        pick true b (unpackRun s (lent n ts) (runOf s ops)) (turnedDown 14 (lent n ts)) (turnedDown 13 (lent n ts))) long
 
-pub short-list : (k t n : ℕ) → t < k → leb k t && leb maxPlaces n ≡ false
-short-list k t n h = ap (λ (b : Bool). b && leb maxPlaces n) (lt-leb k t h)
-
-pub short-places : (k t n : ℕ) → n < maxPlaces → leb k t && leb maxPlaces n ≡ false
-short-places k t n h = ap (λ (b : Bool). leb k t && b) (lt-leb maxPlaces n h) ∙ nothing (leb k t)
-  where
-    nothing : (b : Bool) → b && false ≡ false
-    nothing true = refl
-    nothing false = refl
+pub long-list : (k t n : ℕ) → leb k t && leb maxPlaces n ≡ true → k ≤ t
+long-list k t n h = leb-true k t (and-left (leb k t) (leb maxPlaces n) h)
 
 -- ---- the answer and the triangles from the run's end
 

@@ -1,6 +1,6 @@
 -- From the run's answer to the unpacking's.
 -- Assumes nothing.
-use Prim.Native.Nat.{ℕ, suc, _+_, _*_, _≤_}
+use Prim.Native.Nat.{ℕ, suc, _+_, _*_}
 use native.Mathlib.Omega.{arith}
 use mathlib.Core.Bool.{true, false, _&&_}
 use mathlib.Core.List.{List}
@@ -75,9 +75,9 @@ module _ (bytes : List ℕ) (n : ℕ) (ts : List ℕ) (c : Counts) (ops : List �
   short-on h = turned-on bytes n ts 14 (short-is bytes n ts c ops found ranges h)
 
   -- past it
-  pub run-on : 3 * c .triangles ≤ length ts → maxPlaces ≤ n → (r : Unpacked) (ts′ : List ℕ) → RunGives c ops ts r ts′
+  pub run-on : leb (3 * c .triangles) (length ts) && leb maxPlaces n ≡ true → (r : Unpacked) (ts′ : List ℕ) → RunGives c ops ts r ts′
       → UnpackedOn bytes ts n r ts′
-  run-on l k r ts′ g = record {
-    answer = g .answer n ∙ sym (ap (λ (x : UnpackResult). x .answer) (enough-is bytes n ts c ops found ranges l k));
-    triangles = g .triangles n ∙ sym (ap (λ (x : UnpackResult). x .buffers .triangles) (enough-is bytes n ts c ops found ranges l k));
+  run-on l r ts′ g = record {
+    answer = g .answer n ∙ sym (ap (λ (x : UnpackResult). x .answer) (enough-is bytes n ts c ops found ranges l));
+    triangles = g .triangles n ∙ sym (ap (λ (x : UnpackResult). x .buffers .triangles) (enough-is bytes n ts c ops found ranges l));
   }

@@ -19,6 +19,7 @@ use rules::Unpacked;
 use rules::VERTICES;
 use wire::fields::PackFields;
 use wire::fields::fields_of;
+use wire::fields::is_long_enough;
 ghost use mathlib.Core.Path.{_≡_};
 ghost use Prim.Native.Nat.{ℕ};
 ghost use Rattle.rules.specs.declared.Unpacked.the-variants as Unpacks;
@@ -59,10 +60,7 @@ pub fn unpack_on(pack: &[u8], triangles: &mut [u16], n: usize) -> Unpacked
     let PackFields::Found(stated, from, to) = fields else {
         return refusal_of(fields);
     };
-    if triangles.len() < 3 * (stated.triangles as usize) {
-        return Unpacked::Refused(14);
-    }
-    if n < PLACES {
+    if !is_long_enough(stated, triangles.len(), n) {
         return Unpacked::Refused(14);
     }
     let mut m = [0u16; CORE];

@@ -281,3 +281,9 @@ out-third a b c d e f g = rw (e, f, g)
 
 pub by-fourth : (a b c d : Bool) → a ≡ true → b ≡ true → c ≡ true → d ≡ (a && b && c && d)
 by-fourth a b c d e f g = rw (e, f, g)
+
+pub short-first : (a b : Bool) → a ≡ false → false ≡ (a && b)
+short-first a b e = rw e
+
+pub by-last : (a b : Bool) → a ≡ true → b ≡ (a && b)
+by-last a b e = rw e

@@ -11,6 +11,7 @@ ghost use lib.Dec.{leb};
 ghost use lib.ListN.{length, take, drop};
 ghost use Rattle.rules.specs.Fields.{wordAt, countsFrom};
 ghost use Rattle.rules.specs.Limits.{between, inRange};
+ghost use Rattle.rules.specs.Machine.{longEnough};
 ghost use Rattle.wire_theory.specs.Header.{headerOf};
 ghost use Rattle.wire.specs.Fields.{fieldAt, packFields, Parted, headed};
 
@@ -99,6 +100,16 @@ pub fn is_in_range(counts: Counts) -> bool
         return false;
     }
     is_between(1, counts.loops, Builder::MAX_LOOPS as u16)
+}
+
+// 14: whether a triangle buffer of this length and n place records are enough for what is stated.
+pub fn is_long_enough(stated: Counts, length: usize, n: usize) -> bool
+    ensures { λ r. ⌜ r ≡ longEnough (record { triangles = length; places = n }) stated ⌝ }
+{
+    if length < 3 * (stated.triangles as usize) {
+        return false;
+    }
+    Builder::MAX_PLACES <= n
 }
 
 // The two fields of any bytes, tested for 12 and 13. Nothing follows the operations, which are the part of the pack from the

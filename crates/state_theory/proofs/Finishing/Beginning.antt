@@ -1,39 +1,40 @@
 -- The beginning: 13, 14, or the empty builder. One law for each way through.
 -- Assumes nothing.
-use Prim.Native.Nat.{ℕ, _*_, _≤_, _<_}
+use Prim.Native.Nat.{ℕ, _*_}
 use mathlib.Core.Bool.{Bool, true, false, _&&_, not}
 use mathlib.Core.List.{List}
 use mathlib.Core.Path.{_≡_, refl, sym, ap, ap₂, _∙_, subst}
 use lib.ListN.{length, length-replicate}
 use lib.Dec.{leb}
-use borrow.Author.Tests.{not-true, not-false, le-leb, lt-leb}
+use borrow.Author.Tests.{not-true, not-false, leb-true}
 use Rattle.rules.specs.declared.Counts.{Counts}
 use Rattle.rules.specs.declared.Builder.{Builder}
 use Rattle.rules.specs.declared.Begun.{Begun}
 use Rattle.rules.specs.declared.Checked.{Checked}
 use Rattle.rules.specs.declared.Checked.the-variants.{Accepted, Refused}
 use Rattle.rules.specs.Limits.{maxPlaces, inRange}
-use Rattle.rules.specs.Machine.{refused, begun, test, empty, beginning}
+use Rattle.rules.specs.Machine.{refused, begun, test, empty, beginning, longEnough}
 use Rattle.rules.specs.Book.{answerOf}
-use Rattle.rules.specs.Buffer.{freePlace}
+use Rattle.rules.specs.Buffer.{Lengths, freePlace}
 use Rattle.rules.specs.Build.{begins, emptyBuilder, begunBuilder}
+use Rattle.counting.proofs.Bools.{and-right}
 use Rattle.unpack_theory.specs.Lent.{lent as lentOf}
 use Rattle.state_theory.specs.Finishing.Core.{refusedBy, BeginsOn, clearedAfter}
 
 module _ (stated : Counts) (xs : List ℕ) (n : ℕ) where
+  abbrev lengthsOf : ℕ → Lengths
+  lengthsOf k = record { triangles = length xs; places = k }
+
   begins-is : begins (lentOf n xs) stated
-      ≡ test (inRange stated) 13 (test (leb (3 * stated .triangles) (length xs) && leb maxPlaces n) 14 (begun (empty stated)))
+      ≡ test (inRange stated) 13 (test (longEnough (lengthsOf n) stated) 14 (begun (empty stated)))
   unfolding beginning
   begins-is =
-      ap (λ (k : ℕ). test (inRange stated) 13 (test (leb (3 * stated .triangles) (length xs) && leb maxPlaces k) 14 (begun (empty stated))))
+      ap (λ (k : ℕ). test (inRange stated) 13 (test (longEnough (lengthsOf k) stated) 14 (begun (empty stated))))
       (length-replicate n freePlace)
 
-  by-tests : (a b c : Bool) → inRange stated ≡ a → leb (3 * stated .triangles) (length xs) ≡ b → leb maxPlaces n ≡ c
-      → begins (lentOf n xs) stated ≡ test a 13 (test (b && c) 14 (begun (empty stated)))
-  by-tests a b c e f g =
-      begins-is ∙ ap (λ (t : Bool). test t 13 (test (leb (3 * stated .triangles) (length xs) && leb maxPlaces n) 14 (begun (empty stated))))
-      e
-      ∙ ap₂ (λ (t u : Bool). test a 13 (test (t && u) 14 (begun (empty stated)))) f g
+  by-tests : (a b : Bool) → inRange stated ≡ a → longEnough (lengthsOf n) stated ≡ b
+      → begins (lentOf n xs) stated ≡ test a 13 (test b 14 (begun (empty stated)))
+  by-tests a b e f = begins-is ∙ ap₂ (λ (t u : Bool). test t 13 (test u 14 (begun (empty stated)))) e f
 
   turned-down : (k : ℕ) → begins (lentOf n xs) stated ≡ refused k → (r : Begun) → r ≡ refusedBy k → BeginsOn stated xs n r xs
   turned-down k e r q =
@@ -44,32 +45,29 @@ module _ (stated : Counts) (xs : List ℕ) (n : ℕ) where
   unfolding test
   begins-range a e h =
       turned-down 13
-      (by-tests false (leb (3 * stated .triangles) (length xs)) (leb maxPlaces n) (sym e ∙ not-true a h) refl refl)
+      (by-tests false (longEnough (lengthsOf n) stated) (sym e ∙ not-true a h) refl)
 
-  module _ (a : Bool) (e : a ≡ inRange stated) (h : not a ≡ false) where
-    pub begins-triangles : length xs < 3 * stated .triangles → (r : Begun) → r ≡ refusedBy 14 → BeginsOn stated xs n r xs
+  module _ (a : Bool) (e : a ≡ inRange stated) (h : not a ≡ false) (l : Bool) (f : l ≡ longEnough (record {
+    triangles = length xs;
+    places = n;
+  }) stated) where
+    pub begins-short : not l ≡ true → (r : Begun) → r ≡ refusedBy 14 → BeginsOn stated xs n r xs
     unfolding test
-    begins-triangles l =
-        turned-down 14
-        (by-tests true false (leb maxPlaces n) (sym e ∙ not-false a h) (lt-leb (3 * stated .triangles) (length xs) l) refl)
+    begins-short k = turned-down 14 (by-tests true false (sym e ∙ not-false a h) (sym f ∙ not-true l k))
 
-    module _ (long : 3 * stated .triangles ≤ length xs) where
-      pub begins-places : n < maxPlaces → (r : Begun) → r ≡ refusedBy 14 → BeginsOn stated xs n r xs
-      unfolding test
-      begins-places l =
-          turned-down 14
-          (by-tests true true false (sym e ∙ not-false a h) (le-leb (3 * stated .triangles) (length xs) long) (lt-leb maxPlaces n l))
-
-      pub begins-done : maxPlaces ≤ n → (b : Builder) → b ≡ begunBuilder stated
-          → BeginsOn stated xs n (record { state = b; answer = Accepted }) xs
-      unfolding test
-      begins-done l b q = record {
-        answer =
-            ap answerOf
-            (sym
-            (by-tests true true true (sym e ∙ not-false a h) (le-leb (3 * stated .triangles) (length xs) long) (le-leb maxPlaces n l)));
-        left = record { builder = q; triangles = refl; whole = l };
-      }
+    pub begins-done : not l ≡ false → (b : Builder) → b ≡ begunBuilder stated
+        → BeginsOn stated xs n (record { state = b; answer = Accepted }) xs
+    unfolding test
+    begins-done k b q =
+        let long : longEnough (lengthsOf n) stated ≡ true = sym f ∙ not-false l k in
+        record {
+          answer = ap answerOf (sym (by-tests true true (sym e ∙ not-false a h) long));
+          left = record {
+            builder = q;
+            triangles = refl;
+            whole = leb-true maxPlaces n (and-right (leb (3 * stated .triangles) (length xs)) (leb maxPlaces n) long);
+          };
+        }
 
 -- the two builders that a beginning gives
 pub begun-is : (stated : Counts) (b : Builder) → b ≡ emptyBuilder

@@ -1,7 +1,7 @@
 -- `builder::begin::begin_on` meets its contract: 13, 14, or the builder that holds nothing.
 -- Assumes nothing.
 use borrow.Author.Needs.{needs}
-use Rattle.state_theory.proofs.Finishing.Beginning.{begins-range, begins-triangles, begins-places, begins-done}
+use Rattle.state_theory.proofs.Finishing.Beginning.{begins-range, begins-short, begins-done}
 use Rattle.builder.proofs.begin.begin_on.Statement.{statement}
 use Rattle.builder.proofs.begin.begin_on.Tie as tie
 
@@ -18,44 +18,30 @@ returns c =
     begins-range (a .stated) (a .triangles .now) (a .n) _ (k .is-in-range .ensures) (c .before .if1 .taken) _
     (c .refused .ensures)
 
-cast-if2 : tie.Need-cast-if2
-cast-if2 c = search needs
-
-mul-if2 : tie.Need-mul-if2
-mul-if2 c = search needs
+is-long-enough-requires : tie.Need-is-long-enough-requires
+is-long-enough-requires c κs = search needs
 
 refused-requires-2 : tie.Need-refused-requires-2
 refused-requires-2 c κs = search needs
 
 returns-2 : tie.Need-returns-2
 returns-2 c =
-    let i = c .before .before .before in
-    let a = i .before .before .before .args in
-    begins-triangles (a .stated) (a .triangles .now) (a .n) _ (i .before .is-in-range .ensures) (i .if1 .left)
-    (c .before .if2 .taken) _ (c .refused2 .ensures)
-
-refused-requires-3 : tie.Need-refused-requires-3
-refused-requires-3 c κs = search needs
-
-returns-3 : tie.Need-returns-3
-returns-3 c =
     let j = c .before .before in
-    let i = j .before .before in
+    let i = j .before in
     let a = i .before .before .before .args in
-    begins-places (a .stated) (a .triangles .now) (a .n) _ (i .before .is-in-range .ensures) (i .if1 .left) (j .if2 .left)
-    (c .before .if3 .taken) _ (c .refused3 .ensures)
+    begins-short (a .stated) (a .triangles .now) (a .n) _ (i .before .is-in-range .ensures) (i .if1 .left) _
+    (j .is-long-enough .ensures) (c .before .if2 .taken) _ (c .refused2 .ensures)
 
 begun-requires : tie.Need-begun-requires
 begun-requires c κs = search needs
 
-returns-4 : tie.Need-returns-4
-returns-4 c =
-    let k = c .before in
-    let j = k .before in
-    let i = j .before .before in
+returns-3 : tie.Need-returns-3
+returns-3 c =
+    let j = c .before .before in
+    let i = j .before in
     let a = i .before .before .before .args in
-    begins-done (a .stated) (a .triangles .now) (a .n) _ (i .before .is-in-range .ensures) (i .if1 .left) (j .if2 .left)
-    (k .if3 .left) _ (c .begun .ensures)
+    begins-done (a .stated) (a .triangles .now) (a .n) _ (i .before .is-in-range .ensures) (i .if1 .left) _
+    (j .is-long-enough .ensures) (c .before .if2 .left) _ (c .begun .ensures)
 
 pub begin-on-spec : {M : Type 1} → statement M
 begin-on-spec =
@@ -64,11 +50,8 @@ begin-on-spec =
     is-in-range-requires
     refused-requires
     returns
-    cast-if2
-    mul-if2
+    is-long-enough-requires
     refused-requires-2
     returns-2
-    refused-requires-3
-    returns-3
     begun-requires
-    returns-4)
+    returns-3)
