@@ -9,7 +9,7 @@ use lib.ListN.{getD}
 use lib.Dec.{eqb}
 use borrow.Author.Tests.{eq-eqb, ne-eqb}
 use Rattle.rules.specs.declared.Triangle.{Triangle}
-use Rattle.rules.specs.Triangle.{Edge, edge, edgesOf}
+use Rattle.rules.specs.Triangle.{distinct, Edge, edge, edgesOf}
 use Rattle.rules.specs.Count.{num, hit, count, unjoined}
 use Rattle.rules.specs.Table.{Side, sideRule, edgeRule}
 use Rattle.rules.specs.View.{trianglesBuilt}
@@ -142,26 +142,20 @@ not-false : (a t : Bool) → t ≡ not a → t ≡ false → a ≡ true
 not-false true t e h = refl
 not-false false t e h = sym h ∙ e
 
-six : (a b c d e f : Bool) → a ≡ true → b ≡ true → c ≡ true → d ≡ true → e ≡ true → f ≡ true → true ≡ a && b && c && d && e && f
-six a b c d e f h i j k l m = rw (h, i, j, k, l, m)
+all-four : (a b c d : Bool) → a ≡ true → b ≡ true → c ≡ true → d ≡ true → true ≡ a && b && c && d
+all-four a b c d h i j k = rw (h, i, j, k)
 
-first : (a b c d e f : Bool) → a ≡ false → false ≡ a && b && c && d && e && f
-first a b c d e f h = rw h
+first : (a b c d : Bool) → a ≡ false → false ≡ a && b && c && d
+first a b c d h = rw h
 
-second : (a b c d e f : Bool) → b ≡ false → false ≡ a && b && c && d && e && f
-second a b c d e f h = let z : a && b ≡ false = and-no a b h in rw z
+second : (a b c d : Bool) → b ≡ false → false ≡ a && b && c && d
+second a b c d h = let z : a && b ≡ false = and-no a b h in rw z
 
-third : (a b c d e f : Bool) → c ≡ false → false ≡ a && b && c && d && e && f
-third a b c d e f h = let z : a && b && c ≡ false = and-no (a && b) c h in rw z
+third : (a b c d : Bool) → c ≡ false → false ≡ a && b && c && d
+third a b c d h = let z : a && b && c ≡ false = and-no (a && b) c h in rw z
 
-fourth : (a b c d e f : Bool) → d ≡ false → false ≡ a && b && c && d && e && f
-fourth a b c d e f h = let z : a && b && c && d ≡ false = and-no (a && b && c) d h in rw z
-
-fifth : (a b c d e f : Bool) → e ≡ false → false ≡ a && b && c && d && e && f
-fifth a b c d e f h = let z : a && b && c && d && e ≡ false = and-no (a && b && c && d) e h in rw z
-
-sixth : (a b c d e f : Bool) → f ≡ false → false ≡ a && b && c && d && e && f
-sixth a b c d e f h = sym (and-no (a && b && c && d && e) f h)
+fourth : (a b c d : Bool) → d ≡ false → false ≡ a && b && c && d
+fourth a b c d h = sym (and-no (a && b && c) d h)
 
 module _ (plan : Plan) (xs : List ℕ) (n : ℕ) where
   abbrev t : Triangle
@@ -180,45 +174,30 @@ module _ (plan : Plan) (xs : List ℕ) (n : ℕ) where
   ts = trianglesBuilt xs n
 
   abbrev a₁ : Bool
-  a₁ = not (eqb (t .p) (t .q))
+  a₁ = distinct t
 
   abbrev a₂ : Bool
-  a₂ = not (eqb (t .q) (t .r))
+  a₂ = sideRule x (t .p) (t .q) ts
 
   abbrev a₃ : Bool
-  a₃ = not (eqb (t .r) (t .p))
+  a₃ = sideRule y (t .q) (t .r) ts
 
   abbrev a₄ : Bool
-  a₄ = sideRule x (t .p) (t .q) ts
+  a₄ = sideRule z (t .r) (t .p) ts
 
-  abbrev a₅ : Bool
-  a₅ = sideRule y (t .q) (t .r) ts
-
-  abbrev a₆ : Bool
-  a₆ = sideRule z (t .r) (t .p) ts
-
-  pub rule-pq : t .p ≡ t .q → false ≡ edgeRule t x y z ts
-  rule-pq h = first a₁ a₂ a₃ a₄ a₅ a₆ (ap not (eq-eqb (t .p) (t .q) h))
-
-  pub rule-qr : t .q ≡ t .r → false ≡ edgeRule t x y z ts
-  rule-qr h = second a₁ a₂ a₃ a₄ a₅ a₆ (ap not (eq-eqb (t .q) (t .r) h))
-
-  pub rule-rp : t .r ≡ t .p → false ≡ edgeRule t x y z ts
-  rule-rp h = third a₁ a₂ a₃ a₄ a₅ a₆ (ap not (eq-eqb (t .r) (t .p) h))
+  pub rule-distinct : (d : Bool) → d ≡ distinct t → not d ≡ true → false ≡ edgeRule t x y z ts
+  rule-distinct d e h = first a₁ a₂ a₃ a₄ (sym e ∙ not-true d (not d) refl h)
 
   pub side-pq : (k : Bool) → k ≡ not (sideRule x (t .p) (t .q) ts) → k ≡ true → false ≡ edgeRule t x y z ts
-  side-pq k e h = fourth a₁ a₂ a₃ a₄ a₅ a₆ (not-true a₄ k e h)
+  side-pq k e h = second a₁ a₂ a₃ a₄ (not-true a₂ k e h)
 
   pub side-qr : (k : Bool) → k ≡ not (sideRule y (t .q) (t .r) ts) → k ≡ true → false ≡ edgeRule t x y z ts
-  side-qr k e h = fifth a₁ a₂ a₃ a₄ a₅ a₆ (not-true a₅ k e h)
+  side-qr k e h = third a₁ a₂ a₃ a₄ (not-true a₃ k e h)
 
   pub side-rp : (k : Bool) → k ≡ not (sideRule z (t .r) (t .p) ts) → k ≡ true → false ≡ edgeRule t x y z ts
-  side-rp k e h = sixth a₁ a₂ a₃ a₄ a₅ a₆ (not-true a₆ k e h)
+  side-rp k e h = fourth a₁ a₂ a₃ a₄ (not-true a₄ k e h)
 
-  pub rule-holds : (k l m : Bool) → (t .p ≡ t .q → ⊥) → (t .q ≡ t .r → ⊥) → (t .r ≡ t .p → ⊥) → k ≡ not (sideRule x (t .p) (t .q) ts)
-      → k ≡ false
+  pub rule-holds : (d k l m : Bool) → d ≡ distinct t → not d ≡ false → k ≡ not (sideRule x (t .p) (t .q) ts) → k ≡ false
       → l ≡ not (sideRule y (t .q) (t .r) ts) → l ≡ false → m ≡ not (sideRule z (t .r) (t .p) ts) → m ≡ false → true ≡ edgeRule t x y z ts
-  rule-holds k l m a b c ek hk el hl em hm =
-      six a₁ a₂ a₃ a₄ a₅ a₆ (ap not (ne-eqb (t .p) (t .q) a)) (ap not (ne-eqb (t .q) (t .r) b)) (ap not (ne-eqb (t .r) (t .p) c))
-      (not-false a₄ k ek hk)
-      (not-false a₅ l el hl) (not-false a₆ m em hm)
+  rule-holds d k l m ed hd ek hk el hl em hm =
+      all-four a₁ a₂ a₃ a₄ (sym ed ∙ not-false d (not d) refl hd) (not-false a₂ k ek hk) (not-false a₃ l el hl) (not-false a₄ m em hm)

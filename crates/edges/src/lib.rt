@@ -1,6 +1,7 @@
 // The edge rule, tested over the triangles that are built so far: a plain search of the triangle buffer.
 // The contracts cite specs/Joined.antt, and `edgeRule` and `trianglesBuilt` of the crate rules.
 use cutborder::Plan;
+use mesh::is_distinct;
 ghost use mathlib.Core.Path.{_≡_};
 ghost use mathlib.Core.Bool.{not};
 ghost use Prim.Native.Nat.{_+_, _*_, _≤_, _<_};
@@ -31,14 +32,14 @@ fn is_pair(a: u16, b: u16, x: u16, y: u16) -> bool
 }
 
 // Whether triangle j of the list joins x and y.
-fn joins(list: &[u16], j: u16, x: u16, y: u16) -> bool
-    requires { ⌜ 3 * j + 2 < length (now list) ⌝ }
-    ensures { λ r. ⌜ r ≡ joinsAt (now (list .entry)) j x y ⌝ }
+fn joins(xs: &[u16], j: u16, x: u16, y: u16) -> bool
+    requires { ⌜ 3 * j + 2 < length (now xs) ⌝ }
+    ensures { λ r. ⌜ r ≡ joinsAt (now (xs .entry)) j x y ⌝ }
 {
     let at = 3 * (j as usize);
-    let p = list[at];
-    let q = list[at + 1];
-    let r = list[at + 2];
+    let p = xs[at];
+    let q = xs[at + 1];
+    let r = xs[at + 2];
     if is_pair(r, p, x, y) {
         return true;
     }
@@ -49,14 +50,14 @@ fn joins(list: &[u16], j: u16, x: u16, y: u16) -> bool
 }
 
 // Whether none of the first n triangles joins x and y.
-fn none_joins(list: &[u16], n: u16, x: u16, y: u16) -> bool
-    requires { ⌜ 3 * n ≤ length (now list) ⌝ }
-    ensures { λ r. ⌜ r ≡ noneJoins (now (list .entry)) n x y ⌝ }
+fn none_joins(xs: &[u16], n: u16, x: u16, y: u16) -> bool
+    requires { ⌜ 3 * n ≤ length (now xs) ⌝ }
+    ensures { λ r. ⌜ r ≡ noneJoins (now (xs .entry)) n x y ⌝ }
 {
     let mut j = n;
     while 0 < j {
         j -= 1;
-        if joins(list, j, x, y) {
+        if joins(xs, j, x, y) {
             return false;
         }
     }
@@ -64,44 +65,38 @@ fn none_joins(list: &[u16], n: u16, x: u16, y: u16) -> bool
 }
 
 // Whether a side from x to y breaks the edge rule: it is to be a new edge, and a triangle joins x and y already.
-fn is_joined(list: &[u16], n: u16, side: u16, x: u16, y: u16) -> bool
-    requires { ⌜ 3 * n ≤ length (now list) ⌝ }
-    ensures { λ r. ⌜ r ≡ not (sideRule (sideOf side) x y (trianglesBuilt (now (list .entry)) n)) ⌝ }
+fn is_joined(xs: &[u16], n: u16, side: u16, x: u16, y: u16) -> bool
+    requires { ⌜ 3 * n ≤ length (now xs) ⌝ }
+    ensures { λ r. ⌜ r ≡ not (sideRule (sideOf side) x y (trianglesBuilt (now (xs .entry)) n)) ⌝ }
 {
     if side == 0 {
         return false;
     }
-    if none_joins(list, n, x, y) {
+    if none_joins(xs, n, x, y) {
         return false;
     }
     true
 }
 
 // 18: whether the edge rule lets the planned triangle be built after the first n triangles of the list.
-pub fn edge_rule(list: &[u16], n: u16, p: Plan) -> bool
-    requires { ⌜ 3 * n ≤ length (now list) ⌝ }
-    ensures { λ r. ⌜ r ≡ edgeRule (p .triangle) (sideOf (p .pq)) (sideOf (p .qr)) (sideOf (p .rp)) (trianglesBuilt (now (list .entry)) n) ⌝ }
+pub fn edge_rule(xs: &[u16], n: u16, p: Plan) -> bool
+    requires { ⌜ 3 * n ≤ length (now xs) ⌝ }
+    ensures { λ r. ⌜ r ≡ edgeRule (p .triangle) (sideOf (p .pq)) (sideOf (p .qr)) (sideOf (p .rp)) (trianglesBuilt (now (xs .entry)) n) ⌝ }
 {
     let t = p.triangle;
     let a = t.p;
     let b = t.q;
     let c = t.r;
-    if a == b {
+    if !is_distinct(a, b, c) {
         return false;
     }
-    if b == c {
+    if is_joined(xs, n, p.pq, a, b) {
         return false;
     }
-    if c == a {
+    if is_joined(xs, n, p.qr, b, c) {
         return false;
     }
-    if is_joined(list, n, p.pq, a, b) {
-        return false;
-    }
-    if is_joined(list, n, p.qr, b, c) {
-        return false;
-    }
-    if is_joined(list, n, p.rp, c, a) {
+    if is_joined(xs, n, p.rp, c, a) {
         return false;
     }
     true

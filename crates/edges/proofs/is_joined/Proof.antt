@@ -13,11 +13,11 @@ none-joins-requires : tie.Need-none-joins-requires
 none-joins-requires c κs = search needs
 
 returns-2 : tie.Need-returns-2
-returns-2 c = side-fresh (c .before .before .before .before .args .list .now) _ _ _ _ _ true (c .before .before .if1 .left)
+returns-2 c = side-fresh (c .before .before .before .before .args .xs .now) _ _ _ _ _ true (c .before .before .if1 .left)
     (c .before .none-joins .ensures) (c .if2 .taken)
 
 returns-3 : tie.Need-returns-3
-returns-3 c = side-fresh (c .before .before .before .before .args .list .now) _ _ _ _ _ false (c .before .before .if1 .left)
+returns-3 c = side-fresh (c .before .before .before .before .args .xs .now) _ _ _ _ _ false (c .before .before .if1 .left)
     (c .before .none-joins .ensures) (c .if2 .left)
 
 pub is-joined-spec : {M : Type 1} → statement M

@@ -9,10 +9,10 @@ use Rattle.edges.proofs.none_joins.Statement.{statement}
 use Rattle.edges.proofs.none_joins.Tie as tie
 
 abbrev Inv-loop : tie.InvT-loop
-Inv-loop list n x y j₀ j = (j ≤ n) × (noneJoins list j x y ≡ noneJoins list n x y)
+Inv-loop xs n x y j₀ j = (j ≤ n) × (noneJoins xs j x y ≡ noneJoins xs n x y)
 
 abbrev μ-loop : tie.MeasureT-loop
-μ-loop list n x y j₀ j = j
+μ-loop xs n x y j₀ j = j
 
 loop-holds : tie.Need-loop-holds Inv-loop μ-loop
 loop-holds c = (search needs, refl)
