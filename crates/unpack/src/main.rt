@@ -15,6 +15,9 @@ use text::streams::say_failed;
 // The longest input that is unpacked, and one byte more to tell a longer one.
 const MOST_BYTES: usize = 65536;
 
+// The longest name of a file that is taken from an argument; Linux opens none that is longer.
+const MOST_NAME: usize = 4096;
+
 // Unpacks what was read; more than the most bytes counts as 12.
 fn unpack_bytes(out: Output, pack: &[u8], triangles: &mut [u16]) -> Output {
     if MOST_BYTES < pack.len() {
@@ -58,7 +61,7 @@ fn is_standard(name: &[u8]) -> bool {
 
 // Unpacks what argument i names.
 fn unpack_named(out: Output, i: usize, pack: &mut [u8], triangles: &mut [u16]) -> Output {
-    let mut name = [0u8; 4096];
+    let mut name = [0u8; MOST_NAME];
     let n = os::arg(i, &mut name);
     if os::errno() != 0 {
         say_failed(b"unpack", b"argument");

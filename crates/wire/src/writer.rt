@@ -30,11 +30,13 @@ fn piece_of(o: Operation) -> Piece
         Operation::Forward => Piece { value: 1, width: 3 },
         Operation::Backward => Piece { value: 2, width: 3 },
         Operation::Border => Piece { value: 3, width: 3 },
+        // 4096 is the code 4 before ten bits.
         Operation::Split(i) => Piece {
             value: 4096 + (i as usize) % 1024,
             width: 13,
         },
         Operation::Close => Piece { value: 5, width: 3 },
+        // 786432 is the code 6 before seventeen bits.
         Operation::Union(p, j) => Piece {
             value: 786432 + (p as usize) % 128 * 1024 + (j as usize) % 1024,
             width: 20,
