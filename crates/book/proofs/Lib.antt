@@ -5,6 +5,7 @@ pub mod Counting
 pub mod EdgeRule
 pub mod Effects
 pub mod Euler
+pub mod Growing
 pub mod Kept
 pub mod Numbers
 pub mod Open

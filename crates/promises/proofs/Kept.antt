@@ -3,7 +3,7 @@
 use Prim.Native.Nat.{ℕ, zero, suc, _+_, _*_, _≤_, _<_}
 use native.Mathlib.Omega.{arith}
 use mathlib.Core.Bool.{Bool, true, false, _&&_, false≢true, true≢false}
-use mathlib.Core.List.{List, _∷_}
+use mathlib.Core.List.{List}
 use mathlib.Core.Path.{_≡_, refl, sym, ap, ap₂, _∙_, subst}
 use lib.ListN.{length, drop, replicate, length-append, length-drop, length-replicate, List·getD-append, getD-replicate}
 use lib.Dec.{leb}
@@ -17,8 +17,7 @@ use Rattle.rules.specs.declared.Checked.the-variants.{Accepted, Refused}
 use Rattle.rules.specs.Limits.{maxPlaces, inRange}
 use Rattle.rules.specs.Count.{occurs}
 use Rattle.rules.specs.Check.{allBelow}
-use Rattle.rules.specs.Table.{Effect, not-allowed, builds, marks, effect}
-use Rattle.rules.specs.Machine.{Machine, empty, Step, refused, begun, built, declared, finished, longEnough, done, operation}
+use Rattle.rules.specs.Machine.{Machine, empty, Step, refused, begun, built, declared, finished, longEnough, operation}
 use Rattle.rules.specs.Machine.{beginning, finishing}
 use Rattle.rules.specs.Answer.{Answer, accepted, checkedAnswer, begunAnswer}
 use Rattle.rules.specs.Book.{operate, finish, Book, recounted, emptyBook, entered, answerOf, after, isAccepted}
@@ -31,6 +30,7 @@ use Rattle.rules.specs.Build.{viewed, operates, begunBuilder, begunBuffers, Beg
 use Rattle.book.specs.Consistent.{Ranges}
 use Rattle.book.specs.Reached.{reached}
 use Rattle.book.proofs.Kept.{test-law}
+use Rattle.book.proofs.Growing.{Grows, grows}
 use Rattle.book.proofs.Bounds.{bounded-ranges, within-triangles}
 use Rattle.book.proofs.Calls.{Holds, holds-kept, machine-entered, refused-same, recounted-same, finish-same}
 use Rattle.promises.specs.BuildersBook.{World, buffersOf, lengthsOf, BeginningCalled, OperationCalled, FinishCalled}
@@ -163,20 +163,6 @@ pub built-long : (xs : List ℕ) (n : ℕ) → length (trianglesBuilt xs n) ≡ 
 unfolding trianglesBuilt
 built-long xs zero = refl
 built-long xs (suc n) = ap suc (built-long xs n)
-
--- a built triangle is the machine's latest
-abbrev Grows : Machine → Step → Type 0
-Grows M (refused n) = Unit {0}
-Grows M (begun m) = Unit {0}
-Grows M (built t m) = (m .triangles ≡ t ∷ M .triangles) × (m .stated ≡ M .stated)
-Grows M (declared d m) = Unit {0}
-Grows M (finished x) = Unit {0}
-
-grows : (M : Machine) (e : Effect) → Grows M (done M e)
-unfolding done
-grows M not-allowed = tt
-grows M (builds x) = test-law (Grows M) _ _ _ tt (λ i. test-law (Grows M) _ _ _ tt (λ j. (refl, refl)))
-grows M (marks x) = test-law (Grows M) _ _ _ tt (λ i. tt)
 
 -- there is room for it
 abbrev Writes : Builder → Buffers → Step → Type 0
@@ -339,9 +325,7 @@ module _ (R : Lengths) where
         let e : viewOf v ≡ entered b x .machine =
         operated-view (w .state) (buffersOf w) o (v .state) (buffersOf v) (b .machine) x operated h ∙ sym (machine-entered b x) in
         let f = subst Ranges (sym e) (bounded-ranges (entered b x) (n .bounded)) in
-        let m =
-        writes (w .state) (buffersOf w) b x (g .passes) (g .same) (grows (b .machine) (effect o (b .machine .used) (b .machine .loops))) n
-        in
+        let m = writes (w .state) (buffersOf w) b x (g .passes) (g .same) (grows (b .machine) o x refl) n in
         record {
           passes = operated-passes (w .state) (buffersOf w) o (v .state) (buffersOf v) x operated h
               (ranges-sums (v .state) (buffersOf v) f);

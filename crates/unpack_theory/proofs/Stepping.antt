@@ -15,12 +15,13 @@ use Rattle.rules.specs.Limits.{maxPlaces, maxVertices, inRange}
 use Rattle.rules.specs.Triangle.{edge, trianglesOf, corners}
 use Rattle.rules.specs.Count.{occurs}
 use Rattle.rules.specs.Code.{breaks-off, read, readOperation}
-use Rattle.rules.specs.Table.{Effect, not-allowed, builds, marks, effect, edgeRule}
-use Rattle.rules.specs.Machine.{Machine, Step, refused, begun, built, declared, finished, test, done, operation}
+use Rattle.rules.specs.Table.{edgeRule}
+use Rattle.rules.specs.Machine.{Machine, Step, refused, built, declared, test, operation}
 use Rattle.rules.specs.Book.{Book, entered}
 use Rattle.rules.specs.Unpack.{numbersOf}
 use Rattle.book.specs.Consistent.{Consistent, Ranges}
-use Rattle.book.proofs.Kept.{test-law, kept}
+use Rattle.book.proofs.Kept.{kept}
+use Rattle.book.proofs.Growing.{grows}
 use Rattle.book.specs.Bounded.{Bounded}
 use Rattle.book.proofs.Bounds.{bounded-ranges, bounded-kept, within-each, Within}
 use Rattle.book.proofs.EdgeRule.{Simple, refusalOf, never-18, test-passed}
@@ -50,26 +51,6 @@ use Rattle.unpack_theory.proofs.Writing.{numbers-more}
 use Rattle.unpack_theory.proofs.Meeting.{met-long, unmet-before}
 use Rattle.counting.proofs.Counts.{same-yes}
 use Rattle.counting.proofs.Ranges.{in-range, InRange}
-
--- what a call does to the triangles and to the counts stated
-abbrev Grows : Machine → Step → Type 0
-Grows M (refused k) = Unit {0}
-Grows M (begun m) = Unit {0}
-Grows M (built t m) = (m .triangles ≡ t ∷ M .triangles) × (m .stated ≡ M .stated)
-Grows M (declared d m) = (m .triangles ≡ M .triangles) × (m .stated ≡ M .stated)
-Grows M (finished x) = Unit {0}
-
-grows-by : (M : Machine) (e : Effect) → Grows M (done M e)
-unfolding done
-grows-by M not-allowed = tt
-grows-by M (builds x) =
-    test-law (Grows M) _ _ _ tt
-    (λ i. test-law (Grows M) (edgeRule (x .triangle) (x .sides .pq) (x .sides .qr) (x .sides .rp) (M .triangles)) _ _ tt
-    (λ j. (refl, refl)))
-grows-by M (marks x) = test-law (Grows M) _ _ _ tt (λ i. (refl, refl))
-
-grows : (M : Machine) (o : Operation) (s : Step) → operation M o ≡ s → Grows M s
-grows M o s e = subst (Grows M) e (grows-by M (effect o (M .used) (M .loops)))
 
 -- a corner of the latest triangle occurs
 corner-p : (t : Triangle) (us : List Triangle) → 1 ≤ occurs (t .p) (corners (t ∷ us))
