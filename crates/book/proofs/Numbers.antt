@@ -22,7 +22,7 @@ use Rattle.book.proofs.Effects.{split-high}
 use Rattle.counting.proofs.Bools.{and-left, and-right}
 
 -- runs of nodes
-below-append : (u : ℕ) (ps qs : List Node) → NodesBelow u ps → NodesBelow u qs → NodesBelow u (ps ++ qs)
+pub below-append : (u : ℕ) (ps qs : List Node) → NodesBelow u ps → NodesBelow u qs → NodesBelow u (ps ++ qs)
 below-append u [] qs h k = k
 below-append u (p ∷ ps) qs h k = (h .0, below-append u ps qs (h .1) k)
 
@@ -61,7 +61,7 @@ below-front u [] h = tt
 below-front u (p ∷ []) h = tt
 below-front u (p ∷ (q ∷ ps)) h = (h .0, below-front u (q ∷ ps) (h .1))
 
-below-onward : (u : ℕ) (back ps : List Node) → NodesBelow u back → NodesBelow u ps → NodesBelow u (onward back ps)
+pub below-onward : (u : ℕ) (back ps : List Node) → NodesBelow u back → NodesBelow u ps → NodesBelow u (onward back ps)
 unfolding onward
 below-onward u back [] k h = tt
 below-onward u back (opened v ∷ ps) k h = (h .0, below-append u ps back (h .1) k)
@@ -80,7 +80,7 @@ below-shown u [] h = tt
 below-shown u (p ∷ ps) h = (h .0, below-reached u ps false (h .1))
 
 -- loops
-below-wider : (u v : ℕ) → u ≤ v → (ls : List Ring) → LoopsBelow u ls → LoopsBelow v ls
+pub below-wider : (u v : ℕ) → u ≤ v → (ls : List Ring) → LoopsBelow u ls → LoopsBelow v ls
 below-wider u v l [] h = tt
 below-wider u v l (p ∷ ls) h = (below-more u v l p (h .0), below-wider u v l ls (h .1))
 
@@ -96,7 +96,7 @@ below-without u [] n h = tt
 below-without u (w ∷ ws) zero h = h .1
 below-without u (w ∷ ws) (suc n) h = (h .0, below-without u ws n (h .1))
 
-below-order : (u : ℕ) (t : Bool) (l m : Ring) (ws : List Ring) → NodesBelow u l → NodesBelow u m → LoopsBelow u ws
+pub below-order : (u : ℕ) (t : Bool) (l m : Ring) (ws : List Ring) → NodesBelow u l → NodesBelow u m → LoopsBelow u ws
     → LoopsBelow u (inOrder t l m ws)
 unfolding inOrder
 below-order u true l m ws x y z = (x, (y, z))

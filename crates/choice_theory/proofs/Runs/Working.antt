@@ -15,6 +15,7 @@ use Rattle.rules.specs.Ring.{Node, Ring, vertex, reached, places}
 use Rattle.rules.specs.Table.{Side, glued, builds, marks, effect, edgeRule}
 use Rattle.rules.specs.Machine.{Machine, afterBuild, afterMark, built, declared, operation}
 use Rattle.mesh_theory.specs.Fans.Corner.{at-p, at-q, at-r, In, here, there}
+use Rattle.book.specs.Numbers.{LoopsBelow}
 use Rattle.book.specs.Shown.{shownAll}
 use Rattle.book.proofs.Parts.{buildingOf, markingOf}
 use Rattle.choice_theory.specs.Works.{Works, w-none, w-built, w-declared}
@@ -36,7 +37,7 @@ use Rattle.choice_theory.proofs.Runs.Tracking.{firstRing, shownPlaces, 
 use Rattle.choice_theory.proofs.Steps.Allowances.{OnlyStart, only-start, OnlyBorder, only-border}
 use Rattle.choice_theory.proofs.Steps.Rules.{Rules, rules-of}
 use Rattle.choice_theory.proofs.Steps.Operating.{Room, built-of, declared-of}
-use Rattle.choice_theory.proofs.Places.Below.{AllBelow, below-step, below-border}
+use Rattle.choice_theory.proofs.Places.Below.{below-step, below-border}
 
 -- a run to the machine n, from the full rings ls, and what the machine counts along it
 pub record WorkedAt (n : Machine) (P L a b u : ℕ) (B : List Triangle) (ls rims : List Ring) (os : List Operation) : Type 0 where
@@ -71,7 +72,7 @@ pub record Ready (m : Machine) (full rims : List Ring) : Type 0 where
   pub shows : m .loops ≡ shownAll full
   pub good : AllGood full
   pub low : (x y z : ℕ) → In x y z (m .triangles) → x < m .used
-  pub rings : AllBelow (m .used) full
+  pub rings : LoopsBelow (m .used) full
   pub sound : Sound (m .triangles) rims full
 
 -- an operation that builds, at the current edge
@@ -97,7 +98,7 @@ module _ (m : Machine) (e f : Node) (ps : List Node) (ws rims ls : List Ring) (o
       (λ g q. (let u = used .0 .0 .0 in rules .ruleA g .1 (u .0) (subst (λ (v : ℕ). In v (vertex e) (u .0) (m .triangles)) q (u .1))))
       (λ g q. (let u = used .0 .1 .0 .1 in rules .ruleB g .1 (u .0) (subst (λ (v : ℕ). In (vertex f) v (u .0) (m .triangles)) q (u .1))))
 
-  below : (t .r < m .used + newNumbers o) × AllBelow (m .used + newNumbers o) (lift .full)
+  below : (t .r < m .used + newNumbers o) × LoopsBelow (m .used + newNumbers o) (lift .full)
   below = below-step e f ps ws (lift .full) (t .r) (m .used) o (lift .does) (b .next) (ready .rings)
 
   count : m .used + n ≡ m .used + newNumbers o
@@ -120,7 +121,7 @@ module _ (m : Machine) (e f : Node) (ps : List Node) (ws rims ls : List Ring) (o
     shows = lift .shows;
     good = good-step e f ps ws (lift .full) (t .r) o (lift .does) (ready .good);
     low = low-next;
-    rings = subst (λ (v : ℕ). AllBelow v (lift .full)) (sym count) (below .1);
+    rings = subst (λ (v : ℕ). LoopsBelow v (lift .full)) (sym count) (below .1);
     sound =
         subst (λ (v : Triangle). Sound (v ∷ m .triangles) rims (lift .full)) (sym (b .triangle))
         (legal-step (m .triangles) e f ps ws (lift .full) rims (t .r) o (lift .does) (rules .ruleA) (rules .ruleB) (apart .0) (apart .1)
