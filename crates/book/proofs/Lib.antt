@@ -1,6 +1,7 @@
 pub mod Below
 pub mod Bounds
 pub mod Calls
+pub mod Closed
 pub mod Counting
 pub mod EdgeRule
 pub mod Effects

@@ -9,6 +9,7 @@ use mathlib.Core.Logic.{_⊎_, inl, inr}
 use mathlib.Core.Path.{_≡_, refl, sym, ap, ap₂, _∙_}
 use lib.ListN.{length, take, drop}
 use Rattle.rules.specs.Ring.{Node, opened, marked, Ring, isOpen, startOr, lastOpen, onward, reached, shown}
+use Rattle.book.proofs.Closed.{Closed, closed-snoc}
 use Rattle.book.specs.Shown.{shownAll}
 
 -- whether the last edge of a run is marked; m, if the run is empty
@@ -68,19 +69,11 @@ reached-cut us (marked v) vs (inl h) = absurd (false≢true h)
 reached-cut us (marked v) vs (inr h) =
     reached-append us (marked v ∷ vs) false ∙ ap (λ (t : Bool). reached us false ++ reached (marked v ∷ vs) t) h
 
-abbrev pub Closed : List Node → Type 0
-Closed [] = Unit {0}
-Closed (p ∷ ps) = (isOpen p ≡ false) × Closed ps
-
 closed-none : (us : List Node) → Closed us → reached us true ≡ []
 unfolding reached
 closed-none [] c = refl
 closed-none (opened v ∷ us) c = absurd (false≢true (sym (c .0)))
 closed-none (marked v ∷ us) c = closed-none us (c .1)
-
-closed-snoc : (us : List Node) (v : ℕ) → Closed us → Closed (us ++ (marked v ∷ []))
-closed-snoc [] v c = (refl, tt)
-closed-snoc (u ∷ us) v c = (c .0, closed-snoc us v (c .1))
 
 -- a run of places, then the marked place a, then marked places that are gone by
 pub around : (rs back : List Node) (a : ℕ) → Closed back

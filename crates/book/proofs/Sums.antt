@@ -6,8 +6,9 @@ use mathlib.Core.Bool.{true, false, false≢true}
 use mathlib.Core.List.{List, [], _∷_, _++_, append-nil, append-assoc}
 use mathlib.Core.Path.{_≡_, refl, ap, _∙_}
 use lib.ListN.{length, drop}
-use Rattle.rules.specs.Ring.{Node, opened, marked, Ring, vertex, isOpen, startOr, vertexAt, lastOpen, lastVertex, front, onward, loopAt}
+use Rattle.rules.specs.Ring.{Node, opened, marked, Ring, vertex, startOr, vertexAt, lastOpen, lastVertex, front, onward, loopAt}
 use Rattle.rules.specs.Ring.{without}
+use Rattle.book.proofs.Closed.{Closed, closed-snoc}
 use Rattle.book.specs.Sums.{Weight, pathSum, ringSum, loopsSum}
 
 pub start-append : (b : ℕ) (ps qs : List Node) → startOr b (ps ++ qs) ≡ startOr (startOr b qs) ps
@@ -62,31 +63,23 @@ length-without (l ∷ ws) zero h = refl
 length-without (l ∷ ws) (suc n) h = ap suc (length-without ws n (omega arith))
 
 -- where a place is marked as border, a weight of open edges is nothing
-abbrev pub Marked : List Node → Type 0
-Marked [] = Unit {0}
-Marked (p ∷ ps) = (isOpen p ≡ false) × Marked ps
-
-marked-snoc : (ps : List Node) (v : ℕ) → Marked ps → Marked (ps ++ (marked v ∷ []))
-marked-snoc [] v h = (refl, tt)
-marked-snoc (p ∷ ps) v h = (h .0, marked-snoc ps v (h .1))
-
-marked-sum : (w : Weight) → ((x y : ℕ) → w x y false ≡ 0) → (ps : List Node) (b : ℕ) → Marked ps → pathSum w ps b ≡ 0
+closed-sum : (w : Weight) → ((x y : ℕ) → w x y false ≡ 0) → (ps : List Node) (b : ℕ) → Closed ps → pathSum w ps b ≡ 0
 unfolding pathSum
-marked-sum w z [] b h = refl
-marked-sum w z (p ∷ ps) b h = rw (h .0) (omega (arith, z (vertex p) (startOr b ps), marked-sum w z ps b (h .1)))
+closed-sum w z [] b h = refl
+closed-sum w z (p ∷ ps) b h = rw (h .0) (omega (arith, z (vertex p) (startOr b ps), closed-sum w z ps b (h .1)))
 
 -- the ring from its next open edge on: what is lost is nothing, or all edges of a ring that has no open edge
 pub record Turned (w : Weight) (back ps : List Node) : Type 0 where
   pub lost : ℕ
   pub total : ringSum w (onward back ps) + lost ≡ ringSum w (back ++ ps)
-  pub no-open : ((x y : ℕ) → w x y false ≡ 0) → Marked back → lost ≡ 0
+  pub no-open : ((x y : ℕ) → w x y false ≡ 0) → Closed back → lost ≡ 0
 
 pub turned : (w : Weight) (back ps : List Node) → Turned w back ps
 unfolding onward ringSum pathSum
 turned w back [] = record {
   lost = ringSum w back;
   total = rw (append-nil back) (omega arith);
-  no-open = λ z h. marked-sum w z back (startOr 0 back) h;
+  no-open = λ z h. closed-sum w z back (startOr 0 back) h;
 }
 turned w back (opened v ∷ ps) = record {
   lost = 0;
@@ -98,5 +91,5 @@ turned w back (marked v ∷ ps) =
     record {
       lost = t .lost;
       total = t .total ∙ ap (ringSum w) (append-assoc back (marked v ∷ []) ps);
-      no-open = λ z h. t .no-open z (marked-snoc back v h);
+      no-open = λ z h. t .no-open z (closed-snoc back v h);
     }

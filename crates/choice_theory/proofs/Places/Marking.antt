@@ -10,6 +10,7 @@ use Rattle.rules.specs.declared.Operation.{Operation}
 use Rattle.rules.specs.declared.Operation.the-variants.{New, Forward, Backward, Split, Close, Union}
 use Rattle.rules.specs.Ring.{Node, opened, marked, Ring, vertex, startOr, onward}
 use Rattle.rules.specs.Table.{inOrder}
+use Rattle.book.proofs.Closed.{Closed}
 use Rattle.choice_theory.specs.Spots.{Unused}
 use Rattle.choice_theory.specs.Full.{fewer, fewerFirst}
 use Rattle.choice_theory.proofs.Turning.Turn.{rest, jump}
@@ -17,7 +18,7 @@ use Rattle.choice_theory.proofs.Places.Corners.{endOr, Along, Around, M
 use Rattle.choice_theory.proofs.Steps.Surgery.{Surgery, on-new, on-forward, on-backward, on-close, on-split, on-union}
 use Rattle.choice_theory.proofs.Places.Rings.{append-none, ring-swap}
 use Rattle.choice_theory.proofs.Places.Sites.{all-marks-split}
-use Rattle.choice_theory.proofs.Places.Onward.{Closed, Turned, onward-cases}
+use Rattle.choice_theory.proofs.Places.Onward.{Turned, onward-cases}
 
 module _ (M : List Triangle) where
   pub marks-append : (us vs : List Node) (y : ℕ) → Marks M us (startOr y vs) → Marks M vs y → Marks M (us ++ vs) y

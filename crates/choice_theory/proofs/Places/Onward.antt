@@ -2,18 +2,13 @@
 -- Assumes nothing.
 use Prim.Native.Nat.{ℕ, suc}
 use native.Mathlib.Omega.{arith}
-use mathlib.Core.Bool.{false}
 use mathlib.Core.List.{List, [], _∷_, _++_, append-assoc}
 use mathlib.Core.Path.{_≡_, refl, sym, ap, _∙_}
 use mathlib.Core.Logic.{_⊎_, inl, inr}
 use lib.ListN.{length}
-use Rattle.rules.specs.Ring.{Node, opened, marked, isOpen, onward}
+use Rattle.rules.specs.Ring.{Node, opened, marked, onward}
+use Rattle.book.proofs.Closed.{Closed}
 use Rattle.choice_theory.proofs.Places.Rings.{append-none}
-
--- no edge is open
-abbrev pub Closed : List Node → Type 0
-Closed [] = Unit {0}
-Closed (p ∷ ps) = (isOpen p ≡ false) × Closed ps
 
 -- the ring ps ++ back turned to r
 record Cut (back ps r : List Node) : Type 0 where

@@ -8,6 +8,7 @@ use mathlib.Core.Path.{_≡_, refl, sym, ap, _∙_, subst}
 use mathlib.Core.Logic.{_⊎_, inl, inr}
 use Rattle.rules.specs.declared.Triangle.{Triangle}
 use Rattle.rules.specs.Ring.{Node, opened, marked, Ring, vertex, onward}
+use Rattle.book.proofs.Closed.{Closed}
 use Rattle.mesh_theory.specs.Fans.Corner.{In}
 use Rattle.choice_theory.specs.Spots.{EdgeIn, Unused}
 use Rattle.choice_theory.specs.Full.{withRing}
@@ -17,7 +18,7 @@ use Rattle.choice_theory.proofs.Steps.Tally.{ringTally, total}
 use Rattle.choice_theory.proofs.Places.Rings.{ring-swap}
 use Rattle.choice_theory.proofs.Steps.Tallies.{tally-swap}
 use Rattle.choice_theory.proofs.Steps.Legal.{Lawful}
-use Rattle.choice_theory.proofs.Places.Onward.{Closed, Turned, onward-cases, closed-ring, turned-ring}
+use Rattle.choice_theory.proofs.Places.Onward.{Turned, onward-cases, closed-ring, turned-ring}
 use Rattle.choice_theory.proofs.Places.Marking.{marks-border}
 use Rattle.choice_theory.proofs.Runs.Traces.{marks-after}
 use Rattle.choice_theory.proofs.Steps.Triangle.{Keeps, open-edge}
