@@ -3,7 +3,7 @@
 use Prim.Native.Nat.{ℕ, _+_}
 use mathlib.Core.Bool.{Bool, true, false}
 use mathlib.Core.List.{List, [], _∷_}
-use Rattle.rules.specs.Count.{hit}
+use Rattle.rules.specs.Count.{same, hit}
 use Rattle.rules.specs.Ring.{Node, Ring, vertex, isOpen, startOr}
 
 -- a number for each edge of a loop, from its two vertices and whether it is open
@@ -34,3 +34,7 @@ markHit x y p q false = hit x y p q
 -- at how many places x→y is an open edge
 abbrev pub openEdges : ℕ → ℕ → List Ring → ℕ
 openEdges x y ls = loopsSum (openHit x y) ls
+
+-- at how many places x is: so many edges start at it
+abbrev pub placed : ℕ → List Ring → ℕ
+placed x ls = loopsSum (λ p q o. same x p) ls

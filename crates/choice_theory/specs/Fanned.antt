@@ -11,12 +11,8 @@ use Rattle.rules.specs.Fan.{about}
 use Rattle.rules.specs.Ring.{Ring}
 use Rattle.rules.specs.Machine.{Machine}
 use Rattle.mesh_theory.specs.Fans.Ways.{Chained}
-use Rattle.book.specs.Sums.{Weight, loopsSum, openEdges}
+use Rattle.book.specs.Sums.{Weight, loopsSum, openEdges, placed}
 use Rattle.book.specs.Consistent.{AllCurrent}
-
--- how many places v has in the loops: so many of their edges start at v
-abbrev pub placesOf : ℕ → List Ring → ℕ
-placesOf v ls = loopsSum (λ x y o. same v x) ls
 
 -- 1 for an open edge that comes to v, 1 for one that leaves it, else 0
 abbrev pub inHit : ℕ → Weight
@@ -45,7 +41,7 @@ pub record OneChain (v : ℕ) (ls : List Ring) (ts : List Triangle) : Type 0 whe
 
 -- v has no number yet: it is in no loop and in no triangle
 pub record Unnumbered (v : ℕ) (ls : List Ring) (ts : List Triangle) : Type 0 where
-  pub no-place : placesOf v ls ≡ 0
+  pub no-place : placed v ls ≡ 0
   pub no-triangle : about v ts ≡ []
 
 -- each vertex of the machine is, but for those that `met` says are met

@@ -10,9 +10,8 @@ use lib.Dec.{eqb}
 use borrow.Author.Tests.{eqb-true, eqb-false}
 use Rattle.rules.specs.Count.{same}
 use Rattle.rules.specs.Ring.{Node, Ring, vertex, startOr, places}
-use Rattle.book.specs.Sums.{pathSum, ringSum, loopsSum}
+use Rattle.book.specs.Sums.{pathSum, ringSum, loopsSum, placed}
 use Rattle.book.specs.Below.{sumBelow}
-use Rattle.border_theory.specs.Links.Held.{placed}
 use Rattle.border_theory.proofs.Links.Stores.{freeBelow, Free}
 use Rattle.counting.proofs.Counts.{same-no, same-once}
 

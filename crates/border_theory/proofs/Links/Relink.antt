@@ -12,8 +12,8 @@ use lib.Dec.{eqb}
 use borrow.Author.Tests.{eqb-true, eqb-false}
 use Rattle.rules.specs.Count.{num, same}
 use Rattle.rules.specs.Ring.{Node, Ring, vertex, isOpen, startOr}
-use Rattle.book.specs.Sums.{Weight, pathSum, ringSum, loopsSum}
-use Rattle.border_theory.specs.Links.Held.{Memory, Link, Arc, arcHit, arcs, Holds, placed}
+use Rattle.book.specs.Sums.{Weight, pathSum, ringSum, loopsSum, placed}
+use Rattle.border_theory.specs.Links.Held.{Memory, Link, Arc, arcHit, arcs, Holds}
 use Rattle.counting.proofs.Counts.{same-no, hit-yes, hit-from, hit-to}
 
 -- a memory of n places

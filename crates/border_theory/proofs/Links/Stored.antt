@@ -11,10 +11,10 @@ use Rattle.rules.specs.declared.Operation.the-variants.{New, Forward, Backward,
 use Rattle.rules.specs.Count.{same}
 use Rattle.rules.specs.Ring.{Node, opened, marked, Ring, vertex, isOpen, startOr, vertexAt, lastOpen, lastVertex, front, onward, loopAt}
 use Rattle.rules.specs.Ring.{without}
-use Rattle.book.specs.Sums.{Weight, pathSum, ringSum, loopsSum}
+use Rattle.book.specs.Sums.{Weight, pathSum, ringSum, loopsSum, placed}
 use Rattle.book.proofs.Sums.{start-append, sum-append, sum-turn, front-last, start-drop, sum-without, turned}
 use Rattle.book.proofs.Effects.{at-path}
-use Rattle.border_theory.specs.Links.Held.{Memory, arc, Holds, placed}
+use Rattle.border_theory.specs.Links.Held.{Memory, arc, Holds}
 use Rattle.rules.specs.Places.{alive}
 use Rattle.border_theory.proofs.Links.Stores.{placesAfter, stores, Takes, Fits}
 use Rattle.border_theory.proofs.Links.Relink.{Long, Apart, stored, long-stored}

@@ -13,7 +13,8 @@ use Rattle.rules.specs.Ring.{Node, opened, marked, Ring, isOpen, startOr, verte
 use Rattle.rules.specs.Ring.{without}
 use Rattle.rules.specs.Table.{Effect, not-allowed, builds, marks, shorterFirst}
 use Rattle.rules.specs.Places.{alive}
-use Rattle.border_theory.specs.Links.Held.{Arc, arc, placed}
+use Rattle.book.specs.Sums.{placed}
+use Rattle.border_theory.specs.Links.Held.{Arc, arc}
 
 -- the rings of places after an operation that is allowed at a live loop; a start never is. At a border these are the rings when its
 -- edge is marked, before the places leave that no open edge enters or leaves

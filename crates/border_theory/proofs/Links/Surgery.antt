@@ -10,10 +10,10 @@ use borrow.Author.Tests.{eqb-true, eqb-false}
 use Rattle.rules.specs.Count.{same}
 use Rattle.rules.specs.Ring.{Node, opened, marked, Ring, vertex, startOr, lastOpen, lastVertex}
 use Rattle.rules.specs.Table.{inOrder}
-use Rattle.book.specs.Sums.{Weight, pathSum, ringSum, loopsSum}
+use Rattle.book.specs.Sums.{Weight, pathSum, ringSum, loopsSum, placed}
 use Rattle.book.proofs.Sums.{start-append, sum-append}
 use Rattle.book.proofs.Effects.{sum-order}
-use Rattle.border_theory.specs.Links.Held.{Memory, arc, arcHit, Holds, placed}
+use Rattle.border_theory.specs.Links.Held.{Memory, arc, arcHit, Holds}
 use Rattle.border_theory.proofs.Links.Relink.{Long, among, Apart, stored, arc-yes, relink}
 use Rattle.counting.proofs.Counts.{same-yes, same-no, same-two}
 

@@ -10,8 +10,7 @@ use Rattle.rules.specs.declared.Operation.{Operation}
 use Rattle.rules.specs.declared.Operation.the-variants.{New, Forward, Backward, Border, Split, Close, Union, Start}
 use Rattle.rules.specs.Count.{same}
 use Rattle.rules.specs.Ring.{Node, Ring, vertex, startOr, loopAt}
-use Rattle.book.specs.Sums.{pathSum, ringSum, loopsSum}
-use Rattle.border_theory.specs.Links.Held.{placed}
+use Rattle.book.specs.Sums.{pathSum, ringSum, loopsSum, placed}
 use Rattle.cutborder.specs.declared.Loops.{Loops}
 use Rattle.border_theory.specs.Memory.Layout.{at, beforeOf, afterOf, walked}
 use Rattle.border_theory.specs.Memory.Stands.{StandsAt}

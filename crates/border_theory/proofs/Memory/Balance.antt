@@ -10,7 +10,8 @@ use Rattle.rules.specs.declared.Operation.{Operation}
 use Rattle.rules.specs.declared.Operation.the-variants.{New, Forward, Backward, Border, Split, Close, Union, Start}
 use Rattle.rules.specs.Count.{occurs}
 use Rattle.rules.specs.Ring.{Ring}
-use Rattle.border_theory.specs.Links.Held.{arc, placed}
+use Rattle.book.specs.Sums.{placed}
+use Rattle.border_theory.specs.Links.Held.{arc}
 use Rattle.cutborder.specs.declared.Loops.{Loops}
 use Rattle.border_theory.specs.Memory.Layout.{at, beforeOf, afterOf, openOf, edgesStored, stacked}
 use Rattle.border_theory.specs.Memory.Stands.{StandsAt}

@@ -10,11 +10,11 @@ use lib.Seq.{getD-set-other}
 use lib.Dec.{eqb}
 use Rattle.rules.specs.Count.{num, same}
 use Rattle.rules.specs.Ring.{Node, opened, marked, Ring, startOr, lastOpen, lastVertex, front, places}
-use Rattle.book.specs.Sums.{pathSum, ringSum, loopsSum}
+use Rattle.book.specs.Sums.{pathSum, ringSum, loopsSum, placed}
 use Rattle.book.specs.Consistent.{AllCurrent}
 use Rattle.book.proofs.Sums.{start-append, sum-append}
 use Rattle.book.proofs.Spaced.{spaced-any, spaced-front}
-use Rattle.border_theory.specs.Links.Held.{Memory, Arc, arc, Holds, placed}
+use Rattle.border_theory.specs.Links.Held.{Memory, Arc, arc, Holds}
 use Rattle.border_theory.proofs.Links.Relink.{Apart, stored}
 use Rattle.border_theory.proofs.Links.Stores.{cutNext}
 use Rattle.border_theory.proofs.Links.Surgery.{do-forward, do-cut}

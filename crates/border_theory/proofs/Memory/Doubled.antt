@@ -11,7 +11,8 @@ use Rattle.rules.specs.Count.{num}
 use Rattle.rules.specs.Ring.{Node, opened, Ring, vertex, isOpen, startOr, vertexAt, lastOpen, lastVertex}
 use Rattle.rules.specs.Table.{Effect, allowed}
 use Rattle.book.proofs.Sums.{start-append, start-drop}
-use Rattle.border_theory.specs.Links.Held.{Arc, arc, placed}
+use Rattle.book.specs.Sums.{placed}
+use Rattle.border_theory.specs.Links.Held.{Arc, arc}
 use Rattle.border_theory.proofs.Links.Relink.{stored}
 use Rattle.cutborder.specs.declared.Loops.{Loops}
 use Rattle.border_theory.specs.Memory.Layout.{at, vertexOf, beforeOf, afterOf, openOf, verticesOf, linksOf, edgesStored}

@@ -13,10 +13,10 @@ use Rattle.rules.specs.declared.Operation.the-variants.{Border, Close}
 use Rattle.rules.specs.Count.{num, same}
 use Rattle.rules.specs.Ring.{Node, opened, marked, Ring, vertex, isOpen, startOr, onward, places}
 use Rattle.rules.specs.Table.{Effect}
-use Rattle.book.specs.Sums.{Weight, pathSum, ringSum, loopsSum}
+use Rattle.book.specs.Sums.{Weight, pathSum, ringSum, loopsSum, placed}
 use Rattle.book.specs.Consistent.{AllCurrent}
 use Rattle.book.proofs.Sums.{sum-append, start-append}
-use Rattle.border_theory.specs.Links.Held.{Memory, Arc, arc, Holds, placed, namedLoops}
+use Rattle.border_theory.specs.Links.Held.{Memory, Arc, arc, Holds, namedLoops}
 use Rattle.border_theory.proofs.Links.Relink.{stored}
 use Rattle.rules.specs.Places.{alive}
 use Rattle.border_theory.proofs.Links.Stores.{placesAfter, stores, verticesAfter, HasLoops, OpenNext}

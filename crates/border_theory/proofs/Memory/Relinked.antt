@@ -15,7 +15,8 @@ use Rattle.rules.specs.Ring.{Node, opened, Ring}
 use Rattle.rules.specs.Table.{Effect, not-allowed, builds, marks, atEdge, effect}
 use Rattle.book.specs.Consistent.{AllCurrent}
 use Rattle.book.proofs.Effects.{Law, effect-law}
-use Rattle.border_theory.specs.Links.Held.{Memory, Holds, placed, namedRing, namedLoops}
+use Rattle.book.specs.Sums.{placed}
+use Rattle.border_theory.specs.Links.Held.{Memory, Holds, namedRing, namedLoops}
 use Rattle.border_theory.proofs.Links.Relink.{stored}
 use Rattle.border_theory.proofs.Links.Stores.{placesAfter, stores, verticesAfter, HasLoops, Takes, Whole, Fits}
 use Rattle.border_theory.proofs.Links.Stored.{held}

@@ -11,9 +11,9 @@ use Rattle.rules.specs.declared.Operation.{Operation}
 use Rattle.rules.specs.declared.Operation.the-variants.{New, Forward, Backward}
 use Rattle.rules.specs.Count.{same}
 use Rattle.rules.specs.Ring.{Node, opened, Ring, startOr, vertexAt, lastOpen, lastVertex, front, places}
-use Rattle.book.specs.Sums.{pathSum, ringSum, loopsSum}
+use Rattle.book.specs.Sums.{pathSum, ringSum, loopsSum, placed}
 use Rattle.book.proofs.Sums.{sum-append, front-last}
-use Rattle.border_theory.specs.Links.Held.{Arc, arc, placed}
+use Rattle.border_theory.specs.Links.Held.{Arc, arc}
 use Rattle.border_theory.proofs.Links.Relink.{stored}
 use Rattle.border_theory.proofs.Links.Stores.{placesAfter, stores, verticesAfter, Takes, Whole}
 use Rattle.cutborder.specs.declared.Loops.{Loops}

@@ -12,10 +12,9 @@ use Rattle.rules.specs.declared.Operation.the-variants.{Split}
 use Rattle.rules.specs.Count.{same}
 use Rattle.rules.specs.Ring.{Node, opened, Ring, startOr, vertexAt, lastOpen, lastVertex}
 use Rattle.rules.specs.Table.{inOrder}
-use Rattle.book.specs.Sums.{pathSum, ringSum, loopsSum}
+use Rattle.book.specs.Sums.{pathSum, ringSum, loopsSum, placed}
 use Rattle.book.proofs.Sums.{sum-append}
 use Rattle.book.proofs.Effects.{sum-order}
-use Rattle.border_theory.specs.Links.Held.{placed}
 use Rattle.border_theory.proofs.Links.Stores.{placesAfter, stores, verticesAfter}
 use Rattle.border_theory.proofs.Links.Surgery.{end-free}
 use Rattle.cutborder.specs.declared.Loops.{Loops}

@@ -10,8 +10,8 @@ use lib.Dec.{ltb}
 use borrow.Author.Tests.{ltb-true}
 use Rattle.rules.specs.Count.{num, same}
 use Rattle.rules.specs.Ring.{Node, Ring, vertex, isOpen, startOr, vertexAt, lastOpen, lastVertex, loopAt}
-use Rattle.book.specs.Sums.{pathSum, ringSum, loopsSum}
-use Rattle.border_theory.specs.Links.Held.{Memory, Link, arcHit, read, Holds, placed}
+use Rattle.book.specs.Sums.{pathSum, ringSum, loopsSum, placed}
+use Rattle.border_theory.specs.Links.Held.{Memory, Link, arcHit, read, Holds}
 use Rattle.border_theory.proofs.Links.Relink.{Apart, arc-yes}
 use Rattle.border_theory.proofs.Links.Read.{read-loop, holds-rest}
 use Rattle.cutborder.specs.declared.Loops.{Loops}

@@ -11,7 +11,7 @@ use Rattle.rules.specs.declared.Operation.the-variants.{New, Forward, Backward,
 use Rattle.rules.specs.Ring.{Ring}
 use Rattle.rules.specs.Machine.{Machine}
 use Rattle.book.specs.Consistent.{Ranges}
-use Rattle.border_theory.specs.Links.Held.{placed}
+use Rattle.book.specs.Sums.{placed}
 use Rattle.cutborder.specs.declared.Loops.{Loops}
 use Rattle.cutborder.specs.declared.Front.{Front}
 use Rattle.cutborder.specs.declared.Plan.{Plan}

@@ -12,9 +12,9 @@ use Rattle.rules.specs.declared.Operation.the-variants.{Union}
 use Rattle.rules.specs.Count.{same}
 use Rattle.rules.specs.Ring.{Node, opened, Ring, startOr, vertexAt, lastOpen, lastVertex, loopAt, without}
 use Rattle.rules.specs.Table.{atEdge}
-use Rattle.book.specs.Sums.{pathSum, ringSum, loopsSum}
+use Rattle.book.specs.Sums.{pathSum, ringSum, loopsSum, placed}
 use Rattle.book.proofs.Sums.{sum-append, sum-turn, sum-without, length-without}
-use Rattle.border_theory.specs.Links.Held.{placed, namedLoops}
+use Rattle.border_theory.specs.Links.Held.{namedLoops}
 use Rattle.border_theory.proofs.Links.Stores.{placesAfter, stores, verticesAfter}
 use Rattle.border_theory.proofs.Links.Named.{named-lives}
 use Rattle.border_theory.proofs.Links.Surgery.{end-free}

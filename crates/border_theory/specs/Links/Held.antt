@@ -6,7 +6,7 @@ use mathlib.Core.Bool.{Bool, true, false}
 use mathlib.Core.List.{List, [], _∷_}
 use mathlib.Core.Path.{_≡_}
 use lib.ListN.{getD}
-use Rattle.rules.specs.Count.{num, same}
+use Rattle.rules.specs.Count.{num}
 use Rattle.rules.specs.Ring.{Node, opened, marked, Ring}
 use Rattle.book.specs.Sums.{Weight, loopsSum, openHit, markHit}
 
@@ -42,10 +42,6 @@ arcs x y o ls = loopsSum (arcHit x y o) ls
 -- the memory holds the loops: each of their edges is recorded
 abbrev pub Holds : Memory → List Ring → Type 0
 Holds m ls = (x y : ℕ) (o : Bool) → 1 ≤ arcs x y o ls → Link m x y o
-
--- how often place x is in the loops
-abbrev pub placed : ℕ → List Ring → ℕ
-placed x ls = loopsSum (λ p q o. same x p) ls
 
 -- k places read off from place x on, by following the links
 abbrev pub nodeFrom : ℕ → ℕ → Node

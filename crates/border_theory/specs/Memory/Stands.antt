@@ -8,7 +8,8 @@ use lib.Dec.{ltb}
 use Rattle.rules.specs.Count.{num}
 use Rattle.rules.specs.Ring.{Ring, startOr}
 use Rattle.book.specs.Consistent.{AllCurrent}
-use Rattle.border_theory.specs.Links.Held.{read, Holds, placed, namedLoops}
+use Rattle.book.specs.Sums.{placed}
+use Rattle.border_theory.specs.Links.Held.{read, Holds, namedLoops}
 use Rattle.cutborder.specs.declared.Loops.{Loops}
 use Rattle.border_theory.specs.Memory.Layout.{at, verticesOf, linksOf, stacked}
 

@@ -12,8 +12,8 @@ use Rattle.cutborder.specs.declared.Touched.{Touched}
 use Rattle.border_theory.specs.Memory.Layout.{at, beforeOf, afterOf}
 use Rattle.rules.specs.Count.{occurs}
 use Rattle.rules.specs.Places.{ringsAfter}
+use Rattle.book.specs.Sums.{placed}
 use Rattle.border_theory.specs.Records.Plain.{coreSize}
-use Rattle.border_theory.specs.Links.Held.{placed}
 use Rattle.border_theory.specs.Memory.Stands.{ringsIn}
 use Rattle.border_theory.specs.Memory.Moves.{Held, topFree}
 

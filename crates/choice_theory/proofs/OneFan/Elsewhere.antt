@@ -11,10 +11,10 @@ use Rattle.rules.specs.Count.{same, hit}
 use Rattle.rules.specs.Fan.{about}
 use Rattle.rules.specs.Ring.{Ring}
 use Rattle.rules.specs.Table.{Side}
-use Rattle.book.specs.Sums.{openHit, openEdges}
+use Rattle.book.specs.Sums.{openHit, openEdges, placed}
 use Rattle.book.proofs.Counting.{if-fresh-le}
 use Rattle.book.proofs.Effects.{At, Corners, none, third, three, Builds, Marks}
-use Rattle.choice_theory.specs.Fanned.{placesOf, inHit, outHit, comesTo, leavesFrom, OneChain, Unnumbered}
+use Rattle.choice_theory.specs.Fanned.{inHit, outHit, comesTo, leavesFrom, OneChain, Unnumbered}
 use Rattle.choice_theory.proofs.OneFan.Leading.{Leads, leads-chained, chained-leads}
 use Rattle.counting.proofs.Counts.{same-yes, same-no, hit-from, hit-to}
 
@@ -24,7 +24,7 @@ pub record Fewer (v : ℕ) (ls ls′ : List Ring) : Type 0 where
   pub leaves : (y : ℕ) → openEdges v y ls′ ≤ openEdges v y ls
   pub ins : comesTo v ls′ ≤ comesTo v ls
   pub outs : leavesFrom v ls′ ≤ leavesFrom v ls
-  pub places : placesOf v ls′ ≤ placesOf v ls
+  pub places : placed v ls′ ≤ placed v ls
 
 pub chain-stays : (v : ℕ) (ls ls′ : List Ring) (ts ts′ : List Triangle) → Fewer v ls ls′ → about v ts′ ≡ about v ts → OneChain v ls ts
     → OneChain v ls′ ts′
@@ -114,10 +114,10 @@ fewer-marked v ls ls′ d rim l = record {
 }
 
 -- a vertex that has no number after the triangle is no corner of it
-differs : (v x : ℕ) (ls : List Ring) → placesOf v ls ≡ 0 → At ls x → v ≡ x → ⊥
+differs : (v x : ℕ) (ls : List Ring) → placed v ls ≡ 0 → At ls x → v ≡ x → ⊥
 differs v x ls z a e = omega (arith, z, a (same v), subst (λ (y : ℕ). same v y ≡ 1) e (same-yes v))
 
-pub outside : (v u n p q r : ℕ) (ls : List Ring) → Corners ls u n p q r → placesOf v ls ≡ 0 → u + n ≤ v → Outside v p q r
+pub outside : (v u n p q r : ℕ) (ls : List Ring) → Corners ls u n p q r → placed v ls ≡ 0 → u + n ≤ v → Outside v p q r
 outside v u n p q r ls (none a b c) z h = record { not-p = differs v p ls z a; not-q = differs v q ls z b; not-r = differs v r ls z c }
 outside v u n p q r ls (third a b) z h = record { not-p = differs v p ls z a; not-q = differs v q ls z b; not-r = λ e. omega arith }
 outside v u n p q r ls three z h = record { not-p = λ e. omega arith; not-q = λ e. omega arith; not-r = λ e. omega arith }

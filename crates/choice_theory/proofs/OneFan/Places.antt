@@ -9,8 +9,8 @@ use lib.Dec.{eqb}
 use borrow.Author.Tests.{eqb-true, eqb-false}
 use Rattle.rules.specs.Count.{same, hit}
 use Rattle.rules.specs.Ring.{Node, Ring, vertex, isOpen, startOr}
-use Rattle.book.specs.Sums.{Weight, pathSum, ringSum, loopsSum, openHit, openEdges}
-use Rattle.choice_theory.specs.Fanned.{placesOf, inHit, outHit, comesTo, leavesFrom}
+use Rattle.book.specs.Sums.{Weight, pathSum, ringSum, loopsSum, openHit, openEdges, placed}
+use Rattle.choice_theory.specs.Fanned.{inHit, outHit, comesTo, leavesFrom}
 use Rattle.counting.proofs.Counts.{hit-from, hit-swap, hit-to, hit-is}
 
 -- two weights that together are no more than a third: so are their sums
@@ -40,7 +40,7 @@ unfolding ringSum pathSum
 ring-ends v [] = refl
 ring-ends v (p ∷ ps) = omega (arith, path-ends v (p ∷ ps) (vertex p))
 
-ends-places : (v : ℕ) (ls : List Ring) → endsAt v ls ≡ placesOf v ls
+ends-places : (v : ℕ) (ls : List Ring) → endsAt v ls ≡ placed v ls
 unfolding loopsSum
 ends-places v [] = refl
 ends-places v (l ∷ ls) = omega (arith, ring-ends v l, ends-places v ls)
@@ -60,14 +60,14 @@ comes-one x v ls = omega (arith, sum-two (λ p q o. 0) (openHit x v) (inHit v) w
     within p q true = omega (arith, hit-to x v p q)
     within p q false = omega arith
 
-pub out-places : (v : ℕ) (ls : List Ring) → leavesFrom v ls ≤ placesOf v ls
+pub out-places : (v : ℕ) (ls : List Ring) → leavesFrom v ls ≤ placed v ls
 out-places v ls = omega (arith, sum-two (λ p q o. 0) (outHit v) (λ p q o. same v p) within ls)
   where
     within : (p q : ℕ) (o : Bool) → 0 + outHit v p q o ≤ same v p
     within p q true = omega arith
     within p q false = omega arith
 
-pub in-places : (v : ℕ) (ls : List Ring) → comesTo v ls ≤ placesOf v ls
+pub in-places : (v : ℕ) (ls : List Ring) → comesTo v ls ≤ placed v ls
 in-places v ls = omega (arith, ends-places v ls, sum-two (λ p q o. 0) (inHit v) (λ p q o. same v q) within ls)
   where
     within : (p q : ℕ) (o : Bool) → 0 + inHit v p q o ≤ same v q

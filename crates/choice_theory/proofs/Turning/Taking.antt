@@ -5,6 +5,7 @@ use mathlib.Core.List.{List, _∷_}
 use mathlib.Core.Path.{_≡_, sym, _∙_, subst}
 use mathlib.Core.Logic.{_⊎_, inl, inr}
 use Rattle.rules.specs.declared.Triangle.{Triangle}
+use Rattle.rules.specs.Triangle.{tri}
 use Rattle.rules.specs.Ring.{Ring}
 use Rattle.mesh_theory.specs.Fans.Corner.{Rot, at-p, at-q, at-r, In, here, there, Once}
 use Rattle.choice_theory.specs.Spots.{Unused}
@@ -13,9 +14,6 @@ use Rattle.choice_theory.proofs.Turning.Links.{in-last, free-rot, turn-
 use Rattle.choice_theory.proofs.Places.Rings.{rings-map}
 use Rattle.choice_theory.proofs.Turning.Ways.{others, others-sub, others-once, others-free}
 use Rattle.choice_theory.proofs.Steps.Triangle.{Keeps}
-
-abbrev pub tri : ℕ → ℕ → ℕ → Triangle
-tri x y z = record { p = x; q = y; r = z }
 
 -- none of its edges is used by the others
 pub free-1 : {x y z : ℕ} (ts : List Triangle) (i : In x y z ts) → Once ts → Unused x y (others i)

@@ -19,7 +19,8 @@ use Rattle.rules.specs.Build.{viewed}
 use Rattle.rules.specs.View.{placeRings, placesOf, loopsOf, view}
 use Rattle.rules.specs.Sound.{countsFit, sumsFit, linksFit, trianglesFit, sound}
 use Rattle.book.specs.Consistent.{AllCurrent}
-use Rattle.border_theory.specs.Links.Held.{Memory, Holds, placed, namedLoops}
+use Rattle.book.specs.Sums.{placed}
+use Rattle.border_theory.specs.Links.Held.{Memory, Holds, namedLoops}
 use Rattle.border_theory.specs.Records.Plain.{records}
 use Rattle.border_theory.proofs.Records.Reading.{length-records}
 use Rattle.cutborder.specs.declared.Loops.{Loops}

@@ -17,8 +17,8 @@ use Rattle.rules.specs.Check.{allBelow}
 use Rattle.rules.specs.Ring.{Ring, vertex, isOpen, startOr}
 use Rattle.rules.specs.View.{placeAt, follow, followed, loopPlaces, placesOf, loopsOf}
 use Rattle.rules.specs.Sound.{placeFits, placesFit, loopFits, loopsFit}
-use Rattle.book.specs.Sums.{Weight, pathSum, ringSum, loopsSum}
-use Rattle.border_theory.specs.Links.Held.{Memory, Link, arcHit, Holds, placed, nodeFrom, read, namedLoops}
+use Rattle.book.specs.Sums.{Weight, pathSum, ringSum, loopsSum, placed}
+use Rattle.border_theory.specs.Links.Held.{Memory, Link, arcHit, Holds, nodeFrom, read, namedLoops}
 use Rattle.border_theory.specs.Records.Plain.{isOne, records}
 use Rattle.border_theory.specs.Memory.Layout.{openOf, column, verticesOf, linksOf}
 use Rattle.border_theory.proofs.Memory.Columns.{column-at, column-length}

@@ -17,7 +17,7 @@ use Rattle.rules.specs.Limits.{maxPlaces}
 use Rattle.rules.specs.Count.{same, occurs}
 use Rattle.rules.specs.Places.{ringsAfter}
 use Rattle.rules.specs.View.{placeAt}
-use Rattle.border_theory.specs.Links.Held.{placed}
+use Rattle.book.specs.Sums.{placed}
 use Rattle.border_theory.specs.Records.Plain.{isOne, records}
 use Rattle.cutborder.specs.declared.Loops.{Loops}
 use Rattle.border_theory.specs.Memory.Layout.{at}

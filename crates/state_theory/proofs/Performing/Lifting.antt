@@ -23,7 +23,7 @@ use Rattle.rules.specs.Buffer.{freePlace, Buffers, lengths}
 use Rattle.rules.specs.View.{placeAt, placesOf}
 use Rattle.rules.specs.Sound.{countsFit, apart, placesFit, loopsFit, linksFit, trianglesFit, sound, soundElse}
 use Rattle.rules.specs.Build.{viewed, operates, finishes, withTriangle, Leaves, OperatedBy}
-use Rattle.border_theory.specs.Links.Held.{placed}
+use Rattle.book.specs.Sums.{placed}
 use Rattle.border_theory.specs.Records.Plain.{records}
 use Rattle.border_theory.specs.Records.Notes.{linkedPlace, freedPlace, linkedTo, freedTo, Linkable, Freeable}
 use Rattle.state_theory.specs.Performing.Noted.{linkedPart, freedPart, toLink, toFree}

@@ -9,7 +9,7 @@ use Rattle.rules.specs.declared.Builder.{Builder}
 use Rattle.rules.specs.Count.{occurs}
 use Rattle.rules.specs.Ring.{Node, opened, marked, vertex, isOpen}
 use Rattle.rules.specs.View.{placeAt, placeNodes, placeRings, loopPlaces, placesOf}
-use Rattle.border_theory.specs.Links.Held.{placed}
+use Rattle.book.specs.Sums.{placed}
 use Rattle.border_theory.specs.Records.Plain.{records}
 use Rattle.border_theory.proofs.Memory.Standing.{Trail}
 use Rattle.state_theory.proofs.Reading.Walked.{ringPlaces, ringsPlaces}

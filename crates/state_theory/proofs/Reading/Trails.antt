@@ -14,11 +14,11 @@ use Rattle.rules.specs.Ring.{Node, opened, marked, Ring, vertex, isOpen, firstO
 use Rattle.rules.specs.Check.{allBelow}
 use Rattle.rules.specs.View.{placeAt, follow, followed, nodeOf, nodes}
 use Rattle.rules.specs.Sound.{apart, placeFits, placesFit}
-use Rattle.book.specs.Sums.{pathSum, ringSum, loopsSum}
+use Rattle.book.specs.Sums.{pathSum, ringSum, loopsSum, placed}
 use Rattle.book.specs.Numbers.{NodesBelow, LoopsBelow}
 use Rattle.book.specs.Spaced.{Spaced}
 use Rattle.book.specs.Consistent.{AllCurrent}
-use Rattle.border_theory.specs.Links.Held.{nodeFrom, named, namedRing, namedLoops, placed}
+use Rattle.border_theory.specs.Links.Held.{nodeFrom, named, namedRing, namedLoops}
 use Rattle.border_theory.proofs.Links.Relink.{Apart}
 use Rattle.border_theory.proofs.Links.Named.{named-vertex}
 use Rattle.border_theory.specs.Records.Plain.{isOne, records}

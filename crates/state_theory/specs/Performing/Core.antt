@@ -21,7 +21,7 @@ use Rattle.rules.specs.Book.{answerOf}
 use Rattle.rules.specs.View.{placeAt, placeRings}
 use Rattle.rules.specs.Sound.{soundElse}
 use Rattle.rules.specs.Build.{viewed, operates, withTriangle}
-use Rattle.border_theory.specs.Links.Held.{placed}
+use Rattle.book.specs.Sums.{placed}
 use Rattle.border_theory.specs.Records.Plain.{records, coreSize}
 use Rattle.state_theory.specs.Performing.Noted.{toLink, toFree}
 use Rattle.cutborder.specs.declared.Front.{Front}
