@@ -5,8 +5,8 @@ use mathlib.Core.List.{List}
 use mathlib.Core.Path.{_≡_}
 use Rattle.rules.specs.declared.Triangle.{Triangle}
 use Rattle.rules.specs.Ring.{Ring}
-pub use Rattle.rules.specs.Right.{EdgeIn, OpenAt}
-use Rattle.mesh_theory.specs.Fans.Corner.{Free}
+use Rattle.rules.specs.Triangle.{Free}
+use Rattle.rules.specs.Right.{OpenAt}
 
 -- the directed edge x→y is not used
 abbrev pub Unused : ℕ → ℕ → List Triangle → Type 0

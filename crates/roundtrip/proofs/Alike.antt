@@ -19,7 +19,8 @@ use Rattle.rules.specs.Table.{Effect, not-allowed, builds, marks, atEdge}
 use Rattle.rules.specs.Choice.{Packing, has, dropTriangle, turnIn, turnOut, nowhere, spot, spotOf, operationFor, sizeOf, following}
 use Rattle.rules.specs.Choice.{choosePlace, Next, ended, refuses, takes, limited, choose, afterCurrent}
 use Rattle.rules.specs.Pack.{Chosen, stopped, chosen, cons, chooseAll}
-use Rattle.mesh_theory.specs.Fans.Corner.{at-p, at-q, at-r, In, here, there, Once}
+use Rattle.rules.specs.Triangle.{at-p, at-q, at-r, In, here, there}
+use Rattle.mesh_theory.specs.Fans.Corner.{Once}
 use Rattle.mesh_theory.proofs.Fans.Corners.{in-next}
 use Rattle.choice_theory.specs.Spots.{Unused}
 use Rattle.choice_theory.proofs.Turning.Links.{in-last, free-rot}

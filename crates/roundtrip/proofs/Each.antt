@@ -10,13 +10,13 @@ use lib.ListN.{length, take, drop, getD}
 use lib.Seq.{take-at}
 use Rattle.rules.specs.declared.Triangle.{Triangle}
 use Rattle.rules.specs.declared.Operation.{Operation}
-use Rattle.rules.specs.Triangle.{trianglesOf}
+use Rattle.rules.specs.Triangle.{trianglesOf, In}
 use Rattle.rules.specs.Machine.{totals}
 use Rattle.rules.specs.Choice.{Packing, has}
 use Rattle.rules.specs.Pack.{most, nothingBuilt, packOf, indexOf, newNumbers, PackBuffers, PackResult, pack}
 use Rattle.rules.specs.Buffer.{Buffers}
 use Rattle.rules.specs.Unpack.{numbersOf, UnpackResult, unpackDone, unpack}
-use Rattle.mesh_theory.specs.Fans.Corner.{In, Once}
+use Rattle.mesh_theory.specs.Fans.Corner.{Once}
 use Rattle.choice_theory.proofs.Steps.Choosing.{onto}
 use Rattle.choice_theory.proofs.Places.Numbering.{Met}
 use Rattle.choice_theory.proofs.Runs.Following.{run-length}

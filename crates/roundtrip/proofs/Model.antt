@@ -9,10 +9,9 @@ use lib.ListN.{length}
 use lib.Dec.{eqb}
 use borrow.Author.Tests.{eqb-true, eqb-false}
 use Rattle.rules.specs.declared.Triangle.{Triangle}
-use Rattle.rules.specs.Triangle.{trianglesOf}
+use Rattle.rules.specs.Triangle.{trianglesOf, In}
 use Rattle.rules.specs.Pack.{most, PackResult}
 use Rattle.rules.specs.Unpack.{UnpackResult}
-use Rattle.mesh_theory.specs.Fans.Corner.{In}
 use Rattle.choice_theory.proofs.Runs.Accepted.{accepted-packable}
 use Rattle.roundtrip.specs.Run.{buildOrder}
 use Rattle.roundtrip.specs.Claims.{renumbered, Rearranged, OneToOne, written, newNumber, EachOnce, SameTriangles}

@@ -8,11 +8,10 @@ use lib.ListN.{length}
 use Rattle.rules.specs.declared.Triangle.{Triangle}
 use Rattle.rules.specs.Ring.{Node, Ring, vertex}
 use Rattle.rules.specs.Choice.{turnIn, turnOut, sizeOf, following}
-use Rattle.mesh_theory.specs.Fans.Corner.{Rot, at-p, In, here, there}
 use Rattle.rules.specs.Fan.{Neighbours}
 use Rattle.book.specs.Shown.{shownAll}
 use Rattle.book.proofs.Shown.{Live}
-use Rattle.choice_theory.specs.Spots.{OpenAt, Unused, Unique}
+use Rattle.choice_theory.specs.Spots.{Unused, Unique}
 use Rattle.choice_theory.proofs.Places.Spots.{Site, seat}
 use Rattle.choice_theory.proofs.Steps.Surgery.{triangleAt}
 use Rattle.mesh_theory.proofs.Fans.Corners.{rot-next}
@@ -26,7 +25,8 @@ use Rattle.choice_theory.proofs.Turning.Choice.{open-enter, open-leave}
 use Rattle.choice_theory.proofs.Places.Showing.{open-full, unique-shown}
 use Rattle.choice_theory.proofs.Runs.Canonical.{State, shown-used}
 use Rattle.choice_theory.proofs.Steps.Choice.{Packs}
-use Rattle.rules.specs.Right.{Links, stop, link, RightPlace, by-entering, by-leaving}
+use Rattle.rules.specs.Right.{Links, stop, link, RightPlace, by-entering, by-leaving, OpenAt}
+use Rattle.rules.specs.Triangle.{Rot, at-p, In, here, there}
 
 pub links-map : {c x y : ℕ} {ts us : List Triangle} → ((v w : ℕ) → In c v w ts → In c v w us) → Links c ts x y → Links c us x y
 links-map g stop = stop

@@ -5,8 +5,7 @@ use mathlib.Core.List.{List, [], _∷_}
 use mathlib.Core.Path.{_≡_, refl, ap, ap₂}
 use lib.ListN.{length}
 use Rattle.rules.specs.declared.Triangle.{Triangle}
-use Rattle.rules.specs.Triangle.{tri}
-use Rattle.mesh_theory.specs.Fans.Corner.{at-p, at-q, at-r, In, here, there}
+use Rattle.rules.specs.Triangle.{tri, at-p, at-q, at-r, In, here, there}
 use Rattle.choice_theory.proofs.Places.Renaming.{triangles}
 use Rattle.roundtrip.specs.Claims.{renumbered}
 

@@ -12,13 +12,13 @@ use Rattle.rules.specs.declared.Triangle.{Triangle}
 use Rattle.rules.specs.declared.Operation.{Operation}
 use Rattle.rules.specs.declared.Operation.the-variants.{New}
 use Rattle.rules.specs.declared.Across.the-variants.{Found}
-use Rattle.rules.specs.Triangle.{tri, trianglesOf}
+use Rattle.rules.specs.Triangle.{tri, trianglesOf, In}
 use Rattle.rules.specs.Across.{across}
 use Rattle.rules.specs.Ring.{Node, Ring, vertex, isOpen, startOr, reached, places, loopAt}
 use Rattle.rules.specs.Table.{glued, builds, atEdge, effect, edgeRule}
 use Rattle.rules.specs.Choice.{Packing, Next, refuses, takes, has, operationFor, choosePlace, packingAfter, limited, choose, afterCurrent}
 use Rattle.rules.specs.Pack.{Most}
-use Rattle.mesh_theory.specs.Fans.Corner.{In, Once}
+use Rattle.mesh_theory.specs.Fans.Corner.{Once}
 use Rattle.rules.specs.Fan.{Neighbours}
 use Rattle.book.specs.Shown.{shownAll}
 use Rattle.book.proofs.Shown.{Live, reached-first}

@@ -9,7 +9,7 @@ use lib.ListN.{length}
 use Rattle.rules.specs.declared.Triangle.{Triangle}
 use Rattle.rules.specs.declared.Operation.{Operation}
 use Rattle.rules.specs.Limits.{maxPlaces, maxLoops}
-use Rattle.rules.specs.Triangle.{trianglesOf}
+use Rattle.rules.specs.Triangle.{trianglesOf, at-p, In, here, there}
 use Rattle.rules.specs.Bits.{bytesOf}
 use Rattle.rules.specs.Code.{operationsBits}
 use Rattle.rules.specs.Fields.{packBytes}
@@ -17,7 +17,7 @@ use Rattle.rules.specs.Choice.{Packing}
 use Rattle.rules.specs.Pack as P
 use Rattle.rules.specs.Pack.{Chosen, stopped, chosen, chooseAll, most, nothingBuilt, chosenFor, newNumbers, PackBuffers, PackResult}
 use Rattle.rules.specs.Pack.{packStored, packChosen, packRefused, packLongEnough, packChecked}
-use Rattle.mesh_theory.specs.Fans.Corner.{at-p, In, here, there, Once}
+use Rattle.mesh_theory.specs.Fans.Corner.{Once}
 use Rattle.choice_theory.proofs.Turning.Links.{free-rot}
 use Rattle.choice_theory.proofs.Turning.Ways.{others, others-length, others-once}
 use Rattle.choice_theory.proofs.Turning.Taking.{out}

@@ -15,7 +15,7 @@ use Rattle.rules.specs.declared.Across.the-variants.{Found}
 use Rattle.rules.specs.declared.Place.{Place}
 use Rattle.rules.specs.declared.Checked.the-variants.{Accepted}
 use Rattle.rules.specs.Limits.{maxPlaces}
-use Rattle.rules.specs.Triangle.{tri, Edge, trianglesOf, corners}
+use Rattle.rules.specs.Triangle.{tri, Edge, trianglesOf, corners, In}
 use Rattle.rules.specs.Count.{different}
 use Rattle.rules.specs.Across.{across}
 use Rattle.rules.specs.Check.{check}
@@ -33,7 +33,7 @@ use Rattle.rules.specs.Bits.{bitsOfBytes}
 use Rattle.rules.specs.Unpack.{numbersOf, UnpackResult, unpack}
 use Rattle.book.specs.Consistent.{Consistent}
 use Rattle.choice_theory.specs.Works.{Works, Reads}
-use Rattle.mesh_theory.specs.Fans.Corner.{In, Once}
+use Rattle.mesh_theory.specs.Fans.Corner.{Once}
 use Rattle.wire_theory.specs.Shape.{Bytes}
 use Rattle.roundtrip.specs.Run.{unlimited, runLoops, buildOrder, startsOf, NoFault, FirstFault, peakOf, Reached}
 use Rattle.rules.specs.Right.{RightPlace}

@@ -8,13 +8,12 @@ use mathlib.Core.Path.{_≡_, refl, sym, ap, ap₂, _∙_, subst}
 use lib.ListN.{length}
 use lib.Dec.{eqb}
 use Rattle.rules.specs.declared.Triangle.{Triangle}
-use Rattle.rules.specs.Triangle.{distinct, trianglesOf, edgesOf}
+use Rattle.rules.specs.Triangle.{distinct, trianglesOf, edgesOf, In}
 use Rattle.rules.specs.Count.{count, uses, unjoined}
 use Rattle.rules.specs.Table.{Side, glued, fresh, sideRule, edgeRule}
 use Rattle.rules.specs.Fan.{about, OneFan, oneRun, oneFanEach}
 use Rattle.rules.specs.Check.{allDistinct, noneTwice}
 use Rattle.rules.specs.Unpack.{numbersOf}
-use Rattle.mesh_theory.specs.Fans.Corner.{In}
 use Rattle.mesh_theory.proofs.Fans.Corners.{in-next, in-uses}
 use Rattle.mesh_theory.proofs.Fans.Tests.{all-distinct, none-twice}
 use Rattle.mesh_theory.proofs.Fans.OneFan.{one-fan, one-fan-each}

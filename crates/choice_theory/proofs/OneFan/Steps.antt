@@ -9,12 +9,12 @@ use mathlib.Core.Path.{_≡_, refl, sym, _∙_, subst}
 use Rattle.rules.specs.declared.Triangle.{Triangle}
 use Rattle.rules.specs.declared.Counts.{Counts}
 use Rattle.rules.specs.declared.Operation.{Operation}
-use Rattle.rules.specs.Triangle.{Edge, edge, distinct}
+use Rattle.rules.specs.Triangle.{Edge, edge, distinct, Rot, at-p, at-q, at-r}
 use Rattle.rules.specs.Fan.{about}
 use Rattle.rules.specs.Ring.{Ring}
 use Rattle.rules.specs.Table.{Side, Effect, not-allowed, builds, marks, effect, sideRule, edgeRule}
 use Rattle.rules.specs.Machine.{Machine, empty, freshSides, Step, refused, begun, built, declared, finished, done, operation}
-use Rattle.mesh_theory.specs.Fans.Corner.{Rot, at-p, at-q, at-r, Different}
+use Rattle.mesh_theory.specs.Fans.Corner.{Different}
 use Rattle.mesh_theory.proofs.Fans.Corners.{rot-different}
 use Rattle.mesh_theory.proofs.Fans.Tests.{distinct-different}
 use Rattle.mesh_theory.proofs.Fans.About.{First, meets, misses, first}

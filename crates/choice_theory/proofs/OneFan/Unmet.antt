@@ -7,13 +7,12 @@ use mathlib.Core.List.{List, [], _∷_}
 use mathlib.Core.Path.{_≡_, refl, sym, subst}
 use Rattle.rules.specs.declared.Triangle.{Triangle}
 use Rattle.rules.specs.declared.Operation.{Operation}
-use Rattle.rules.specs.Triangle.{Edge, edgesOf}
+use Rattle.rules.specs.Triangle.{Edge, edgesOf, In}
 use Rattle.rules.specs.Count.{uses}
 use Rattle.rules.specs.Fan.{about, oneRun}
 use Rattle.rules.specs.Check.{allDistinct}
 use Rattle.rules.specs.Machine.{Machine, Step}
 use Rattle.rules.specs.Book.{Book, entered}
-use Rattle.mesh_theory.specs.Fans.Corner.{In}
 use Rattle.mesh_theory.proofs.Fans.OneRun.{chain-run, chained-count}
 use Rattle.mesh_theory.proofs.Fans.Corners.{in-next, in-uses}
 use Rattle.mesh_theory.proofs.Fans.Tests.{all-distinct, none-twice}

@@ -8,9 +8,9 @@ use mathlib.Core.Logic.{inl, inr}
 use lib.ListN.{length}
 use Rattle.rules.specs.declared.Triangle.{Triangle}
 use Rattle.rules.specs.Ring.{Node, Ring, vertex, isOpen, startOr}
+use Rattle.rules.specs.Right.{EdgeIn, OpenAt}
 use Rattle.book.specs.Shown.{shownAll}
 use Rattle.book.proofs.Shown.{ends, Live, live-split, ends-last}
-use Rattle.choice_theory.specs.Spots.{EdgeIn, OpenAt}
 use Rattle.choice_theory.proofs.Places.Corners.{endOr, Everywhere, AllMarks}
 use Rattle.choice_theory.proofs.Places.Spots.{Site, Spotted, seat}
 use Rattle.choice_theory.proofs.Places.Rings.{ring-swap, last-append}

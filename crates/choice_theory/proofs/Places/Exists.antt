@@ -6,10 +6,11 @@ use mathlib.Core.Path.{_≡_, refl, sym, subst}
 use mathlib.Core.Logic.{_⊎_, inl, inr}
 use Rattle.rules.specs.declared.Triangle.{Triangle}
 use Rattle.rules.specs.Ring.{Ring}
-use Rattle.mesh_theory.specs.Fans.Corner.{Rot, In, here, there, Once}
+use Rattle.mesh_theory.specs.Fans.Corner.{Once}
 use Rattle.rules.specs.Fan.{Neighbours}
-use Rattle.rules.specs.Right.{Links}
-use Rattle.choice_theory.specs.Spots.{OpenAt, Unused}
+use Rattle.rules.specs.Right.{Links, OpenAt}
+use Rattle.rules.specs.Triangle.{Rot, In, here, there}
+use Rattle.choice_theory.specs.Spots.{Unused}
 use Rattle.choice_theory.proofs.Turning.Turn.{Turn}
 use Rattle.choice_theory.proofs.Places.Corners.{Everywhere, Filled}
 use Rattle.choice_theory.proofs.Places.Spots.{Spotted}

@@ -12,7 +12,7 @@ use borrow.Author.Tests.{eqb-true, eq-eqb}
 use Rattle.rules.specs.declared.Triangle.{Triangle}
 use Rattle.rules.specs.Choice.{has}
 use Rattle.rules.specs.Pack.{indexOf}
-use Rattle.mesh_theory.specs.Fans.Corner.{at-p, at-q, at-r, In, here, there}
+use Rattle.rules.specs.Triangle.{at-p, at-q, at-r, In, here, there}
 
 -- c has a triangle in the list
 abbrev pub Met : ℕ → List Triangle → Type 0

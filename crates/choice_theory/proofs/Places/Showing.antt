@@ -6,9 +6,10 @@ use mathlib.Core.Bool.{Bool, true, false, false≢true}
 use mathlib.Core.List.{List, [], _∷_}
 use mathlib.Core.Path.{_≡_, refl, sym, ap, _∙_}
 use Rattle.rules.specs.Ring.{Node, opened, marked, Ring, startOr, reached, shown}
+use Rattle.rules.specs.Right.{EdgeIn, OpenAt}
 use Rattle.book.specs.Shown.{shownAll}
 use Rattle.book.proofs.Shown.{Live, start-same}
-use Rattle.choice_theory.specs.Spots.{EdgeIn, OpenAt, Unique}
+use Rattle.choice_theory.specs.Spots.{Unique}
 
 -- a place of a run, counted in the run shown: how many of those before it stay
 unfoldable pub short : List Node → Bool → ℕ → ℕ

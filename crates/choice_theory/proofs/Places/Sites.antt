@@ -15,10 +15,11 @@ use Rattle.rules.specs.declared.Operation.{Operation}
 use Rattle.rules.specs.declared.Operation.the-variants.{New, Forward, Backward, Split, Close, Union}
 use Rattle.rules.specs.Ring.{Node, opened, marked, Ring, vertex, isOpen, allOpen, startOr, lastOpen, loopAt, reached, shown}
 use Rattle.rules.specs.Choice.{operationFor, sizeOf, following}
+use Rattle.rules.specs.Right.{EdgeIn, OpenAt}
 use Rattle.book.specs.Shown.{shownAll}
 use Rattle.book.proofs.Shown.{ends, Stays, Live, reached-first, reached-cut, reached-some, all-shown-append, all-shown-length, live-split}
 use Rattle.book.proofs.Shown.{shown-live, waiting-shown, start-same, start-shown}
-use Rattle.choice_theory.specs.Spots.{EdgeIn, OpenAt, Unused}
+use Rattle.choice_theory.specs.Spots.{Unused}
 use Rattle.choice_theory.proofs.Places.Corners.{endOr, Everywhere, Marks, RingMarks, AllMarks, Filled}
 use Rattle.choice_theory.proofs.Steps.Surgery.{Surgery, on-new, on-forward, on-backward, on-close, on-split, on-union}
 use Rattle.choice_theory.proofs.Places.Spots.{Site, Spotted, seat}

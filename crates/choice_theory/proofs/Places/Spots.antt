@@ -9,8 +9,9 @@ use lib.ListN.{length}
 use Rattle.rules.specs.declared.Triangle.{Triangle}
 use Rattle.rules.specs.Ring.{Node, Ring, vertex, startOr, reached}
 use Rattle.rules.specs.Choice.{sizeOf, following}
+use Rattle.rules.specs.Right.{OpenAt}
 use Rattle.book.proofs.Shown.{Stays}
-use Rattle.choice_theory.specs.Spots.{OpenAt, Unused}
+use Rattle.choice_theory.specs.Spots.{Unused}
 use Rattle.choice_theory.proofs.Places.Corners.{endOr}
 
 -- place i of ring l is one of c, entered from x and left to y, each by an open edge or one that has no other side in M

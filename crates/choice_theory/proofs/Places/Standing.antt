@@ -8,8 +8,9 @@ use mathlib.Core.Logic.{inl, inr}
 use Rattle.rules.specs.declared.Triangle.{Triangle}
 use Rattle.rules.specs.Count.{hit}
 use Rattle.rules.specs.Ring.{Node, Ring, vertex, startOr}
-use Rattle.mesh_theory.specs.Fans.Corner.{In}
-use Rattle.choice_theory.specs.Spots.{EdgeIn, OpenAt, Unique}
+use Rattle.rules.specs.Triangle.{In}
+use Rattle.rules.specs.Right.{EdgeIn, OpenAt}
+use Rattle.choice_theory.specs.Spots.{Unique}
 use Rattle.choice_theory.proofs.Places.Corners.{endOr, Along, Around, Everywhere}
 use Rattle.choice_theory.proofs.Steps.Tally.{tally, ringTally, total}
 use Rattle.choice_theory.proofs.Steps.Legal.{Lawful}

@@ -5,10 +5,10 @@ use mathlib.Core.List.{List, []}
 use mathlib.Core.Path.{_≡_}
 use Rattle.rules.specs.declared.Triangle.{Triangle}
 use Rattle.rules.specs.declared.Checked.the-variants.{Accepted}
-use Rattle.rules.specs.Triangle.{trianglesOf}
+use Rattle.rules.specs.Triangle.{trianglesOf, In}
 use Rattle.rules.specs.Check.{check}
 use Rattle.rules.specs.Pack.{Most, nothingBuilt, chosenFor}
-use Rattle.mesh_theory.specs.Fans.Corner.{In, Once}
+use Rattle.mesh_theory.specs.Fans.Corner.{Once}
 use Rattle.rules.specs.Fan.{Neighbours}
 use Rattle.mesh_theory.proofs.Fans.Checks.{check-accepted}
 use Rattle.mesh_theory.proofs.Fans.Once.{once-tests}

@@ -11,11 +11,13 @@ use Rattle.rules.specs.declared.Across.the-variants.{Nothing}
 use Rattle.rules.specs.Across.{across}
 use Rattle.rules.specs.Ring.{Node, Ring, vertex, loopAt}
 use Rattle.rules.specs.Choice.{choosePlace}
-use Rattle.mesh_theory.specs.Fans.Corner.{Rot, at-p, In, here, there, Once}
+use Rattle.mesh_theory.specs.Fans.Corner.{Once}
 use Rattle.rules.specs.Fan.{Neighbours}
+use Rattle.rules.specs.Triangle.{Rot, at-p, In, here, there}
+use Rattle.rules.specs.Right.{OpenAt}
 use Rattle.book.specs.Shown.{shownAll}
 use Rattle.book.proofs.Shown.{Live}
-use Rattle.choice_theory.specs.Spots.{OpenAt, Unused, Unique}
+use Rattle.choice_theory.specs.Spots.{Unused, Unique}
 use Rattle.choice_theory.proofs.Places.Corners.{Everywhere, AllMarks}
 use Rattle.choice_theory.proofs.Steps.Surgery.{triangleAt, Surgery}
 use Rattle.choice_theory.proofs.Places.Spots.{seat}

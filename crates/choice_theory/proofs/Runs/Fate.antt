@@ -9,7 +9,7 @@ use Rattle.rules.specs.declared.Operation.{Operation}
 use Rattle.rules.specs.declared.Operation.the-variants.{New, Forward, Backward, Split, Close, Union}
 use Rattle.rules.specs.Ring.{Node, opened, Ring, vertex}
 use Rattle.rules.specs.Table.{inOrder}
-use Rattle.mesh_theory.specs.Fans.Corner.{at-p, at-q, at-r, here}
+use Rattle.rules.specs.Triangle.{at-p, at-q, at-r, here}
 use Rattle.choice_theory.specs.Full.{fewer, fewerFirst}
 use Rattle.choice_theory.proofs.Turning.Turn.{rest, turn}
 use Rattle.choice_theory.proofs.Places.Corners.{Around, Everywhere, Filled}

@@ -11,8 +11,9 @@ use borrow.Author.Tests.{eq-eqb}
 use Rattle.rules.specs.declared.Triangle.{Triangle}
 use Rattle.rules.specs.Fan.{oneFanEach}
 use Rattle.rules.specs.Machine.{Machine, finished, complete, asStated, totals, finishing}
-use Rattle.mesh_theory.specs.Fans.Corner.{at-p, at-q, at-r, In, here, there, Once}
+use Rattle.mesh_theory.specs.Fans.Corner.{Once}
 use Rattle.rules.specs.Fan.{Linked, Pair, endOf, Round, Neighbours}
+use Rattle.rules.specs.Triangle.{at-p, at-q, at-r, In, here, there}
 use Rattle.choice_theory.specs.Spots.{Unused}
 use Rattle.choice_theory.proofs.Steps.Progress.{has-triangle}
 use Rattle.choice_theory.proofs.Places.Numbering.{Met}

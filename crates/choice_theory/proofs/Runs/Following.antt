@@ -14,13 +14,12 @@ use Rattle.rules.specs.declared.Across.{Across}
 use Rattle.rules.specs.declared.Across.the-variants.{Found, Nothing}
 use Rattle.rules.specs.declared.Operation.{Operation}
 use Rattle.rules.specs.declared.Operation.the-variants.{New, Border, Start}
-use Rattle.rules.specs.Triangle.{edge}
+use Rattle.rules.specs.Triangle.{edge, Rot, at-p, In}
 use Rattle.rules.specs.Across.{inTriangle}
 use Rattle.rules.specs.Ring.{Node, Ring, vertex, isOpen, places, reached}
 use Rattle.rules.specs.Table.{atEdge}
 use Rattle.rules.specs.Choice.{Packing, dropTriangle, choosePlace, takes, packingAfter, limited, choose}
 use Rattle.rules.specs.Pack.{chosen, cons, chooseAll}
-use Rattle.mesh_theory.specs.Fans.Corner.{Rot, at-p, In}
 use Rattle.book.specs.Shown.{shownAll}
 use Rattle.book.proofs.Shown.{Live, reached-first}
 use Rattle.choice_theory.specs.Full.{withRing, newNumbers}

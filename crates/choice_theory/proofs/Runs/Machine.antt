@@ -13,8 +13,9 @@ use Rattle.rules.specs.declared.Across.the-variants.{Nothing}
 use Rattle.rules.specs.Across.{across}
 use Rattle.rules.specs.Ring.{Node, opened, Ring, vertex, isOpen}
 use Rattle.rules.specs.Choice.{choosePlace}
-use Rattle.mesh_theory.specs.Fans.Corner.{at-p, at-q, at-r, In, here, there, Once}
+use Rattle.mesh_theory.specs.Fans.Corner.{Once}
 use Rattle.rules.specs.Fan.{Neighbours}
+use Rattle.rules.specs.Triangle.{at-p, at-q, at-r, In, here, there}
 use Rattle.book.specs.Shown.{shownAll}
 use Rattle.book.proofs.Shown.{Live}
 use Rattle.choice_theory.specs.Spots.{Unused}

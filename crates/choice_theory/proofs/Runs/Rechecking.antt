@@ -11,9 +11,9 @@ use borrow.Author.Tests.{eq-eqb, le-leb}
 use Rattle.rules.specs.declared.Triangle.{Triangle}
 use Rattle.rules.specs.declared.Checked.the-variants.{Accepted}
 use Rattle.rules.specs.Limits.{maxNumbers, maxTriangles, between, vertexRange}
-use Rattle.rules.specs.Triangle.{edgesOf}
+use Rattle.rules.specs.Triangle.{edgesOf, In}
 use Rattle.rules.specs.Check.{sizeFits, check}
-use Rattle.mesh_theory.specs.Fans.Corner.{In, Once}
+use Rattle.mesh_theory.specs.Fans.Corner.{Once}
 use Rattle.rules.specs.Fan.{Neighbours}
 use Rattle.mesh_theory.specs.Fans.Passing.{Mesh}
 use Rattle.mesh_theory.proofs.Fans.Once.{once-tests}

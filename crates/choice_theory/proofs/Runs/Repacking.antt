@@ -11,14 +11,13 @@ use lib.ListN.{length}
 use Rattle.rules.specs.declared.Triangle.{Triangle}
 use Rattle.rules.specs.declared.Counts.{Counts}
 use Rattle.rules.specs.declared.Operation.{Operation}
-use Rattle.rules.specs.Triangle.{trianglesOf}
+use Rattle.rules.specs.Triangle.{trianglesOf, In, here, there}
 use Rattle.rules.specs.Fan.{oneFanEach}
 use Rattle.rules.specs.Ring.{Ring, places}
 use Rattle.rules.specs.Machine.{Machine, empty}
 use Rattle.rules.specs.Choice.{Packing}
 use Rattle.rules.specs.Pack.{chosen, Most, nothingBuilt, chosenFor}
 use Rattle.rules.specs.Unpack.{numbersOf}
-use Rattle.mesh_theory.specs.Fans.Corner.{In, here, there}
 use Rattle.choice_theory.specs.Works.{Works}
 use Rattle.choice_theory.proofs.Steps.Choosing.{onto}
 use Rattle.choice_theory.proofs.Runs.Machine.{Run, r-done, r-start, r-build, r-border, Facts, facts, Choices, canonical-all}

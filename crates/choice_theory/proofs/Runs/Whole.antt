@@ -15,8 +15,9 @@ use Rattle.rules.specs.Count.{occurs}
 use Rattle.rules.specs.Ring.{Ring, places}
 use Rattle.rules.specs.Choice.{Packing, has, Next, ended, refuses, takes, limited, chooseIn, choose}
 use Rattle.rules.specs.Pack.{Chosen, stopped, chosen, cons, chooseAll, Most, nothingBuilt, chosenFor}
-use Rattle.mesh_theory.specs.Fans.Corner.{In, Once}
+use Rattle.mesh_theory.specs.Fans.Corner.{Once}
 use Rattle.rules.specs.Fan.{Neighbours}
+use Rattle.rules.specs.Triangle.{In}
 use Rattle.choice_theory.specs.Building.{nextBuilt, builtBy}
 use Rattle.choice_theory.proofs.Steps.Progress.{begin}
 use Rattle.choice_theory.proofs.Runs.Machine.{r-done}

@@ -10,11 +10,10 @@ use lib.ListN.{length}
 use Rattle.rules.specs.declared.Triangle.{Triangle}
 use Rattle.rules.specs.declared.Operation.{Operation}
 use Rattle.rules.specs.declared.Operation.the-variants.{New, Forward, Backward, Border, Split, Close, Union, Start}
-use Rattle.rules.specs.Triangle.{tri, Edge}
+use Rattle.rules.specs.Triangle.{tri, Edge, at-p, at-q, at-r, In, here, there}
 use Rattle.rules.specs.Ring.{Node, Ring, vertex, reached, places}
 use Rattle.rules.specs.Table.{Side, glued, builds, marks, effect, edgeRule}
 use Rattle.rules.specs.Machine.{Machine, afterBuild, afterMark, built, declared, operation}
-use Rattle.mesh_theory.specs.Fans.Corner.{at-p, at-q, at-r, In, here, there}
 use Rattle.book.specs.Numbers.{LoopsBelow}
 use Rattle.book.specs.Shown.{shownAll}
 use Rattle.book.proofs.Parts.{buildingOf, markingOf}

@@ -8,9 +8,10 @@ use mathlib.Core.Path.{_≡_, refl, sym, ap, _∙_, subst}
 use mathlib.Core.Logic.{_⊎_, inl, inr}
 use Rattle.rules.specs.declared.Triangle.{Triangle}
 use Rattle.rules.specs.Ring.{Node, opened, marked, Ring, vertex, onward}
+use Rattle.rules.specs.Triangle.{In}
+use Rattle.rules.specs.Right.{EdgeIn}
 use Rattle.book.proofs.Closed.{Closed}
-use Rattle.mesh_theory.specs.Fans.Corner.{In}
-use Rattle.choice_theory.specs.Spots.{EdgeIn, Unused}
+use Rattle.choice_theory.specs.Spots.{Unused}
 use Rattle.choice_theory.specs.Full.{withRing}
 use Rattle.choice_theory.proofs.Places.Corners.{Around, Everywhere, Filled}
 use Rattle.choice_theory.proofs.Steps.Surgery.{afterBorder}

@@ -8,11 +8,12 @@ use mathlib.Core.Logic.{_⊎_}
 use Rattle.rules.specs.declared.Triangle.{Triangle}
 use Rattle.rules.specs.Ring.{Node, Ring, vertex, isOpen, reached, loopAt}
 use Rattle.rules.specs.Choice.{operationFor, choosePlace}
-use Rattle.mesh_theory.specs.Fans.Corner.{Rot, at-p, In, here, there}
 use Rattle.rules.specs.Fan.{Neighbours}
+use Rattle.rules.specs.Triangle.{Rot, at-p, In, here, there}
+use Rattle.rules.specs.Right.{OpenAt}
 use Rattle.book.specs.Shown.{shownAll}
 use Rattle.book.proofs.Shown.{Live}
-use Rattle.choice_theory.specs.Spots.{OpenAt, Unused}
+use Rattle.choice_theory.specs.Spots.{Unused}
 use Rattle.choice_theory.proofs.Turning.Turn.{Turn, rest, turn, jump}
 use Rattle.choice_theory.proofs.Places.Corners.{Everywhere, AllMarks, Filled}
 use Rattle.choice_theory.proofs.Places.Spots.{seat}

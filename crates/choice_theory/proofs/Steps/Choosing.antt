@@ -13,14 +13,14 @@ use Rattle.rules.specs.declared.Triangle.{Triangle}
 use Rattle.rules.specs.declared.Across.the-variants.{Found, Nothing}
 use Rattle.rules.specs.declared.Operation.{Operation}
 use Rattle.rules.specs.declared.Operation.the-variants.{New, Forward, Backward, Border, Split, Close, Start}
-use Rattle.rules.specs.Triangle.{Edge, edge}
+use Rattle.rules.specs.Triangle.{Edge, edge, Rot, at-p, at-q, at-r, In, here}
 use Rattle.rules.specs.Across.{across}
 use Rattle.rules.specs.Ring.{Node, opened, marked, Ring, vertex, isOpen, firstOpen, allOpen, lastOpen, reached}
 use Rattle.rules.specs.Table.{marks, atEdge}
 use Rattle.rules.specs.Choice.{Packing, has, dropTriangle, turnIn, turnOut, Spot, nowhere, spot, spotOf, operationFor, sizeOf, following}
 use Rattle.rules.specs.Choice.{choosePlace, packingAfter, limited, taking, chooseAt, chooseIn, choose, afterCurrent}
 use Rattle.rules.specs.Pack.{indexOf}
-use Rattle.mesh_theory.specs.Fans.Corner.{Rot, at-p, at-q, at-r, In, here, Once}
+use Rattle.mesh_theory.specs.Fans.Corner.{Once}
 use Rattle.rules.specs.Fan.{Neighbours}
 use Rattle.book.specs.Shown.{shownAll}
 use Rattle.book.proofs.Shown.{Live, reached-first}

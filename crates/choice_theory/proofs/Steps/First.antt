@@ -8,7 +8,7 @@ use mathlib.Core.Logic.{_⊎_, inl, inr}
 use Rattle.rules.specs.declared.Triangle.{Triangle}
 use Rattle.rules.specs.Count.{hit}
 use Rattle.rules.specs.Ring.{opened, Ring}
-use Rattle.mesh_theory.specs.Fans.Corner.{Rot, at-p, at-q, at-r, In, here, there}
+use Rattle.rules.specs.Triangle.{Rot, at-p, at-q, at-r, In, here, there}
 use Rattle.choice_theory.specs.Spots.{Unused}
 use Rattle.choice_theory.proofs.Steps.Tally.{total}
 use Rattle.mesh_theory.proofs.Fans.Corners.{rot-next}

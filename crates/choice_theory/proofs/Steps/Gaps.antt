@@ -12,8 +12,8 @@ use Rattle.rules.specs.declared.Operation.{Operation}
 use Rattle.rules.specs.declared.Operation.the-variants.{New, Forward, Backward, Split, Close}
 use Rattle.rules.specs.Ring.{Node, Ring, vertex, firstOpen, allOpen, lastOpen, startOr, reached}
 use Rattle.rules.specs.Choice.{operationFor}
-use Rattle.mesh_theory.specs.Fans.Corner.{In}
 use Rattle.rules.specs.Fan.{Neighbours}
+use Rattle.rules.specs.Triangle.{In}
 use Rattle.choice_theory.proofs.Places.Corners.{endOr, Everywhere, Filled}
 use Rattle.choice_theory.proofs.Places.Spots.{seat}
 use Rattle.choice_theory.proofs.Steps.Surgery.{triangleAt, Surgery, on-new}

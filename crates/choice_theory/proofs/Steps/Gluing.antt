@@ -12,8 +12,9 @@ use borrow.Author.Tests.{eqb-true, ne-eqb}
 use Rattle.rules.specs.declared.Triangle.{Triangle}
 use Rattle.rules.specs.Ring.{Node, Ring, vertex, isOpen, loopAt}
 use Rattle.rules.specs.Choice.{sizeOf, following}
-use Rattle.mesh_theory.specs.Fans.Corner.{at-p, In, here, there}
-use Rattle.choice_theory.specs.Spots.{OpenAt, Unused}
+use Rattle.rules.specs.Triangle.{at-p, In, here, there}
+use Rattle.rules.specs.Right.{OpenAt}
+use Rattle.choice_theory.specs.Spots.{Unused}
 use Rattle.choice_theory.proofs.Turning.Turn.{Turn, rest, turn, jump}
 use Rattle.choice_theory.proofs.Places.Corners.{Filled}
 use Rattle.choice_theory.proofs.Places.Spots.{Spotted}

@@ -9,9 +9,9 @@ use lib.Dec.{eqb}
 use borrow.Author.Tests.{eqb-true, eqb-false}
 use Rattle.rules.specs.declared.Triangle.{Triangle}
 use Rattle.rules.specs.Ring.{Node, Ring, vertex}
-use Rattle.mesh_theory.specs.Fans.Corner.{Rot, at-p, at-q, at-r, In, here, there}
 use Rattle.rules.specs.Fan.{Neighbours}
 use Rattle.rules.specs.Right.{Links}
+use Rattle.rules.specs.Triangle.{Rot, at-p, at-q, at-r, In, here, there}
 use Rattle.choice_theory.specs.Spots.{Unused}
 use Rattle.choice_theory.proofs.Turning.Turn.{Turn, rest, turn, jump}
 use Rattle.choice_theory.proofs.Places.Corners.{Along, Around, Everywhere, Filled}

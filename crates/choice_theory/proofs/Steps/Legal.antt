@@ -13,7 +13,8 @@ use Rattle.rules.specs.declared.Triangle.{Triangle}
 use Rattle.rules.specs.declared.Operation.{Operation}
 use Rattle.rules.specs.Count.{num, hit}
 use Rattle.rules.specs.Ring.{Node, Ring, vertex}
-use Rattle.mesh_theory.specs.Fans.Corner.{at-p, at-q, at-r, In, here, there, Once}
+use Rattle.rules.specs.Triangle.{at-p, at-q, at-r, In, here, there}
+use Rattle.mesh_theory.specs.Fans.Corner.{Once}
 use Rattle.choice_theory.specs.Spots.{Unused}
 use Rattle.choice_theory.proofs.Steps.Surgery.{triangleAt, Surgery}
 use Rattle.choice_theory.proofs.Steps.Tally.{total, gluesA, gluesB, when, unless}

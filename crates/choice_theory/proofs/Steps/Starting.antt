@@ -10,9 +10,9 @@ use mathlib.Core.Logic.{_⊎_, inl, inr}
 use Rattle.rules.specs.declared.Triangle.{Triangle}
 use Rattle.rules.specs.Count.{hit}
 use Rattle.rules.specs.Ring.{opened, Ring}
-use Rattle.mesh_theory.specs.Fans.Corner.{Rot, at-p, at-q, at-r, In, here, there}
 use Rattle.rules.specs.Fan.{Neighbours}
 use Rattle.rules.specs.Right.{Links}
+use Rattle.rules.specs.Triangle.{Rot, at-p, at-q, at-r, In, here, there}
 use Rattle.choice_theory.specs.Spots.{Unused}
 use Rattle.choice_theory.proofs.Turning.Turn.{Turn}
 use Rattle.choice_theory.proofs.Places.Corners.{Filled}

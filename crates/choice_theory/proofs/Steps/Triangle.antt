@@ -13,11 +13,13 @@ use Rattle.rules.specs.declared.Operation.the-variants.{New}
 use Rattle.rules.specs.Count.{hit}
 use Rattle.rules.specs.Ring.{Node, opened, Ring, vertex, isOpen, startOr}
 use Rattle.rules.specs.Choice.{choosePlace}
-use Rattle.mesh_theory.specs.Fans.Corner.{Rot, at-p, at-q, at-r, In, here, there, Once}
+use Rattle.mesh_theory.specs.Fans.Corner.{Once}
 use Rattle.rules.specs.Fan.{Neighbours}
+use Rattle.rules.specs.Triangle.{Rot, at-p, at-q, at-r, In, here, there}
+use Rattle.rules.specs.Right.{EdgeIn, OpenAt}
 use Rattle.book.specs.Shown.{shownAll}
 use Rattle.book.proofs.Shown.{Live}
-use Rattle.choice_theory.specs.Spots.{EdgeIn, OpenAt, Unused}
+use Rattle.choice_theory.specs.Spots.{Unused}
 use Rattle.choice_theory.proofs.Places.Corners.{Everywhere, Marks, AllMarks, Filled}
 use Rattle.choice_theory.proofs.Steps.Surgery.{triangleAt, Surgery, on-new}
 use Rattle.choice_theory.proofs.Places.Spots.{seat}

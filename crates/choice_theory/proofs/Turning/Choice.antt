@@ -8,10 +8,11 @@ use lib.ListN.{length}
 use Rattle.rules.specs.declared.Triangle.{Triangle}
 use Rattle.rules.specs.Ring.{Ring}
 use Rattle.rules.specs.Choice.{nowhere, spot, spotOf, operationFor, sizeOf, following, choosePlace, turnIn, turnOut, afterCurrent}
-use Rattle.mesh_theory.specs.Fans.Corner.{In, Once}
+use Rattle.mesh_theory.specs.Fans.Corner.{Once}
 use Rattle.rules.specs.Fan.{Neighbours}
-use Rattle.rules.specs.Right.{Links}
-use Rattle.choice_theory.specs.Spots.{OpenAt, Unused, Unique}
+use Rattle.rules.specs.Right.{Links, OpenAt}
+use Rattle.rules.specs.Triangle.{In}
+use Rattle.choice_theory.specs.Spots.{Unused, Unique}
 use Rattle.choice_theory.proofs.Turning.Turn.{Turn}
 use Rattle.choice_theory.proofs.Places.Spots.{Site}
 use Rattle.mesh_theory.proofs.Fans.Corners.{in-next}

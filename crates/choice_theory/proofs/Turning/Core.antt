@@ -5,9 +5,10 @@ use mathlib.Core.List.{List}
 use mathlib.Core.Path.{_≡_, sym, subst}
 use mathlib.Core.Logic.{_⊎_, inl, inr}
 use Rattle.rules.specs.declared.Triangle.{Triangle}
-use Rattle.mesh_theory.specs.Fans.Corner.{In, Once}
+use Rattle.mesh_theory.specs.Fans.Corner.{Once}
 use Rattle.rules.specs.Fan.{Neighbours}
 use Rattle.rules.specs.Right.{Links}
+use Rattle.rules.specs.Triangle.{In}
 use Rattle.choice_theory.specs.Spots.{Unused}
 use Rattle.choice_theory.proofs.Turning.Turn.{Turn}
 use Rattle.mesh_theory.proofs.Fans.Corners.{in-next}

@@ -5,9 +5,9 @@ use mathlib.Core.List.{List, _∷_}
 use mathlib.Core.Path.{_≡_, sym, _∙_, subst}
 use mathlib.Core.Logic.{_⊎_, inl, inr}
 use Rattle.rules.specs.declared.Triangle.{Triangle}
-use Rattle.mesh_theory.specs.Fans.Corner.{Rot, In, here, there}
 use Rattle.rules.specs.Fan.{Linked, Pair, Neighbours}
 use Rattle.rules.specs.Right.{Links, stop, link}
+use Rattle.rules.specs.Triangle.{Rot, In, here, there}
 use Rattle.choice_theory.proofs.Turning.Turn.{Turn, rest, turn, jump}
 use Rattle.mesh_theory.proofs.Fans.Corners.{rot-next, rot-third}
 use Rattle.choice_theory.proofs.Turning.Ways.{rot-mid}

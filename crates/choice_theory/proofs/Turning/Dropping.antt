@@ -8,7 +8,8 @@ use Rattle.rules.specs.declared.Across.{Across}
 use Rattle.rules.specs.declared.Across.the-variants.{Found, Nothing}
 use Rattle.rules.specs.Across.{inTriangle}
 use Rattle.rules.specs.Choice.{dropTriangle}
-use Rattle.mesh_theory.specs.Fans.Corner.{Rot, In, here, there, Once}
+use Rattle.rules.specs.Triangle.{Rot, In, here, there}
+use Rattle.mesh_theory.specs.Fans.Corner.{Once}
 use Rattle.choice_theory.proofs.Turning.Links.{free-rot}
 use Rattle.choice_theory.proofs.Turning.Ways.{Told, told, others}
 

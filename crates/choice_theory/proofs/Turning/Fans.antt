@@ -10,8 +10,9 @@ use lib.Dec.{ltb}
 use borrow.Author.Tests.{ltb-true, ltb-false}
 use Rattle.rules.specs.declared.Triangle.{Triangle}
 use Rattle.rules.specs.Fan.{oneFanEach}
-use Rattle.mesh_theory.specs.Fans.Corner.{In, Once}
+use Rattle.mesh_theory.specs.Fans.Corner.{Once}
 use Rattle.rules.specs.Fan.{Linked, Round, Neighbours}
+use Rattle.rules.specs.Triangle.{In}
 use Rattle.mesh_theory.proofs.Fans.Once.{once-tests}
 use Rattle.mesh_theory.proofs.Fans.OneFan.{one-fan-each}
 use Rattle.mesh_theory.proofs.Fans.Neighbours.{one-fan-neighbours}

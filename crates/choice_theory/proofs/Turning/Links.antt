@@ -5,9 +5,10 @@ use mathlib.Core.List.{List, [], _∷_}
 use mathlib.Core.Path.{_≡_, refl, sym, _∙_, subst}
 use mathlib.Core.Logic.{_⊎_, inl, inr}
 use Rattle.rules.specs.declared.Triangle.{Triangle}
-use Rattle.mesh_theory.specs.Fans.Corner.{Rot, at-p, at-q, at-r, In, here, there, Once}
+use Rattle.mesh_theory.specs.Fans.Corner.{Once}
 use Rattle.rules.specs.Fan.{Linked, Pair, endOf, Round, Neighbours}
 use Rattle.rules.specs.Right.{Links, stop, link}
+use Rattle.rules.specs.Triangle.{Rot, at-p, at-q, at-r, In, here, there}
 use Rattle.mesh_theory.proofs.Fans.Corners.{in-next, rot-third}
 use Rattle.choice_theory.specs.Spots.{Unused}
 use Rattle.choice_theory.proofs.Turning.Turn.{Turn, rest, turn, jump}

@@ -9,7 +9,8 @@ use lib.Dec.{eqb}
 use borrow.Author.Tests.{eqb-true, eq-eqb}
 use Rattle.rules.specs.Ring.{Node, Ring, vertex, isOpen, startOr}
 use Rattle.rules.specs.Choice.{Position, absent, at, Spot, nowhere, spot, edgeIn, spotOf}
-use Rattle.choice_theory.specs.Spots.{EdgeIn, OpenAt, Unique}
+use Rattle.rules.specs.Right.{EdgeIn, OpenAt}
+use Rattle.choice_theory.specs.Spots.{Unique}
 use Rattle.counting.proofs.Bools.{and-both, and-true}
 
 -- what the search in one ring tells

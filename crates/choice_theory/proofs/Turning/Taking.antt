@@ -5,9 +5,9 @@ use mathlib.Core.List.{List, _∷_}
 use mathlib.Core.Path.{_≡_, sym, _∙_, subst}
 use mathlib.Core.Logic.{_⊎_, inl, inr}
 use Rattle.rules.specs.declared.Triangle.{Triangle}
-use Rattle.rules.specs.Triangle.{tri}
+use Rattle.rules.specs.Triangle.{tri, Rot, at-p, at-q, at-r, In, here, there}
 use Rattle.rules.specs.Ring.{Ring}
-use Rattle.mesh_theory.specs.Fans.Corner.{Rot, at-p, at-q, at-r, In, here, there, Once}
+use Rattle.mesh_theory.specs.Fans.Corner.{Once}
 use Rattle.choice_theory.specs.Spots.{Unused}
 use Rattle.mesh_theory.proofs.Fans.Corners.{in-next, rot-next}
 use Rattle.choice_theory.proofs.Turning.Links.{in-last, free-rot, turn-map}

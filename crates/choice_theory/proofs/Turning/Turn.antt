@@ -3,7 +3,7 @@
 use Prim.Native.Nat.{ℕ}
 use mathlib.Core.List.{List}
 use Rattle.rules.specs.declared.Triangle.{Triangle}
-use Rattle.mesh_theory.specs.Fans.Corner.{In}
+use Rattle.rules.specs.Triangle.{In}
 use Rattle.choice_theory.specs.Spots.{Unused}
 
 -- turning about c (`Links` of the rules) with jumps from border to border: u→c has no other side in M, nor has c→w

@@ -15,7 +15,8 @@ use Rattle.rules.specs.declared.Across.the-variants.{Found, Nothing}
 use Rattle.rules.specs.Across.{inTriangle, across}
 use Rattle.rules.specs.Choice.{turnIn, turnOut}
 use Rattle.rules.specs.Right.{Links, stop, link}
-use Rattle.mesh_theory.specs.Fans.Corner.{Rot, at-p, at-q, at-r, In, here, there, Once}
+use Rattle.rules.specs.Triangle.{Rot, at-p, at-q, at-r, In, here, there}
+use Rattle.mesh_theory.specs.Fans.Corner.{Once}
 use Rattle.choice_theory.specs.Spots.{Unused}
 use Rattle.mesh_theory.proofs.Fans.Corners.{rot-next}
 use Rattle.choice_theory.proofs.Turning.Links.{in-last, once-func, free-rot}

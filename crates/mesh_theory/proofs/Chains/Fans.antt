@@ -13,13 +13,12 @@ use Rattle.rules.specs.declared.Triangle.{Triangle}
 use Rattle.rules.specs.declared.Across.{Across}
 use Rattle.rules.specs.declared.Across.the-variants.{Found, Nothing}
 use Rattle.rules.specs.Limits.{maxVertices}
-use Rattle.rules.specs.Triangle.{Edge, edge, edgesOf, corners, trianglesOf}
+use Rattle.rules.specs.Triangle.{Edge, edge, edgesOf, corners, trianglesOf, at-p, at-q, at-r, In, here, there}
 use Rattle.rules.specs.Count.{hit, occurs, count}
 use Rattle.rules.specs.Across.{across}
 use Rattle.rules.specs.Check.{allDistinct, noneTwice, allUsed}
 use Rattle.rules.specs.Fan.{about, turnOn, turnBack, isNil, oneRun, oneFanEach, OneFan}
 use Rattle.mesh_theory.specs.Fans.Ways.{total}
-use Rattle.mesh_theory.specs.Fans.Corner.{at-p, at-q, at-r, In, here, there}
 use Rattle.mesh_theory.proofs.Fans.Counting.{length-total, hits, count-total}
 use Rattle.mesh_theory.proofs.Fans.OneRun.{chain-run, run-chained}
 use Rattle.mesh_theory.proofs.Fans.Tests.{all-distinct}

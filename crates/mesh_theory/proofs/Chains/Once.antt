@@ -10,10 +10,10 @@ use borrow.Author.Tests.{eqb-true, eqb-false, eq-eqb, ne-eqb, not-true, not-fals
 use Rattle.rules.specs.declared.Triangle.{Triangle}
 use Rattle.rules.specs.declared.Across.{Across}
 use Rattle.rules.specs.declared.Across.the-variants.{Found, Nothing}
-use Rattle.rules.specs.Triangle.{trianglesOf, edgesOf}
+use Rattle.rules.specs.Triangle.{trianglesOf, edgesOf, Rot, at-p, at-q, at-r, In, here}
 use Rattle.rules.specs.Count.{count, uses}
 use Rattle.rules.specs.Check.{noneTwice}
-use Rattle.mesh_theory.specs.Fans.Corner.{Rot, at-p, at-q, at-r, In, here, Different}
+use Rattle.mesh_theory.specs.Fans.Corner.{Different}
 use Rattle.mesh_theory.proofs.Fans.Corners.{rot-different, uses-rot, sides-leaving, in-uses, uses-in}
 use Rattle.mesh_theory.proofs.Fans.Tests.{none-twice}
 use Rattle.mesh_theory.proofs.Fans.Finding.{across-found, across-nothing, found-in}

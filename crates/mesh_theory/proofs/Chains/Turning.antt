@@ -11,13 +11,13 @@ use borrow.Author.Tests.{eqb-true, eqb-false}
 use Rattle.rules.specs.declared.Triangle.{Triangle}
 use Rattle.rules.specs.declared.Across.{Across}
 use Rattle.rules.specs.declared.Across.the-variants.{Found, Nothing}
-use Rattle.rules.specs.Triangle.{Edge, edgesOf, corners}
+use Rattle.rules.specs.Triangle.{Edge, edgesOf, corners, Rot, at-p, at-q, at-r, In}
 use Rattle.rules.specs.Count.{same, hit, occurs, count, uses}
 use Rattle.rules.specs.Across.{across}
 use Rattle.rules.specs.Check.{allDistinct, noneTwice}
 use Rattle.rules.specs.Fan.{about, Taken, no-edge, taken, leaving, entering, turnOn, turnBack}
 use Rattle.mesh_theory.specs.Fans.Ways.{total}
-use Rattle.mesh_theory.specs.Fans.Corner.{Rot, at-p, at-q, at-r, In, Different}
+use Rattle.mesh_theory.specs.Fans.Corner.{Different}
 use Rattle.mesh_theory.proofs.Fans.Counting.{starts, ends, Apart, length-total, total-more, hits, count-total, count-starts}
 use Rattle.mesh_theory.proofs.Fans.Counting.{count-ends}
 use Rattle.mesh_theory.proofs.Fans.Turning.{Turn, onward, backward, Parts, parts}

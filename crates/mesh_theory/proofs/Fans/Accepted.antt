@@ -12,10 +12,9 @@ use borrow.Author.Tests.{eqb-true}
 use Rattle.rules.specs.declared.Triangle.{Triangle}
 use Rattle.rules.specs.declared.Checked.the-variants.{Accepted}
 use Rattle.rules.specs.Limits.{maxNumbers, between, vertexRange}
-use Rattle.rules.specs.Triangle.{trianglesOf, corners, edgesOf}
+use Rattle.rules.specs.Triangle.{trianglesOf, corners, edgesOf, at-p, at-q, at-r, In, here, there}
 use Rattle.rules.specs.Count.{same, occurs}
 use Rattle.rules.specs.Check.{sizeFits, check}
-use Rattle.mesh_theory.specs.Fans.Corner.{at-p, at-q, at-r, In, here, there}
 use Rattle.mesh_theory.specs.Fans.Passing.{Passes, Mesh}
 use Rattle.mesh_theory.proofs.Fans.Tests.{all-below, all-distinct, none-twice, all-used}
 use Rattle.mesh_theory.proofs.Fans.OneFan.{one-fan-each}

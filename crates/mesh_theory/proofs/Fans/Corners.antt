@@ -7,9 +7,9 @@ use mathlib.Core.Logic.{_↔_}
 use mathlib.Core.Path.{_≡_, refl, sym}
 use borrow.Author.Tests.{eq-eqb}
 use Rattle.rules.specs.declared.Triangle.{Triangle}
-use Rattle.rules.specs.Triangle.{edgesOf}
+use Rattle.rules.specs.Triangle.{edgesOf, Rot, at-p, at-q, at-r, In, here, there, Free}
 use Rattle.rules.specs.Count.{same, hit, count, uses}
-use Rattle.mesh_theory.specs.Fans.Corner.{Rot, at-p, at-q, at-r, In, here, there, Free, Different}
+use Rattle.mesh_theory.specs.Fans.Corner.{Different}
 use Rattle.counting.proofs.Counts.{same-yes, same-is, hit-yes, hit-swap, hit-is, no-from}
 
 -- how often the triangle a b c has the directed edge x→y

@@ -12,10 +12,10 @@ use borrow.Author.Tests.{eqb-true, eq-eqb}
 use Rattle.rules.specs.declared.Triangle.{Triangle}
 use Rattle.rules.specs.declared.Across.{Across}
 use Rattle.rules.specs.declared.Across.the-variants.{Found, Nothing}
-use Rattle.rules.specs.Triangle.{edgesOf}
+use Rattle.rules.specs.Triangle.{edgesOf, Rot, at-p, at-q, at-r, In, here, there}
 use Rattle.rules.specs.Count.{hit, count, uses}
 use Rattle.rules.specs.Across.{inTriangle, across}
-use Rattle.mesh_theory.specs.Fans.Corner.{Rot, at-p, at-q, at-r, third, In, here, there}
+use Rattle.mesh_theory.specs.Fans.Corner.{third}
 use Rattle.mesh_theory.specs.Fans.Finding.{FoundAt, Told}
 use Rattle.mesh_theory.proofs.Fans.Corners.{sides, sidesOf, uses-cons, in-uses}
 use Rattle.counting.proofs.Bools.{and-left, and-right, and-both}

@@ -9,12 +9,11 @@ use mathlib.Core.Path.{_≡_, refl, sym, _∙_, subst}
 use lib.Dec.{eqb}
 use borrow.Author.Tests.{eqb-true, eqb-false}
 use Rattle.rules.specs.declared.Triangle.{Triangle}
-use Rattle.rules.specs.Triangle.{Edge, edge, edgesOf}
+use Rattle.rules.specs.Triangle.{Edge, edge, edgesOf, In, Free}
 use Rattle.rules.specs.Count.{same, count, uses}
 use Rattle.rules.specs.Fan.{about, Run, OneFan}
 use Rattle.rules.specs.Check.{allDistinct, noneTwice}
 use Rattle.mesh_theory.specs.Fans.Ways.{Chain}
-use Rattle.mesh_theory.specs.Fans.Corner.{In, Free}
 use Rattle.rules.specs.Fan.{Linked, Pair, endOf, Neighbours}
 use Rattle.mesh_theory.proofs.Fans.Counting.{member}
 use Rattle.mesh_theory.proofs.Fans.Corners.{free-unused}

@@ -10,7 +10,8 @@ use Rattle.rules.specs.declared.Triangle.{Triangle}
 use Rattle.rules.specs.declared.Across.the-variants.{Found}
 use Rattle.rules.specs.Count.{hit, uses}
 use Rattle.rules.specs.Across.{across}
-use Rattle.mesh_theory.specs.Fans.Corner.{Rot, at-p, at-q, at-r, third, In, here, there}
+use Rattle.rules.specs.Triangle.{Rot, at-p, at-q, at-r, In, here, there}
+use Rattle.mesh_theory.specs.Fans.Corner.{third}
 use Rattle.mesh_theory.specs.Fans.Finding.{SameFound}
 use Rattle.mesh_theory.proofs.Fans.Corners.{sides, sidesOf, rot-sum, rot-third, uses-rot, uses-cons, sides-yes, in-uses}
 use Rattle.mesh_theory.proofs.Fans.Finding.{across-found, found-below, found-place, place-sides}

@@ -9,10 +9,10 @@ use mathlib.Core.Path.{_≡_, refl, ap}
 use lib.Dec.{eqb, ltb}
 use borrow.Author.Tests.{eqb-true, eqb-false, eq-eqb, ne-eqb, not-true, ltb-true, lt-ltb}
 use Rattle.rules.specs.declared.Triangle.{Triangle}
-use Rattle.rules.specs.Triangle.{distinct, Edge}
+use Rattle.rules.specs.Triangle.{distinct, Edge, at-p, In, here, there}
 use Rattle.rules.specs.Count.{same, hit, occurs, count}
 use Rattle.rules.specs.Check.{allBelow, allDistinct, noneTwice, allUsed}
-use Rattle.mesh_theory.specs.Fans.Corner.{at-p, In, here, there, Different}
+use Rattle.mesh_theory.specs.Fans.Corner.{Different}
 use Rattle.mesh_theory.proofs.Fans.Counting.{below-suc}
 use Rattle.mesh_theory.proofs.Fans.Corners.{rot-different}
 use Rattle.counting.proofs.Bools.{and-left, and-right, and-both}

@@ -4,7 +4,7 @@ use Prim.Native.Nat.{ℕ}
 use mathlib.Core.List.{List, [], _∷_}
 use mathlib.Core.Path.{_≡_}
 use Rattle.rules.specs.declared.Triangle.{Triangle}
-pub use Rattle.rules.specs.Triangle.{Rot, at-p, at-q, at-r, In, here, there, Free}
+use Rattle.rules.specs.Triangle.{Rot, at-p, at-q, at-r, Free}
 
 -- which corner of t then z is: 0 for p, 1 for q, 2 for r
 abbrev pub third : {t : Triangle} {x y z : ℕ} → Rot t x y z → ℕ

@@ -8,7 +8,8 @@ use Rattle.rules.specs.declared.Triangle.{Triangle}
 use Rattle.rules.specs.declared.Across.{Across}
 use Rattle.rules.specs.declared.Across.the-variants.{Found, Nothing}
 use Rattle.rules.specs.Count.{uses}
-use Rattle.mesh_theory.specs.Fans.Corner.{Rot, third}
+use Rattle.rules.specs.Triangle.{Rot}
+use Rattle.mesh_theory.specs.Fans.Corner.{third}
 
 -- triangle n of the list is x y z, and z is its corner k; no later one has x→y
 pub record FoundAt (x y : ℕ) (ts : List Triangle) (n k z : ℕ) : Type 0 where

@@ -8,11 +8,11 @@ use Rattle.rules.specs.declared.Triangle.{Triangle}
 use Rattle.rules.specs.declared.Checked.{Checked}
 use Rattle.rules.specs.declared.Checked.the-variants.{Accepted}
 use Rattle.rules.specs.Limits.{vertexRange}
-use Rattle.rules.specs.Triangle.{trianglesOf, corners, edgesOf}
+use Rattle.rules.specs.Triangle.{trianglesOf, corners, edgesOf, In}
 use Rattle.rules.specs.Count.{uses}
 use Rattle.rules.specs.Fan.{OneFan, oneFanEach}
 use Rattle.rules.specs.Check.{sizeFits, allBelow, allDistinct, noneTwice, allUsed, passes}
-use Rattle.mesh_theory.specs.Fans.Corner.{In, Different}
+use Rattle.mesh_theory.specs.Fans.Corner.{Different}
 
 abbrev pub tests : ℕ → List ℕ → List Bool
 tests v xs =

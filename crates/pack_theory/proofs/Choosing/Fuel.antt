@@ -8,7 +8,8 @@ use mathlib.Core.Logic.{_⊎_, inl, inr}
 use lib.ListN.{length}
 use Rattle.rules.specs.declared.Triangle.{Triangle}
 use Rattle.rules.specs.Choice.{turnIn, turnOut}
-use Rattle.mesh_theory.specs.Fans.Corner.{In, Once}
+use Rattle.rules.specs.Triangle.{In}
+use Rattle.mesh_theory.specs.Fans.Corner.{Once}
 use Rattle.mesh_theory.proofs.Fans.Corners.{in-next}
 use Rattle.choice_theory.specs.Spots.{Unused}
 use Rattle.choice_theory.proofs.Turning.Links.{in-last, once-func}

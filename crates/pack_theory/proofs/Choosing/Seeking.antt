@@ -12,9 +12,10 @@ use Rattle.rules.specs.Limits.{maxPlaces}
 use Rattle.rules.specs.Count.{num}
 use Rattle.rules.specs.Ring.{Node, Ring, vertex, isOpen, firstOpen, startOr, vertexAt, lastOpen, loopAt}
 use Rattle.rules.specs.Choice.{Position, absent, at, Spot, nowhere, spot, edgeIn, spotOf, sizeOf, afterCurrent}
+use Rattle.rules.specs.Right.{EdgeIn, OpenAt}
 use Rattle.border_theory.specs.Links.Held.{named, namedRing, namedLoops}
 use Rattle.border_theory.proofs.Links.Named.{named-vertex, named-open, named-length, named-start, named-firstOpen, named-lastOpen}
-use Rattle.choice_theory.specs.Spots.{EdgeIn, OpenAt, Unique}
+use Rattle.choice_theory.specs.Spots.{Unique}
 use Rattle.choice_theory.proofs.Turning.Spotting.{spot-some}
 use Rattle.cutborder.specs.declared.Loops.{Loops}
 use Rattle.border_theory.specs.Memory.Layout as layout

@@ -12,10 +12,10 @@ use Rattle.rules.specs.declared.Triangle.{Triangle}
 use Rattle.rules.specs.declared.Across.{Across}
 use Rattle.rules.specs.declared.Across.the-variants.{Found, Nothing}
 use Rattle.rules.specs.Limits.{maxTriangles}
-use Rattle.rules.specs.Triangle.{trianglesOf}
+use Rattle.rules.specs.Triangle.{trianglesOf, In}
 use Rattle.rules.specs.Across.{across}
 use Rattle.rules.specs.Choice.{turnIn, turnOut}
-use Rattle.mesh_theory.specs.Fans.Corner.{In, Different, Once}
+use Rattle.mesh_theory.specs.Fans.Corner.{Different, Once}
 use Rattle.mesh_theory.proofs.Fans.Corners.{free-unused}
 use Rattle.mesh_theory.proofs.Fans.Tests.{all-distinct}
 use Rattle.mesh_theory.proofs.Fans.Once.{once-tests}

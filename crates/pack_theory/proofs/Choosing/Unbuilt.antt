@@ -11,7 +11,8 @@ use borrow.Author.Tests.{eqb-true, eq-eqb}
 use Rattle.rules.specs.declared.Triangle.{Triangle}
 use Rattle.rules.specs.declared.Across.the-variants.{Found}
 use Rattle.rules.specs.Across.{across}
-use Rattle.mesh_theory.specs.Fans.Corner.{Rot, In, here, there, Once}
+use Rattle.rules.specs.Triangle.{Rot, In, here, there}
+use Rattle.mesh_theory.specs.Fans.Corner.{Once}
 use Rattle.mesh_theory.proofs.Fans.Corners.{rot-next}
 use Rattle.mesh_theory.proofs.Fans.Finding.{across-found}
 use Rattle.choice_theory.specs.Spots.{Unused}

@@ -14,15 +14,16 @@ use Rattle.rules.specs.declared.Triangle.{Triangle}
 use Rattle.rules.specs.declared.Across.{Across}
 use Rattle.rules.specs.declared.Across.the-variants.{Found, Nothing}
 use Rattle.rules.specs.Limits.{maxPlaces, maxTriangles, minVertices, maxVertices}
-use Rattle.rules.specs.Triangle.{trianglesOf}
+use Rattle.rules.specs.Triangle.{trianglesOf, In}
 use Rattle.rules.specs.Across.{across}
 use Rattle.rules.specs.Ring.{Node, Ring, vertex, isOpen, reached}
 use Rattle.rules.specs.Choice.{Packing}
-use Rattle.mesh_theory.specs.Fans.Corner.{In, Once}
+use Rattle.rules.specs.Right.{OpenAt}
+use Rattle.mesh_theory.specs.Fans.Corner.{Once}
 use Rattle.mesh_theory.proofs.Fans.Corners.{in-next}
 use Rattle.book.specs.Shown.{shownAll}
 use Rattle.book.proofs.Shown.{Live, reached-first}
-use Rattle.choice_theory.specs.Spots.{OpenAt, Unused, Unique}
+use Rattle.choice_theory.specs.Spots.{Unused, Unique}
 use Rattle.choice_theory.proofs.Turning.Ways.{across-some, across-none, look}
 use Rattle.choice_theory.proofs.Places.Standing.{legal-used}
 use Rattle.choice_theory.proofs.Steps.Triangle.{Keeps, packs}

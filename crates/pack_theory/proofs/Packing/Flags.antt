@@ -14,9 +14,9 @@ use Rattle.rules.specs.declared.Triangle.{Triangle}
 use Rattle.rules.specs.declared.Across.{Across}
 use Rattle.rules.specs.declared.Across.the-variants.{Found, Nothing}
 use Rattle.rules.specs.Across.{inTriangle, across}
-use Rattle.rules.specs.Triangle.{trianglesOf}
+use Rattle.rules.specs.Triangle.{trianglesOf, In, Free}
 use Rattle.rules.specs.Choice.{dropTriangle}
-use Rattle.mesh_theory.specs.Fans.Corner.{In, Free, Once}
+use Rattle.mesh_theory.specs.Fans.Corner.{Once}
 use Rattle.mesh_theory.specs.Chains.Corner.{triangleAt}
 use Rattle.choice_theory.proofs.Turning.Ways.{Told, told, across-none, look}
 use Rattle.choice_theory.proofs.Turning.Links.{free-rot}

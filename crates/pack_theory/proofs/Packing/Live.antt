@@ -16,12 +16,11 @@ use Rattle.rules.specs.declared.Across.the-variants.{Found, Nothing}
 use Rattle.rules.specs.declared.Operation.{Operation}
 use Rattle.rules.specs.declared.Operation.the-variants.{New, Border}
 use Rattle.rules.specs.Limits.{maxPlaces, maxTriangles}
-use Rattle.rules.specs.Triangle.{edge, trianglesOf}
+use Rattle.rules.specs.Triangle.{edge, trianglesOf, In}
 use Rattle.rules.specs.Across.{across}
 use Rattle.rules.specs.Ring.{Node, Ring, vertex, isOpen, reached, places}
 use Rattle.rules.specs.Table.{atEdge, effect}
 use Rattle.rules.specs.Choice.{Packing, has, dropTriangle, choosePlace, refuses, packingAfter, limited, choose}
-use Rattle.mesh_theory.specs.Fans.Corner.{In}
 use Rattle.rules.specs.Fan.{Neighbours}
 use Rattle.mesh_theory.proofs.Fans.Corners.{in-next}
 use Rattle.book.specs.Shown.{shownAll}

@@ -10,11 +10,10 @@ use Rattle.rules.specs.declared.Triangle.{Triangle}
 use Rattle.rules.specs.declared.Counts.{Counts}
 use Rattle.rules.specs.declared.Operation.the-variants.{Start}
 use Rattle.rules.specs.Limits.{maxPlaces, maxTriangles}
-use Rattle.rules.specs.Triangle.{tri, trianglesOf}
+use Rattle.rules.specs.Triangle.{tri, trianglesOf, at-p, at-q, at-r, Rot, In, here}
 use Rattle.rules.specs.Ring.{opened, Ring, reached, places}
 use Rattle.rules.specs.Table.{fresh, atRest, effect}
 use Rattle.rules.specs.Choice.{Packing, has, packingAfter, limited, choose}
-use Rattle.mesh_theory.specs.Fans.Corner.{at-p, at-q, at-r, Rot, In, here}
 use Rattle.rules.specs.Fan.{Neighbours}
 use Rattle.mesh_theory.specs.Chains.Corner.{triangleAt}
 use Rattle.choice_theory.proofs.Runs.Working.{none-shown}

@@ -11,7 +11,8 @@ use Rattle.rules.specs.declared.Across.the-variants.{Found}
 use Rattle.rules.specs.Limits.{maxPlaces}
 use Rattle.rules.specs.Triangle.{trianglesOf}
 use Rattle.rules.specs.Across.{across}
-use Rattle.choice_theory.specs.Spots.{OpenAt, Unused, Unique}
+use Rattle.rules.specs.Right.{OpenAt}
+use Rattle.choice_theory.specs.Spots.{Unused, Unique}
 use Rattle.mesh_theory.specs.Chains.Linked.{Linked}
 use Rattle.cutborder.specs.declared.Loops.{Loops}
 use Rattle.border_theory.specs.Memory.Stands.{Stands, loopsIn}
