@@ -1,13 +1,19 @@
--- What the test of 13 says.
+-- What the test of a range says, and the test of 13.
 -- Assumes nothing.
-use Prim.Native.Nat.{_≤_}
+use Prim.Native.Nat.{ℕ, _≤_}
 use mathlib.Core.Bool.{true, _&&_}
 use mathlib.Core.Path.{_≡_}
 use lib.Dec.{leb}
-use borrow.Author.Tests.{leb-true}
+use borrow.Author.Tests.{leb-true, le-leb}
 use Rattle.rules.specs.declared.Counts.{Counts}
 use Rattle.rules.specs.Limits.{minVertices, maxVertices, maxTriangles, minPlaces, maxPlaces, maxLoops, between, vertexRange, inRange}
-use Rattle.counting.proofs.Bools.{and-left, and-right}
+use Rattle.counting.proofs.Bools.{and-left, and-right, and-both, and-true}
+
+pub between-of : (a n b : ℕ) → a ≤ n → n ≤ b → between a n b ≡ true
+between-of a n b h k = and-both (leb a n) (leb n b) (le-leb a n h) (le-leb n b k)
+
+pub of-between : (a n b : ℕ) → between a n b ≡ true → (a ≤ n) × (n ≤ b)
+of-between a n b h = let r = and-true (leb a n) (leb n b) h in (leb-true a n (r .0), leb-true n b (r .1))
 
 -- the counts stated, each within its range
 pub record InRange (c : Counts) : Type 0 where

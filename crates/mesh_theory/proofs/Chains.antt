@@ -5,6 +5,7 @@ pub mod Finding
 pub mod Linking
 pub mod Listing
 pub mod Once
+pub mod Order
 pub mod Prefix
 pub mod Turning
 pub mod Used

@@ -40,9 +40,9 @@ use Rattle.wire_theory.proofs.Fields.{pack-header, PackFound, pack-found}
 use Rattle.roundtrip.specs.Claims.{newNumber, PackOf, listIn, EveryAcceptedPackIsThePackOfItsList, NoTwoPacksOfOneList}
 use Rattle.roundtrip.proofs.Numbers.{getD-front, length-new, new-at, index-up}
 use Rattle.roundtrip.proofs.Results.{within-checked, stored-done, UnpackedBy, unpacked-by}
-use Rattle.roundtrip.proofs.Fitting.{accepted-count}
 use Rattle.counting.proofs.Bools.{and-true}
 use Rattle.mesh_theory.proofs.Chains.Prefix.{length-numbers}
+use Rattle.mesh_theory.proofs.Fans.Checks.{accepted-count}
 
 -- a machine that passes 15, 19 and 20 is done
 done-by : (m : Machine) → complete m ≡ true → asStated m ≡ true → oneFanEach (m .used) (m .triangles) ≡ true → Done m

@@ -18,7 +18,7 @@ use Rattle.rules.specs.Buffer.{Buffers}
 use Rattle.rules.specs.Unpack.{numbersOf, UnpackResult, unpackDone, unpack}
 use Rattle.mesh_theory.specs.Fans.Corner.{Once}
 use Rattle.choice_theory.proofs.Steps.Choosing.{onto}
-use Rattle.choice_theory.proofs.Places.Numbering.{Met}
+use Rattle.choice_theory.proofs.Places.Numbering.{Met, index-below}
 use Rattle.choice_theory.proofs.Runs.Following.{run-length}
 use Rattle.choice_theory.proofs.Runs.Machine.{Facts, facts}
 use Rattle.choice_theory.proofs.Runs.Whole.{Complete, complete-all, complete-only}
@@ -31,7 +31,7 @@ use Rattle.choice_theory.proofs.Runs.Repacking.{in-onto, run-onto, numbersIn, t
 use Rattle.choice_theory.proofs.Runs.Repacking.{works-order}
 use Rattle.roundtrip.specs.Run.{enough, buildOrder}
 use Rattle.roundtrip.specs.Claims.{renumbered, Rearranged, OneToOne, newNumber, LongEnoughFor, EachOnce, EachTriangleOnce}
-use Rattle.roundtrip.proofs.Numbers.{getD-front, length-new, new-at, index-below, has-at, index-at}
+use Rattle.roundtrip.proofs.Numbers.{getD-front, length-new, new-at, has-at, index-at}
 use Rattle.roundtrip.proofs.Renumber.{named-is-renumbered, renumbered-agree}
 use Rattle.roundtrip.proofs.Results.{PackedBy, packed-by}
 use Rattle.roundtrip.proofs.Forth.{whole, ok, reached, unpacks-done}

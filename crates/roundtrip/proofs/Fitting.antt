@@ -1,18 +1,16 @@
 -- A complete packing within the limits: its counts are in range, its indices fit their widths, and its pack is short enough.
 -- Assumes nothing.
-use Prim.Native.Nat.{ℕ, suc, _+_, _*_, _%_, _≤_, _<_}
+use Prim.Native.Nat.{ℕ, suc, _+_, _*_, _≤_, _<_}
 use native.Mathlib.Omega.{arith}
 use mathlib.Core.Bool.{true, false, _&&_, not}
 use mathlib.Core.List.{List, [], _∷_, _++_, append-assoc}
-use mathlib.Core.Path.{_≡_, refl, ap, _∙_, subst}
+use mathlib.Core.Path.{_≡_, ap, _∙_, subst}
 use lib.ListN.{length, length-append}
-use lib.Dec.{leb, eqb}
-use borrow.Author.Tests.{le-leb, leb-true, eqb-true}
 use Rattle.rules.specs.declared.Triangle.{Triangle}
 use Rattle.rules.specs.declared.Operation.{Operation}
 use Rattle.rules.specs.declared.Operation.the-variants.{New, Forward, Backward, Border, Split, Close, Union, Start}
 use Rattle.rules.specs.declared.Checked.the-variants.{Accepted}
-use Rattle.rules.specs.Limits.{maxNumbers, minVertices, maxVertices, maxTriangles, minPlaces, maxPlaces, maxLoops, between, vertexRange}
+use Rattle.rules.specs.Limits.{minVertices, maxVertices, maxTriangles, minPlaces, maxPlaces, maxLoops, between, vertexRange}
 use Rattle.rules.specs.Limits.{inRange}
 use Rattle.rules.specs.Triangle.{trianglesOf}
 use Rattle.rules.specs.Check.{check}
@@ -31,19 +29,16 @@ use Rattle.choice_theory.proofs.Runs.Machine.{Run, r-done, r-start, r-build, r-
 use Rattle.choice_theory.proofs.Runs.Tracking.{shownPlaces, shownLoops, Within, peak-within}
 use Rattle.choice_theory.proofs.Runs.Whole.{Complete}
 use Rattle.choice_theory.proofs.Runs.RoundTrip.{statedBy}
-use Rattle.mesh_theory.proofs.Fans.Checks.{check-accepted}
+use Rattle.choice_theory.proofs.Places.Rings.{places-append}
+use Rattle.mesh_theory.proofs.Fans.Checks.{check-accepted, accepted-count}
 use Rattle.wire_theory.specs.Shape.{Fits, widthOf}
 use Rattle.wire_theory.proofs.Whole.{AllFit}
 use Rattle.wire_theory.proofs.Fields.{CountsFit}
 use Rattle.wire_theory.proofs.Bytes.{length-bytes}
 use Rattle.wire_theory.proofs.Operations.{length-operation, width-least, width-most, read-operation}
 use Rattle.roundtrip.proofs.Limits.{chosen-same, peaks-kept}
-use Rattle.counting.proofs.Bools.{and-both, and-true}
-
-pub places-append : (us vs : List Ring) → places (us ++ vs) ≡ places us + places vs
-unfolding places
-places-append [] vs = omega arith
-places-append (u ∷ us) vs = omega (arith, places-append us vs)
+use Rattle.counting.proofs.Bools.{and-both}
+use Rattle.counting.proofs.Ranges.{between-of, of-between}
 
 -- an index of the table fits its width
 surgery-fits : (e f : Node) (ps : List Node) (ws ls : List Ring) (c : ℕ) (o : Operation) → Live ws → Surgery e f ps ws ls c o
@@ -126,29 +121,6 @@ reads-of [] zs h = none-read
 reads-of (o ∷ os) zs h =
     one-read (ap readOperation (append-assoc (operationBits o) (operationsBits os) zs) ∙ read-operation o (operationsBits os ++ zs) (h .0))
     (reads-of os zs (h .1))
-
-pub triangles-thirds : (xs : List ℕ) → length xs % 3 ≡ 0 → 3 * length (trianglesOf xs) ≡ length xs
-unfolding trianglesOf
-triangles-thirds [] h = refl
-triangles-thirds (x ∷ []) h = absurd (omega arith)
-triangles-thirds (x ∷ (y ∷ [])) h = absurd (omega arith)
-triangles-thirds (x ∷ (y ∷ (z ∷ xs))) h = let k = triangles-thirds xs (omega arith) in omega arith
-
-pub between-of : (a n b : ℕ) → a ≤ n → n ≤ b → between a n b ≡ true
-between-of a n b h k = and-both (leb a n) (leb n b) (le-leb a n h) (le-leb n b k)
-
-pub of-between : (a n b : ℕ) → between a n b ≡ true → (a ≤ n) × (n ≤ b)
-of-between a n b h = let r = and-true (leb a n) (leb n b) h in (leb-true a n (r .0), leb-true n b (r .1))
-
--- how many triangles an accepted list has
-pub accepted-count : (v : ℕ) (xs : List ℕ) → check v xs ≡ Accepted
-    → (3 * length (trianglesOf xs) ≡ length xs) × (1 ≤ length (trianglesOf xs)) × (length (trianglesOf xs) ≤ maxTriangles)
-accepted-count v xs a =
-    let p = check-accepted v xs .0 a in
-    let s = and-true (between 1 (length xs) maxNumbers) (eqb (length xs % 3) 0) (p .size) in
-    let b = of-between 1 (length xs) maxNumbers (s .0) in
-    let t = triangles-thirds xs (eqb-true (length xs % 3) 0 (s .1)) in
-    (t, omega (arith, b .0), omega (arith, b .1))
 
 -- a complete packing of an accepted list
 module _ (v : ℕ) (xs : List ℕ) (os : List Operation) (s : Packing) (a : check v xs ≡ Accepted)

@@ -3,7 +3,7 @@
 use Prim.Native.Nat.{ℕ, zero, suc, _+_, _≤_, _<_}
 use native.Mathlib.Omega.{arith}
 use native.Mathlib.Decide.{decLe}
-use mathlib.Core.Bool.{Bool, true, false, false≢true}
+use mathlib.Core.Bool.{Bool, true, false}
 use mathlib.Core.List.{List, [], _∷_, _++_}
 use mathlib.Core.Path.{_≡_, refl, sym, ap, _∙_, subst}
 use lib.ListN.{length, getD, length-append}
@@ -37,16 +37,6 @@ new-at (suc n) x vs h = go (decLe (suc x) n) (new-at n x vs)
     go (no l) ih =
         let e : n ≡ x = omega arith in
         getD-at (newNumbers n vs) (indexOf n vs) [] 0 x (length-new n vs ∙ e) ∙ ap (λ (k : ℕ). indexOf k vs) e
-
-pub index-below : (x : ℕ) (vs : List ℕ) → has x vs ≡ true → indexOf x vs < length vs
-unfolding has indexOf
-index-below x [] h = absurd (false≢true h)
-index-below x (v ∷ vs) h = go (eqb x v) (index-below x vs) h
-  where
-    go : (t : Bool) → (has x vs ≡ true → indexOf x vs < length vs) → _≡_ {A = Bool} (elim t [ true ↦ true | false ↦ has x vs ]) true
-        → elim t [ true ↦ 0 | false ↦ suc (indexOf x vs) ] < suc (length vs)
-    go true ih g = omega arith
-    go false ih g = let k = ih g in omega arith
 
 -- a number of the list
 pub has-at : (n : ℕ) (vs : List ℕ) → n < length vs → has (getD vs n 0) vs ≡ true

@@ -26,11 +26,11 @@ use Rattle.cutborder.specs.declared.Front.{Front}
 use Rattle.border_theory.proofs.Memory.Finish.{totals-same}
 use Rattle.choice_theory.proofs.OneFan.Unmet.{fanned-one-run}
 use Rattle.unpack_theory.specs.Runs.{Runs, modelAnswer, endBy, endAnswer, Beyond}
-use Rattle.unpack_theory.proofs.Order.{built-different, built-once, fan-built, same-fans}
 use Rattle.unpack_theory.proofs.Meeting.{zero-unmet}
 use Rattle.counting.proofs.Bools.{and-left}
 use Rattle.counting.proofs.Ranges.{in-range, InRange}
 use Rattle.mesh_theory.proofs.Chains.Prefix.{length-numbers}
+use Rattle.mesh_theory.proofs.Chains.Order.{built-different, built-once, fan-built, same-fans}
 
 -- the answer of a complete machine, by the tests
 module _ (c : Counts) (M : Machine) (rest : Bool) where

@@ -21,11 +21,12 @@ use Rattle.rules.specs.Buffer.{freePlace, over, zeroed, cleared, Buffers, lengt
 use Rattle.rules.specs.Fields.{Fields, no-pack, fields, fieldsOf}
 use Rattle.rules.specs.Unpack.{Ran, stopped, completed, runOf, numbersOf, restFits, UnpackResult, turnedDown, unpackRefused, unpackDone}
 use Rattle.rules.specs.Unpack.{unpackEnded, unpackRun, unpackFields, unpack}
+use Rattle.border_theory.specs.Records.Lent.{lent}
 use Rattle.cutborder.specs.declared.Stepped.{Stepped}
 use Rattle.cutborder.specs.declared.Stepped.the-variants.{Going, Refused}
 use Rattle.counting.proofs.Bools.{and-left}
 use Rattle.unpack_theory.specs.Runs.{Beyond, bitsFrom, endBy, endAnswer, Ends, Answers, tidied}
-use Rattle.unpack_theory.specs.Lent.{lent, unpackOn}
+use Rattle.unpack_theory.specs.Lent.{unpackOn}
 use Rattle.unpack_theory.proofs.Ending.{whole-over}
 
 -- whether the bytes get past 12 to 14, with n place records and k triangle entries

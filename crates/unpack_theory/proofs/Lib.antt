@@ -7,7 +7,6 @@ pub mod Lending
 pub mod Looping
 pub mod Meeting
 pub mod Operating
-pub mod Order
 pub mod Ruling
 pub mod Starting
 pub mod Stepping

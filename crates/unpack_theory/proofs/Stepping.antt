@@ -28,6 +28,7 @@ use Rattle.book.proofs.EdgeRule.{Simple, refusalOf, never-18, test-passed}
 use Rattle.mesh_theory.specs.Chains.Corner.{firstTriangles}
 use Rattle.mesh_theory.specs.Chains.Linked.{relinked}
 use Rattle.mesh_theory.proofs.Chains.Linking.{written-linked}
+use Rattle.mesh_theory.proofs.Chains.Order.{asBuilt, same-rule}
 use Rattle.counting.proofs.Triangles.{written-long}
 use Rattle.rules.specs.Build.{withTriangle}
 use Rattle.cutborder.specs.declared.Front.{Front}
@@ -46,7 +47,6 @@ use Rattle.unpack_theory.specs.Turn.{stops, turnBy, turnOf, turn}
 use Rattle.unpack_theory.specs.Met.{metAfter}
 use Rattle.unpack_theory.specs.Runs.{Runs, bitsFrom, Steps}
 use Rattle.unpack_theory.specs.Rule.{ruleAt, RuleIs}
-use Rattle.unpack_theory.proofs.Order.{asBuilt, same-rule}
 use Rattle.unpack_theory.proofs.Writing.{numbers-more}
 use Rattle.unpack_theory.proofs.Meeting.{met-long, unmet-before}
 use Rattle.counting.proofs.Counts.{same-yes}

@@ -20,9 +20,10 @@ use Rattle.wire_theory.proofs.Bytes.{length-bits-of-bytes}
 use Rattle.mesh_theory.specs.Chains.Linked.{Chains}
 use Rattle.cutborder.specs.declared.Front.{Front}
 use Rattle.border_theory.specs.Memory.Fresh.{allFree, freshFront}
+use Rattle.border_theory.specs.Records.Lent.{lent}
 use Rattle.cutborder.specs.declared.Stepped.{Stepped}
 use Rattle.unpack_theory.specs.Runs.{Runs, Held, Beyond, Ends, RunOf, Ended, Answers, tidied}
-use Rattle.unpack_theory.specs.Lent.{lent, unpackOn, UnpackedOn, Fitting, RunGives}
+use Rattle.unpack_theory.specs.Lent.{unpackOn, UnpackedOn, Fitting, RunGives}
 use Rattle.unpack_theory.proofs.Starting.{starts-empty}
 use Rattle.unpack_theory.proofs.Looping.{ends-ended}
 use Rattle.unpack_theory.proofs.Lending.{short-is, enough-is, run-answer, run-triangles}

@@ -4,19 +4,16 @@ use Prim.Native.Nat.{ℕ, _*_, _≤_, _<_}
 use mathlib.Core.Bool.{true, false}
 use mathlib.Core.List.{List}
 use mathlib.Core.Path.{_≡_}
-use lib.ListN.{length, replicate}
+use lib.ListN.{length}
 use lib.Dec.{leb}
 use Rattle.rules.specs.declared.Counts.{Counts}
 use Rattle.rules.specs.declared.Unpacked.{Unpacked}
 use Rattle.rules.specs.declared.Unpacked.the-variants as U
 use Rattle.rules.specs.Limits.{maxPlaces, inRange}
 use Rattle.rules.specs.Answer.{unpackedAnswer}
-use Rattle.rules.specs.Buffer.{freePlace, Buffers}
 use Rattle.rules.specs.Unpack.{UnpackResult, runOf, unpackRun, unpack}
 use Rattle.border_theory.specs.Records.Plain.{coreSize}
-
-abbrev pub lent : ℕ → List ℕ → Buffers
-lent n ts = record { triangles = ts; places = replicate n freePlace }
+use Rattle.border_theory.specs.Records.Lent.{lent}
 
 abbrev pub unpackOn : List ℕ → ℕ → List ℕ → UnpackResult
 unpackOn bytes n ts = unpack bytes (lent n ts)

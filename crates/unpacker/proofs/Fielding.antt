@@ -12,10 +12,11 @@ use Rattle.rules.specs.declared.Unpacked.the-variants as U
 use Rattle.rules.specs.Limits.{inRange}
 use Rattle.rules.specs.Fields.{Fields, no-pack, fields, fieldsOf}
 use Rattle.rules.specs.Unpack.{turnedDown, unpackFields}
+use Rattle.border_theory.specs.Records.Lent.{lent}
 use Rattle.wire.specs.declared.fields.PackFields.{PackFields}
 use Rattle.wire.specs.declared.fields.PackFields.the-variants.{Found, Refused}
 use Rattle.wire.specs.Fields.{ranged, tested, packFields, PartFound, Parted}
-use Rattle.unpack_theory.specs.Lent.{lent, UnpackedOn}
+use Rattle.unpack_theory.specs.Lent.{UnpackedOn}
 use Rattle.unpack_theory.proofs.Unpacking.{turned-on}
 use Rattle.unpack_theory.proofs.Lending.{fields-13}
 

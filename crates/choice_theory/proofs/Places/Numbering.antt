@@ -1,6 +1,6 @@
 -- The vertices that have a number are those that have a built triangle.
 -- Assumes nothing.
-use Prim.Native.Nat.{ℕ, suc, _+_}
+use Prim.Native.Nat.{ℕ, suc, _+_, _<_}
 use native.Mathlib.Omega.{arith}
 use mathlib.Core.Bool.{Bool, true, false, false≢true}
 use mathlib.Core.List.{List, [], _∷_, _++_, append-assoc}
@@ -218,3 +218,14 @@ index-start p q r vs ws us e hp hq hr d =
 
 pub has-last : (x v : ℕ) (vs : List ℕ) → x ≡ v → has x (vs ++ (v ∷ [])) ≡ true
 has-last x v vs e = has-right x vs (v ∷ []) (has-first x v [] (sym e))
+
+-- a vertex that has a number: it is below the count
+pub index-below : (x : ℕ) (vs : List ℕ) → has x vs ≡ true → indexOf x vs < length vs
+unfolding has indexOf
+index-below x [] h = absurd (false≢true h)
+index-below x (v ∷ vs) h = go (eqb x v) (index-below x vs) h
+  where
+    go : (t : Bool) → (has x vs ≡ true → indexOf x vs < length vs) → _≡_ {A = Bool} (elim t [ true ↦ true | false ↦ has x vs ]) true
+        → elim t [ true ↦ 0 | false ↦ suc (indexOf x vs) ] < suc (length vs)
+    go true ih g = omega arith
+    go false ih g = let k = ih g in omega arith

@@ -1,14 +1,20 @@
--- Laws of what holds at each place of a ring.
+-- Laws of what holds at each place of a ring; the places of rings counted.
 -- Assumes nothing.
-use Prim.Native.Nat.{ℕ}
+use Prim.Native.Nat.{ℕ, _+_}
+use native.Mathlib.Omega.{arith}
 use mathlib.Core.List.{List, [], _∷_, _++_}
 use mathlib.Core.Path.{_≡_, refl, sym, ap, subst}
-use Rattle.rules.specs.Ring.{Node, Ring, vertex, startOr}
+use Rattle.rules.specs.Ring.{Node, Ring, vertex, startOr, places}
 use Rattle.choice_theory.proofs.Places.Corners.{endOr, Along, Around, Everywhere}
 
 pub append-none : (ps : List Node) → ps ++ [] ≡ ps
 append-none [] = refl
 append-none (p ∷ ps) = ap (λ (l : List Node). p ∷ l) (append-none ps)
+
+pub places-append : (us vs : List Ring) → places (us ++ vs) ≡ places us + places vs
+unfolding places
+places-append [] vs = omega arith
+places-append (u ∷ us) vs = omega (arith, places-append us vs)
 
 pub last-append : (x : ℕ) (us : List Node) (q : Node) (vs : List Node) → endOr x (us ++ (q ∷ vs)) ≡ endOr (vertex q) vs
 last-append x [] q vs = refl

@@ -1,15 +1,22 @@
--- What `check` answers: it accepts exactly if all tests pass, and refuses by the number of the first one that fails.
+-- What `check` answers: it accepts exactly if all tests pass, and refuses by the number of the first one that fails. How many triangles
+-- a list has that is accepted.
 -- Assumes nothing.
-use Prim.Native.Nat.{ℕ, zero, suc, _+_, _≤_, _<_}
+use Prim.Native.Nat.{ℕ, zero, suc, _+_, _*_, _%_, _≤_, _<_}
 use native.Mathlib.Omega.{arith}
 use mathlib.Core.Bool.{Bool, true, false, true≢false, false≢true}
 use mathlib.Core.List.{List, [], _∷_}
 use mathlib.Core.Logic.{_↔_}
 use mathlib.Core.Path.{_≡_, refl, sym, ap, _∙_}
 use lib.ListN.{length}
+use lib.Dec.{eqb}
+use borrow.Author.Tests.{eqb-true}
 use Rattle.rules.specs.declared.Checked.{Checked}
 use Rattle.rules.specs.declared.Checked.the-variants.{Accepted, Refused}
+use Rattle.rules.specs.Limits.{maxNumbers, maxTriangles, between}
+use Rattle.rules.specs.Triangle.{trianglesOf}
 use Rattle.rules.specs.Check.{passes, checkTriangles, check}
+use Rattle.counting.proofs.Bools.{and-true}
+use Rattle.counting.proofs.Ranges.{of-between}
 use Rattle.mesh_theory.specs.Fans.Passing.{tests, tested, AllPass, FirstFails, Passes}
 
 -- an acceptance is no refusal, and refusals differ by their numbers
@@ -77,3 +84,20 @@ pub check-refused : (v : ℕ) (xs : List ℕ) (k : ℕ) → (check v xs ≡ Refu
 check-refused v xs k =
     let i = tested-refused k 1 (suc k) (tests v xs) (omega arith) in
     (λ h. i .0 (sym (check-tested v xs) ∙ h), λ h. check-tested v xs ∙ i .1 h)
+
+pub triangles-thirds : (xs : List ℕ) → length xs % 3 ≡ 0 → 3 * length (trianglesOf xs) ≡ length xs
+unfolding trianglesOf
+triangles-thirds [] h = refl
+triangles-thirds (x ∷ []) h = absurd (omega arith)
+triangles-thirds (x ∷ (y ∷ [])) h = absurd (omega arith)
+triangles-thirds (x ∷ (y ∷ (z ∷ xs))) h = let k = triangles-thirds xs (omega arith) in omega arith
+
+-- how many triangles an accepted list has
+pub accepted-count : (v : ℕ) (xs : List ℕ) → check v xs ≡ Accepted
+    → (3 * length (trianglesOf xs) ≡ length xs) × (1 ≤ length (trianglesOf xs)) × (length (trianglesOf xs) ≤ maxTriangles)
+accepted-count v xs a =
+    let p = check-accepted v xs .0 a in
+    let s = and-true (between 1 (length xs) maxNumbers) (eqb (length xs % 3) 0) (p .size) in
+    let b = of-between 1 (length xs) maxNumbers (s .0) in
+    let t = triangles-thirds xs (eqb-true (length xs % 3) 0 (s .1)) in
+    (t, omega (arith, b .0), omega (arith, b .1))

@@ -34,7 +34,7 @@ use Rattle.choice_theory.proofs.Turning.Taking.{corners}
 use Rattle.choice_theory.proofs.Steps.Progress.{AllGood, good-live}
 use Rattle.choice_theory.proofs.Runs.Accepted.{Packable, accepted-packable}
 use Rattle.mesh_theory.specs.Chains.Linked.{Linked}
-use Rattle.roundtrip.proofs.Fitting.{accepted-count}
+use Rattle.mesh_theory.proofs.Fans.Checks.{accepted-count}
 use Rattle.border_theory.specs.Memory.Stands.{ringsIn, loopsIn}
 use Rattle.cutborder.specs.declared.Course.{Course}
 use Rattle.pack_theory.specs.Packing.Numbers.{entries}

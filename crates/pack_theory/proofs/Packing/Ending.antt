@@ -23,13 +23,12 @@ use Rattle.rules.specs.Buffer.{zeroed}
 use Rattle.rules.specs.Choice.{Packing, has}
 use Rattle.rules.specs.Pack.{Chosen, stopped, chosen, chooseAll, most, nothingBuilt, chosenFor, packOf, newNumbers, PackResult, packRefused}
 use Rattle.rules.specs.Pack.{packDone, packChosen, packLongEnough, turnedDown, packChecked}
-use Rattle.mesh_theory.proofs.Fans.Checks.{check-accepted}
+use Rattle.mesh_theory.proofs.Fans.Checks.{check-accepted, accepted-count}
 use Rattle.wire_theory.specs.Buffer.{bytesFor}
 use Rattle.mesh_theory.specs.Chains.Linked.{Linked}
 use Rattle.choice_theory.proofs.Runs.Whole as whole
 use Rattle.choice_theory.proofs.Runs.Whole.{Complete, fits-begin, complete-all}
 use Rattle.choice_theory.proofs.Runs.Accepted.{accepted-packable, accepted-packs}
-use Rattle.roundtrip.proofs.Fitting.{accepted-count, between-of}
 use Rattle.border_theory.specs.Memory.Fresh.{allFree, freshFront}
 use Rattle.border_theory.specs.Memory.Keeps.{Roomy}
 use Rattle.border_theory.proofs.Memory.Fresh.{free-length, fresh-keeps}
@@ -49,6 +48,7 @@ use Rattle.pack_theory.proofs.Packing.Flags.{unbuilt-all}
 use Rattle.pack_theory.proofs.Packing.Writing.{pack-length, pack-written}
 use Rattle.pack_theory.proofs.Packing.Stepping.{holds-beyond}
 use Rattle.counting.proofs.Bools.{and-true}
+use Rattle.counting.proofs.Ranges.{between-of}
 
 -- ---- the beginning
 

@@ -21,8 +21,8 @@ use Rattle.choice_theory.specs.Full.{withRing}
 use Rattle.choice_theory.proofs.Steps.Surgery.{afterBorder, Surgery, on-new, on-forward, on-backward, on-close, on-split, on-union}
 use Rattle.choice_theory.proofs.Places.Onward.{turned-ring}
 use Rattle.choice_theory.proofs.Steps.Effects.{shown-forward, shown-backward, shown-cut, shown-halves, shown-union}
+use Rattle.choice_theory.proofs.Places.Rings.{places-append}
 use Rattle.pack_theory.specs.Packing.Doing.{refusalAt}
-use Rattle.roundtrip.proofs.Fitting.{places-append}
 
 -- no more places and loops than before, or one place more
 abbrev pub Grows : List Ring → List Ring → Type 0

@@ -23,6 +23,7 @@ use Rattle.rules.specs.Table.{atEdge, effect}
 use Rattle.rules.specs.Choice.{Packing, has, dropTriangle, choosePlace, refuses, packingAfter, limited, choose}
 use Rattle.rules.specs.Fan.{Neighbours}
 use Rattle.mesh_theory.proofs.Fans.Corners.{in-next}
+use Rattle.mesh_theory.proofs.Fans.Checks.{accepted-count}
 use Rattle.book.specs.Shown.{shownAll}
 use Rattle.book.proofs.Shown.{Live, reached-first}
 use Rattle.choice_theory.specs.Spots.{Unused}
@@ -36,12 +37,11 @@ use Rattle.choice_theory.proofs.Turning.Taking.{corners}
 use Rattle.choice_theory.proofs.Steps.Bordering.{withRim, rimOf, border-free}
 use Rattle.choice_theory.proofs.Steps.Progress.{AllGood, good-live, Goes, by-start, by-build, by-border, progress}
 use Rattle.choice_theory.proofs.Steps.Choosing.{Fits, choose-border, choose-new, choose-old, no-new}
-use Rattle.choice_theory.proofs.Places.Numbering.{Met, not-met, numbered-old, numbered-new}
+use Rattle.choice_theory.proofs.Places.Numbering.{Met, not-met, numbered-old, numbered-new, index-below}
 use Rattle.choice_theory.proofs.Places.Distinct.{distinct-new}
 use Rattle.choice_theory.proofs.Turning.Dropping.{drop-others}
 use Rattle.choice_theory.proofs.Runs.Accepted.{Packable, accepted-packable}
 use Rattle.choice_theory.proofs.Runs.Following.{limited-takes}
-use Rattle.roundtrip.proofs.Fitting.{accepted-count}
 use Rattle.border_theory.specs.Memory.Stands.{ringsIn, loopsIn}
 use Rattle.pack_theory.specs.Choosing.Choosable.{flagOf, unbuilt, unbuiltOf}
 use Rattle.cutborder.specs.declared.Course.{Course}
@@ -58,7 +58,6 @@ use Rattle.pack_theory.proofs.Packing.Flags.{flag-drops, found-below}
 use Rattle.pack_theory.proofs.Packing.Doing.{Outcome, standing-places, built-outcome, border-outcome}
 use Rattle.pack_theory.proofs.Packing.Growing.{Grows, surgery-grows, border-shrinks, limited-refuses}
 use Rattle.pack_theory.proofs.Packing.Reading.{EdgeRead, edge-read, none-live}
-use Rattle.roundtrip.proofs.Numbers.{index-below}
 
 -- the packing after the vertex c gets the next number, or not
 abbrev pub numberedBy : Bool → ℕ → List ℕ → List ℕ

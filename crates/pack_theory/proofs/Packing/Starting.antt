@@ -16,6 +16,7 @@ use Rattle.rules.specs.Table.{fresh, atRest, effect}
 use Rattle.rules.specs.Choice.{Packing, has, packingAfter, limited, choose}
 use Rattle.rules.specs.Fan.{Neighbours}
 use Rattle.mesh_theory.specs.Chains.Corner.{triangleAt}
+use Rattle.mesh_theory.proofs.Fans.Checks.{accepted-count}
 use Rattle.choice_theory.proofs.Runs.Working.{none-shown}
 use Rattle.choice_theory.proofs.Steps.Triangle.{Keeps}
 use Rattle.choice_theory.proofs.Steps.Starting.{all-built, keeps-start}
@@ -24,7 +25,6 @@ use Rattle.choice_theory.proofs.Places.Numbering.{not-met, has-not, numbered-st
 use Rattle.choice_theory.proofs.Places.Distinct.{distinct-start}
 use Rattle.choice_theory.proofs.Runs.Accepted.{Packable, accepted-packable}
 use Rattle.choice_theory.proofs.Runs.Following.{limited-takes}
-use Rattle.roundtrip.proofs.Fitting.{accepted-count}
 use Rattle.border_theory.specs.Memory.Stands.{ringsIn}
 use Rattle.pack_theory.specs.Choosing.Choosable.{flagOf, unbuiltOf}
 use Rattle.cutborder.specs.declared.Course.{Course}

@@ -14,8 +14,7 @@ use Rattle.rules.specs.Limits.{maxPlaces}
 use Rattle.rules.specs.Triangle.{trianglesOf}
 use Rattle.rules.specs.Choice.{Packing, choose}
 use Rattle.mesh_theory.proofs.Chains.Listing.{below-each}
-use Rattle.mesh_theory.proofs.Fans.Checks.{check-accepted}
-use Rattle.roundtrip.proofs.Fitting.{accepted-count}
+use Rattle.mesh_theory.proofs.Fans.Checks.{check-accepted, accepted-count}
 use Rattle.cutborder.specs.declared.Front.{Front}
 use Rattle.border_theory.specs.Memory.Keeps.{Ready}
 use Rattle.pack_theory.specs.Choosing.Choosable.{flagOf}

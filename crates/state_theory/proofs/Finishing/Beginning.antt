@@ -18,7 +18,7 @@ use Rattle.rules.specs.Book.{answerOf}
 use Rattle.rules.specs.Buffer.{Lengths, freePlace}
 use Rattle.rules.specs.Build.{begins, emptyBuilder, begunBuilder}
 use Rattle.counting.proofs.Bools.{and-right}
-use Rattle.unpack_theory.specs.Lent.{lent as lentOf}
+use Rattle.border_theory.specs.Records.Lent.{lent as lentOf}
 use Rattle.state_theory.specs.Finishing.Core.{refusedBy, BeginsOn, clearedAfter}
 
 module _ (stated : Counts) (xs : List ℕ) (n : ℕ) where

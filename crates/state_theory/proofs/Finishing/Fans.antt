@@ -20,8 +20,8 @@ use Rattle.rules.specs.Unpack.{numbersOf}
 use Rattle.mesh_theory.proofs.Fans.Corners.{uses-in}
 use Rattle.mesh_theory.proofs.Fans.Tests.{all-distinct, none-twice}
 use Rattle.mesh_theory.proofs.Fans.Checks.{check-accepted, check-refused}
-use Rattle.unpack_theory.proofs.Order.{asBuilt, same-uses, same-fans}
 use Rattle.mesh_theory.proofs.Chains.Prefix.{take-three}
+use Rattle.mesh_theory.proofs.Chains.Order.{asBuilt, same-uses, same-fans}
 
 -- an answer is that of one check only
 abbrev asChecked : Answer → Checked

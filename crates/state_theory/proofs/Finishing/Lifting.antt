@@ -25,7 +25,7 @@ use Rattle.border_theory.proofs.Records.Reading.{counted}
 use Rattle.border_theory.specs.Records.Changes.{clearedTo}
 use Rattle.border_theory.proofs.Records.Counting.{count-within}
 use Rattle.border_theory.proofs.Records.Clearing.{cleared-to}
-use Rattle.unpack_theory.specs.Lent.{lent as lentOf}
+use Rattle.border_theory.specs.Records.Lent.{lent as lentOf}
 use Rattle.state_theory.specs.Finishing.Core.{BegunLeaves, BeginsOn, clearedAfter, clearedBy}
 
 -- of a list's length only whether it is 1,024 counts

@@ -19,8 +19,8 @@ use Rattle.rules.specs.Book.{answerOf}
 use Rattle.rules.specs.Build.{begins, finishes, emptyBuilder, begunBuilder}
 use Rattle.cutborder.specs.declared.Front.{Front}
 use Rattle.border_theory.specs.Memory.Keeps.{Keeps}
+use Rattle.border_theory.specs.Records.Lent.{lent as lentOf}
 use Rattle.state_theory.specs.Reading.Opens.{lent, SameRecords}
-use Rattle.unpack_theory.specs.Lent.{lent as lentOf}
 
 -- an accepted beginning leaves the triangle buffer as it is; n place records were lent
 pub record Emptied (stated : Counts) (xs : List ℕ) (n : ℕ) (b : Builder) (xs′ : List ℕ) : Type 0 where
