@@ -1,4 +1,2 @@
-pub mod Deciding
 pub mod Noting
-pub mod Performing
 pub mod Planning

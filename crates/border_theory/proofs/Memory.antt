@@ -5,7 +5,9 @@ pub mod Border
 pub mod Columns
 pub mod Counts
 pub mod Cut
+pub mod Decided
 pub mod Deciding
+pub mod Done
 pub mod Doubled
 pub mod Ended
 pub mod Euler

@@ -1,7 +1,7 @@
 -- `border::build` meets its contract.
 -- Assumes nothing.
 use Rattle.border_theory.proofs.Memory.Performed.{performs}
-use Rattle.border.proofs.Performing.{built-counts, built-state}
+use Rattle.border_theory.proofs.Memory.Done.{built-counts, built-state}
 use borrow.Author.Needs.{needs}
 use Rattle.border.proofs.build.Statement.{statement}
 use Rattle.border.proofs.build.Tie as tie

@@ -1,7 +1,7 @@
 -- `border::decide` meets its contract.
 -- Assumes nothing.
 use Rattle.border_theory.proofs.Memory.Ready.{ready-proposes, ready-free}
-use Rattle.border.proofs.Deciding.{decided-by}
+use Rattle.border_theory.proofs.Memory.Decided.{decided-by}
 use Rattle.border.proofs.decide.Statement.{statement}
 use Rattle.border.proofs.decide.Tie as tie
 

@@ -1,7 +1,7 @@
 -- `border::mark` meets its contract.
 -- Assumes nothing.
 use Rattle.border_theory.proofs.Memory.Ready.{ready-borders}
-use Rattle.border.proofs.Performing.{marked-counts, marked-state}
+use Rattle.border_theory.proofs.Memory.Done.{marked-counts, marked-state}
 use borrow.Author.Needs.{needs}
 use Rattle.border.proofs.mark.Statement.{statement}
 use Rattle.border.proofs.mark.Tie as tie

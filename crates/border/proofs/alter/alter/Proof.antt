@@ -1,6 +1,6 @@
 -- `border::alter::alter` meets its contract.
 -- Assumes nothing.
-use Rattle.border.proofs.Performing.{performs-as, altered}
+use Rattle.border_theory.proofs.Memory.Done.{performs-as, altered}
 use borrow.Author.Needs.{needs}
 use Rattle.border.proofs.alter.alter.Statement.{statement}
 use Rattle.border.proofs.alter.alter.Tie as tie

@@ -1,6 +1,6 @@
 -- `border::count::count_built` meets its contract.
 -- Assumes nothing.
-use Rattle.border.proofs.Performing.{built-is}
+use Rattle.border_theory.proofs.Memory.Done.{built-is}
 use borrow.Author.Needs.{needs}
 use Rattle.border.proofs.count.count_built.Statement.{statement}
 use Rattle.border.proofs.count.count_built.Tie as tie

@@ -1,6 +1,6 @@
 -- `border::count::count_marked` meets its contract.
 -- Assumes nothing.
-use Rattle.border.proofs.Performing.{marked-is}
+use Rattle.border_theory.proofs.Memory.Done.{marked-is}
 use borrow.Author.Needs.{needs}
 use Rattle.border.proofs.count.count_marked.Statement.{statement}
 use Rattle.border.proofs.count.count_marked.Tie as tie

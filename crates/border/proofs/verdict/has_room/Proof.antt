@@ -1,7 +1,7 @@
 -- `border::verdict::has_room` meets its contract.
 -- Assumes nothing.
 use native.Mathlib.Omega.{arith}
-use Rattle.border.proofs.Deciding.{room-vertices, room-triangles, room-places, room-loops}
+use Rattle.border_theory.proofs.Memory.Decided.{room-vertices, room-triangles, room-places, room-loops}
 use borrow.Author.Needs.{needs}
 use Rattle.border.proofs.verdict.has_room.Statement.{statement}
 use Rattle.border.proofs.verdict.has_room.Tie as tie

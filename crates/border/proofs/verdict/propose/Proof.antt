@@ -1,6 +1,6 @@
 -- `border::verdict::propose` meets its contract.
 -- Assumes nothing.
-use Rattle.border.proofs.Deciding.{proposed-rest, proposed-edge}
+use Rattle.border_theory.proofs.Memory.Decided.{proposed-rest, proposed-edge}
 use borrow.Author.Needs.{needs}
 use Rattle.border.proofs.verdict.propose.Statement.{statement}
 use Rattle.border.proofs.verdict.propose.Tie as tie

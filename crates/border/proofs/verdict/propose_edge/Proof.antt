@@ -1,7 +1,7 @@
 -- `border::verdict::propose_edge` meets its contract.
 -- Assumes nothing.
 use mathlib.Core.Path.{refl}
-use Rattle.border.proofs.Deciding.{edge-by}
+use Rattle.border_theory.proofs.Memory.Decided.{edge-by}
 use borrow.Author.Needs.{needs}
 use Rattle.border.proofs.verdict.propose_edge.Statement.{statement}
 use Rattle.border.proofs.verdict.propose_edge.Tie as tie

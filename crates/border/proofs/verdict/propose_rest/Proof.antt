@@ -1,7 +1,7 @@
 -- `border::verdict::propose_rest` meets its contract.
 -- Assumes nothing.
 use borrow.Author.Needs.{needs}
-use Rattle.border.proofs.Deciding.{rest-by, rest-others}
+use Rattle.border_theory.proofs.Memory.Decided.{rest-by, rest-others}
 use Rattle.border.proofs.verdict.propose_rest.Statement.{statement}
 use Rattle.border.proofs.verdict.propose_rest.Tie as tie
 

@@ -1,7 +1,7 @@
 -- `border::verdict::test_room` meets its contract.
 -- Assumes nothing.
 use mathlib.Core.Path.{refl}
-use Rattle.border.proofs.Deciding.{tested-by, tested-room, tested-full}
+use Rattle.border_theory.proofs.Memory.Decided.{tested-by, tested-room, tested-full}
 use borrow.Author.Needs.{needs}
 use Rattle.border.proofs.verdict.test_room.Statement.{statement}
 use Rattle.border.proofs.verdict.test_room.Tie as tie

@@ -2,7 +2,7 @@
 -- Assumes nothing.
 use borrow.Author.Needs.{needs}
 use Rattle.border_theory.proofs.Memory.Ready.{ready-proposes, ready-free}
-use Rattle.border.proofs.Deciding.{decided-by}
+use Rattle.border_theory.proofs.Memory.Decided.{decided-by}
 use Rattle.pack_theory.proofs.Packing.Ways.{done-refused, done-decided, done-built, done-live, done-marked}
 use Rattle.packer.proofs.operate.operate.Statement.{statement}
 use Rattle.packer.proofs.operate.operate.Tie as tie

@@ -1,7 +1,7 @@
 -- `unpacker::common::alter` meets its contract.
 -- Assumes nothing.
 use borrow.Author.Needs.{needs}
-use Rattle.border.proofs.Performing.{performs-as, altered}
+use Rattle.border_theory.proofs.Memory.Done.{performs-as, altered}
 use Rattle.unpacker.proofs.common.alter.Statement.{statement}
 use Rattle.unpacker.proofs.common.alter.Tie as tie
 

@@ -1,7 +1,7 @@
 -- `unpacker::common::propose` meets its contract.
 -- Assumes nothing.
 use borrow.Author.Needs.{needs}
-use Rattle.border.proofs.Deciding.{edge-by, proposed-edge}
+use Rattle.border_theory.proofs.Memory.Decided.{edge-by, proposed-edge}
 use Rattle.unpacker.proofs.common.propose.Statement.{statement}
 use Rattle.unpacker.proofs.common.propose.Tie as tie
 

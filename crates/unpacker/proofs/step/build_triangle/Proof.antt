@@ -4,7 +4,7 @@ use mathlib.Core.Path.{refl}
 use borrow.Author.Needs.{needs}
 use Rattle.rules.specs.Limits.{maxPlaces}
 use Rattle.border_theory.proofs.Memory.Performed.{performs}
-use Rattle.border.proofs.Performing.{built-counts, built-state}
+use Rattle.border_theory.proofs.Memory.Done.{built-counts, built-state}
 use Rattle.unpack_theory.proofs.Operating.{held-ready, operate-ruled, operate-room, operate-third, operate-beyond, operate-built}
 use Rattle.unpacker.proofs.step.build_triangle.Statement.{statement}
 use Rattle.unpacker.proofs.step.build_triangle.Tie as tie

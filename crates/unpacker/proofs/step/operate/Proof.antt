@@ -3,7 +3,7 @@
 use mathlib.Core.Path.{refl}
 use borrow.Author.Needs.{needs}
 use Rattle.border_theory.proofs.Memory.Ready.{ready-proposes, ready-free}
-use Rattle.border.proofs.Deciding.{decided-by}
+use Rattle.border_theory.proofs.Memory.Decided.{decided-by}
 use Rattle.unpack_theory.proofs.Operating.{held-ready, decided-builds, operate-refused, operate-live, operate-marked}
 use Rattle.unpacker.proofs.step.operate.Statement.{statement}
 use Rattle.unpacker.proofs.step.operate.Tie as tie

@@ -17,8 +17,8 @@ use Rattle.cutborder.specs.declared.Front.{Front}
 use Rattle.cutborder.specs.declared.Plan.{Plan}
 use Rattle.cutborder.specs.declared.Decided.{Decided}
 use Rattle.cutborder.specs.declared.Decided.the-variants.{Refused, Builds}
-use Rattle.border_theory.specs.Memory.Decision.{restProposed, edgeProposed, proposedAt, proposed, newEdges, roomFor, roomBy, decidedBy}
-use Rattle.border_theory.specs.Memory.Decision.{decided}
+use Rattle.border_theory.specs.Memory.Decision.{restProposed, edgeProposed, proposedAt, proposed, newEdges, roomFor, roomBy}
+use Rattle.border_theory.specs.Memory.Decision.{decidedBy, decided}
 
 pub rest-by : (u : ℕ) (o o′ : Operation) (r : Decided) → o ≡ o′ → r ≡ restProposed u o′ → r ≡ restProposed u o
 rest-by u o o′ r e h = rw e h
