@@ -1,6 +1,6 @@
 /* The service's calls for C: checking, packing and unpacking triangle lists, and building them one operation at a time.
  *
- * Each call returns 0 for acceptance or the number of the refusal, 1 to 21 (docs/FORMAT.md, Refusals). A refusal leaves the
+ * Each call returns 0 for acceptance or the number of the refusal, 1 to 22 (docs/FORMAT.md, Refusals). A refusal leaves the
  * memory for results as it was, and changes a buffer only where a rule says so. Nothing is kept between two calls, and no
  * memory is allocated.
  *
@@ -52,9 +52,11 @@ enum {
 /* 1 to 7: a list of a model of v vertices, three numbers a triangle. */
 uint32_t cutborder_check(size_t v, const uint16_t *list, size_t entries);
 
-/* 1 to 11, or the pack, its length, and for each old vertex its new number. */
+/* 1 to 8, 22, 9 to 11, or the pack, its length, for each old vertex its new number, and for each built triangle, in building order, its
+ * number in the list. */
 uint32_t cutborder_pack(size_t v, const uint16_t *list, size_t entries, uint16_t *numbering, size_t numbering_entries, uint8_t *pack,
-                        size_t pack_bytes, struct cutborder_place *places, size_t records, uint32_t *size);
+                        size_t pack_bytes, uint16_t *order, size_t order_entries, struct cutborder_place *places, size_t records,
+                        uint32_t *size);
 
 /* 12 to 20, or the triangles, then vertices, triangles, edges, rims and unions, and the Euler number. */
 uint32_t cutborder_unpack(const uint8_t *pack, size_t bytes, uint16_t *triangles, size_t triangle_entries, struct cutborder_place *places,

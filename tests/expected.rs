@@ -9,7 +9,7 @@ use cutborder::proto;
 use cutborder::rng::Rng;
 use cutborder::{Answer, Level, Place, Refusal};
 
-/// The loops are those of C-14.
+/// The loops are those of C-14, and packing fills the order buffer of C-11.
 pub const LEVEL: Level = Level(14);
 
 /// The fields are those of the base: field 03 of C-13 has not landed.
@@ -25,10 +25,9 @@ pub fn choose(v: u64, list: &[u16], limits: (u32, u32)) -> Result<(Vec<Op>, Chos
     Ok((trace.ops, chosen))
 }
 
-/// Packing. The order buffer of C-11 has not landed: one that is long enough is lent and not looked at.
-pub fn pack(v: u64, list: &[u16], numbering: &mut [u16], places: &mut [Place], out: &mut [u8]) -> Result<usize, Refusal> {
-    let order = &mut vec![0; list.len() / 3];
-    plain::pack_at(LEVEL, v, list, Given::default(), PackRooms { numbering, places, out, order }, &mut Trace::default())
+/// Packing, without positions, note and codes: C-13, C-15 and C-17 have not landed.
+pub fn pack(v: u64, list: &[u16], rooms: PackRooms) -> Result<usize, Refusal> {
+    plain::pack_at(LEVEL, v, list, Given::default(), rooms, &mut Trace::default())
 }
 
 /// The counts and the operations of a pack, or 12.

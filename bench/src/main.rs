@@ -3,6 +3,7 @@
 //! Nanoseconds a triangle, the median over many calls; buffers are reused and not cleared between calls. Then the building calls.
 
 use compare::expected::{self, LEVEL, LIMITS};
+use compare::Buffers;
 use cutborder::fast::{Packer, Unpacker};
 use cutborder::gen::{self, Model};
 use cutborder::ops::Counts;
@@ -174,20 +175,19 @@ fn unpackings(m: &Model, repeats: usize) -> (f64, f64) {
     )
 }
 
-/// Packing the model, with all of 1 to 11 on both sides.
+/// Packing the model, with all of 1 to 11 on both sides; the fast engine has no order buffer.
 fn packings(m: &Model, repeats: usize) -> (f64, f64) {
     let v = m.v as usize;
-    let (mut numbering, mut expected) = (vec![0u16; v], vec![0u16; v]);
-    let (mut buffer, mut expected_buffer) = (vec![0u8; 40_000], vec![0u8; 40_000]);
-    let (mut places, mut expected_places) = (vec![Place::default(); 1_024], vec![Place::default(); 1_024]);
+    let (mut lent, mut expected) = (Buffers::ample(v, m.list.len() / 3), Buffers::ample(v, 0));
     let mut packer = Packer::new();
     medians(
         repeats,
         || {
-            black_box(compare::pack(v, black_box(&m.list), &mut numbering, &mut buffer, &mut places)).expect("an accepted list");
+            black_box(compare::pack(v, black_box(&m.list), lent.lend())).expect("an accepted list");
         },
         || {
-            black_box(packer.pack_at(LEVEL, m.v, black_box(&m.list), &mut expected, &mut expected_places, &mut expected_buffer))
+            let e = &mut expected;
+            black_box(packer.pack_at(LEVEL, m.v, black_box(&m.list), &mut e.numbering, &mut e.places, &mut e.pack))
                 .expect("an accepted list");
         },
     )

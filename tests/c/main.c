@@ -17,17 +17,37 @@ static const uint16_t list[12] = {0, 1, 2, 1, 0, 3, 2, 1, 3, 0, 2, 3};
 static const uint8_t expected[] = {1, 0, 8, 0, 4, 0, 4, 0, 4, 0, 1, 2, 0, 2, 0xe0, 0xd0};
 static const uint16_t as_built[12] = {0, 1, 2, 1, 0, 3, 1, 3, 2, 2, 3, 0};
 static struct cutborder_place places[1024], same[1024];
+static uint16_t numbering[4], order[6];
+static uint8_t pack[64];
+static uint32_t size;
+
+/* The same model with its triangles in another order: 0, 3, 2, 1 are built in turn. */
+static const uint16_t other_list[12] = {2, 1, 3, 0, 2, 3, 1, 0, 3, 0, 1, 2};
+
+/* Packing into buffers of these lengths; `order` holds nines before. */
+static uint32_t packed(size_t v, const uint16_t *of, size_t pack_bytes, size_t order_entries, size_t records) {
+    for (int i = 0; i < 6; i++)
+        order[i] = 9;
+    size = 77;
+    return cutborder_pack(v, of, 12, numbering, 4, pack, pack_bytes, order, order_entries, places, records, &size);
+}
+
+static bool ordered(uint16_t a, uint16_t b, uint16_t c, uint16_t d) {
+    return order[0] == a && order[1] == b && order[2] == c && order[3] == d && order[4] == 9 && order[5] == 9;
+}
 
 static void packs(void) {
-    uint16_t numbering[4], triangles[12], model[5];
-    uint8_t pack[64];
-    uint32_t size = 77;
+    uint16_t triangles[12], model[5];
     int32_t euler = -77;
     EXPECT(cutborder_check(4, list, 12) == 0);
     EXPECT(cutborder_check((size_t)-1, list, 12) == 2);
-    EXPECT(cutborder_pack(5, list, 12, numbering, 4, pack, sizeof pack, places, 1024, &size) == 6 && size == 77);
-    EXPECT(cutborder_pack(4, list, 12, numbering, 4, pack, sizeof pack, places, 1023, &size) == 8 && size == 77);
-    EXPECT(cutborder_pack(4, list, 12, numbering, 4, pack, sizeof pack, places, 1024, &size) == 0);
+    EXPECT(packed(5, list, sizeof pack, 3, 1024) == 6 && size == 77);
+    EXPECT(packed(4, list, sizeof pack, 3, 1023) == 8 && size == 77 && ordered(9, 9, 9, 9));
+    EXPECT(packed(4, list, 15, 3, 1024) == 22 && size == 77 && ordered(9, 9, 9, 9));
+    EXPECT(packed(4, list, 15, 5, 1024) == 11 && size == 77 && ordered(0, 0, 0, 0));
+    EXPECT(packed(4, other_list, sizeof pack, 4, 1024) == 0 && ordered(0, 3, 2, 1));
+    EXPECT(size == sizeof expected && memcmp(pack, expected, sizeof expected) == 0);
+    EXPECT(packed(4, list, sizeof pack, 6, 1024) == 0 && ordered(0, 1, 2, 3));
     EXPECT(size == sizeof expected && memcmp(pack, expected, sizeof expected) == 0);
     EXPECT(cutborder_unpack(pack, size - 1, triangles, 12, places, 1024, model, &euler) == 12 && euler == -77);
     EXPECT(cutborder_unpack(pack, size, triangles, 12, places, 1024, model, &euler) == 0);

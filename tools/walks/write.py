@@ -23,7 +23,7 @@ WALKS = [
     Bridge('service::begin', law='Laws.begins-as', fits='state_theory::Finishing.Lifting.begins-fit'),
     Bridge('service::operation', law='Laws.operates-as', touches='state_theory::Performing.Lifting.touches-fit', asks='Laws.loaded-fits'),
     Bridge('service::finish', law='Laws.finishes-as', asks='Laws.loaded-fits'),
-    Shell('capi::cutborder_pack', law='packs-for {p1} {p2} {p3} {p4} {p5} {p6} {r1} {n} {q3} {q4} {q5} {q6} {e1} {e2}'),
+    Shell('capi::cutborder_pack', law='packs-for {p1} {p2} {p3} {p4} {p5} {p6} {p7} {r1} {n} {q3} {q4} {q5} {q6} {q7} {e1} {e2}'),
     Shell('capi::cutborder_unpack', law='unpacks-for {p1} {p2} {p3} {p4} {p5} {r1} {n} {q2} {q3} {q4} {q5} {e1} {e2}'),
     Shell('capi::cutborder_begin', law='begins-for (countsOf {p1} {p2} {p3} {p4}) {r1} {p5} {p6} {p7} {r2} {n} {q5} {q6} {q7} \
 {e1} {e2} {e3} {e4}'),

@@ -26,14 +26,15 @@ use Rattle.promises.specs.Promises as P
 use Rattle.capi.specs.Answered.{numberOf, sizeAfter, modelAfter, totalsAfter, eulerAfter, builtAfter, keptOr}
 use Rattle.capi.specs.Exported.{Packs, Unpacks, BegunAs, Begins, Operates, Finishes}
 
-pub packs-for : (v : ℕ) (xs ns bs : List ℕ) (ps : List Place) (z : ℕ) (r : Packed) (n : ℕ) (ns′ bs′ : List ℕ) (ps′ : List Place) (z′ : ℕ)
-    → P.Packs v xs ns bs ps r ns′ bs′ ps′ → (n ≡ numberOf (packedAnswer r)) × (z′ ≡ sizeAfter z (packedAnswer r))
-    → Packs v xs ns bs ps z n ns′ bs′ ps′ z′
-packs-for v xs ns bs ps z r n ns′ bs′ ps′ z′ k e = record {
+pub packs-for : (v : ℕ) (xs ns bs os : List ℕ) (ps : List Place) (z : ℕ) (r : Packed) (n : ℕ) (ns′ bs′ os′ : List ℕ) (ps′ : List Place)
+    (z′ : ℕ) → P.Packs v xs ns bs os ps r ns′ bs′ os′ ps′ → (n ≡ numberOf (packedAnswer r)) × (z′ ≡ sizeAfter z (packedAnswer r))
+    → Packs v xs ns bs os ps z n ns′ bs′ os′ ps′ z′
+packs-for v xs ns bs os ps z r n ns′ bs′ os′ ps′ z′ k e = record {
   number = e .0 ∙ ap numberOf (k .answer);
   size = e .1 ∙ ap (λ (a : Answer). sizeAfter z a) (k .answer);
   numbering = k .numbering;
   bytes = k .bytes;
+  order = k .order;
   places = k .places;
 }
 

@@ -19,12 +19,14 @@ use Rattle.promises.specs.Promises.{packingBuffers}
 use Rattle.capi.specs.Answered.{numberOf, sizeAfter, modelAfter, totalsAfter, eulerAfter, builtAfter}
 
 -- a packing: z is the memory for the pack's length
-pub record Packs (v : ℕ) (xs ns bs : List ℕ) (ps : List Place) (z n : ℕ) (ns′ bs′ : List ℕ) (ps′ : List Place) (z′ : ℕ) : Type 0 where
-  pub number : n ≡ numberOf (pack v xs (packingBuffers ns bs ps) .answer)
-  pub size : z′ ≡ sizeAfter z (pack v xs (packingBuffers ns bs ps) .answer)
-  pub numbering : ns′ ≡ pack v xs (packingBuffers ns bs ps) .buffers .numbering
-  pub bytes : bs′ ≡ pack v xs (packingBuffers ns bs ps) .buffers .pack
-  pub places : ps′ ≡ pack v xs (packingBuffers ns bs ps) .buffers .places
+pub record Packs (v : ℕ) (xs ns bs qs : List ℕ) (ps : List Place) (z n : ℕ) (ns′ bs′ qs′ : List ℕ) (ps′ : List Place)
+    (z′ : ℕ) : Type 0 where
+  pub number : n ≡ numberOf (pack v xs (packingBuffers ns bs qs ps) .answer)
+  pub size : z′ ≡ sizeAfter z (pack v xs (packingBuffers ns bs qs ps) .answer)
+  pub numbering : ns′ ≡ pack v xs (packingBuffers ns bs qs ps) .buffers .numbering
+  pub bytes : bs′ ≡ pack v xs (packingBuffers ns bs qs ps) .buffers .pack
+  pub order : qs′ ≡ pack v xs (packingBuffers ns bs qs ps) .buffers .order
+  pub places : ps′ ≡ pack v xs (packingBuffers ns bs qs ps) .buffers .places
 
 -- an unpacking: ms and e are the memory for the model's numbers and its Euler number
 pub record Unpacks (bytes ts : List ℕ) (ps : List Place) (ms : List ℕ) (e : ℤ) (n : ℕ) (ts′ : List ℕ) (ps′ : List Place) (ms′ : List ℕ)

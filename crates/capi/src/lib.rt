@@ -1,5 +1,5 @@
 // The service's calls for C and Rust. Each function goes through the service's call of its name and returns 0 for acceptance or the
-// refusal's number, 1 to 21; a refusal leaves the memory for results as it was. A slice is a pointer and a count of entries. Place
+// refusal's number, 1 to 22; a refusal leaves the memory for results as it was. A slice is a pointer and a count of entries. Place
 // records and builders lie in memory as C lays them out (`repr(C)`): a record is 8 bytes, its `open` a bool, so 0 or 1; a builder
 // is 213 numbers of 16 bits. What a caller's numbers cannot mean is refused by a rule: specs/Given.antt says by which. The contracts
 // cite specs/Exported.antt.
@@ -32,20 +32,21 @@ pub extern "C" fn cutborder_check(v: usize, list: &[u16]) -> u32
     checked(service::check(v, list))
 }
 
-// Packs a list of a model of v vertices: refusals 1 to 11, or the pack, its length in `size`, and the numbering.
+// Packs a list of a model of v vertices: refusals 1 to 8, 22, 9 to 11, or the pack, its length in `size`, the numbering and the order.
 #[no_mangle]
 pub extern "C" fn cutborder_pack(
     v: usize,
     list: &[u16],
     numbering: &mut [u16],
     buffer: &mut [u8],
+    order: &mut [u16],
     places: &mut [Place],
     size: &mut u32,
 ) -> u32
-    ensures { λ n. ⌜ Packs v (now (list .entry)) (now (numbering .entry)) (now (buffer .entry)) (now (places .entry)) (now (size .entry)) n
-        (now (numbering .exit)) (now (buffer .exit)) (now (places .exit)) (now (size .exit)) ⌝ }
+    ensures { λ n. ⌜ Packs v (now (list .entry)) (now (numbering .entry)) (now (buffer .entry)) (now (order .entry)) (now (places .entry))
+        (now (size .entry)) n (now (numbering .exit)) (now (buffer .exit)) (now (order .exit)) (now (places .exit)) (now (size .exit)) ⌝ }
 {
-    let r = service::pack(v, list, numbering, buffer, places);
+    let r = service::pack(v, list, numbering, buffer, order, places);
     packed(r, size)
 }
 

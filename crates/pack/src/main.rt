@@ -1,12 +1,19 @@
 // Reads a model as text from standard input: V, then the vertex numbers, decimal, with white space between. It writes the model's pack
 // to standard output, or a line: `refused` and the number, or that the text is no model. A text that cannot be read or is too long
-// gets a line on standard error and nothing else; a write that fails gets such a line too.
+// gets a line on standard error and nothing else; a write that fails gets such a line too. With `--order FILE` it writes the order of a
+// packed model to that file: for each triangle built, a line with its number in the list, counted from 0.
+mod order; // the order's file
+
 use libc::STDIN_FILENO;
+use order::read_arguments;
+use order::write_order;
 use rules::Builder;
 use rules::CORNERS;
 use rules::Packed;
+use rules::TRIANGLES;
 use rules::VERTICES;
 use text::show::print_refusal;
+use text::streams::MOST_NAME;
 use text::streams::Output;
 use text::streams::Read;
 use text::streams::read_full;
@@ -188,17 +195,25 @@ fn print_refused(out: Output, r: Packed) -> Output {
     }
 }
 
-// Writes what a packing answered: the pack that stands in the buffer, or the refusal.
-fn print_answer(r: Packed, buffer: &[u8]) -> Output {
+// Writes the n bytes of a pack.
+fn print_pack(out: Output, buffer: &[u8], n: usize) -> Output {
+    if buffer.len() < n {
+        return out;
+    }
+    out.bytes(&buffer[..n])
+}
+
+// Writes what a packing of t triangles answered: first the order, if a file is named for it, and then the pack; or the refusal. Where
+// the order cannot be written, neither is the pack.
+fn print_answer(r: Packed, buffer: &[u8], order: &[u16], t: usize, name: &[u8]) -> Output {
     let out = Output::fresh();
     let Packed::Length(n) = r else {
         return print_refused(out, r);
     };
-    let k = n as usize;
-    if buffer.len() < k {
+    if !write_order(order, t, name) {
         return out;
     }
-    out.bytes(&buffer[..k])
+    print_pack(out, buffer, n as usize)
 }
 
 // A number that was read, as a count.
@@ -207,16 +222,26 @@ fn wide(x: u16) -> usize {
 }
 
 // Packs the list of n numbers, the first of which is V.
-fn pack_numbers(numbers: &[u16], n: usize, numbering: &mut [u16], buffer: &mut [u8]) -> Output {
+fn pack_numbers(numbers: &[u16], n: usize, name: &[u8]) -> Output {
     if numbers.len() < n {
         return Output::fresh();
     }
     if n < 1 {
         return Output::fresh();
     }
+    let mut numbering = [0u16; VERTICES];
+    let mut buffer = [0u8; BUFFER];
+    let mut order = [0u16; TRIANGLES];
     let v = wide(numbers[0]);
-    let r = packer::pack_on(v, &numbers[1..n], numbering, buffer, Builder::MAX_PLACES);
-    print_answer(r, buffer)
+    let r = packer::pack_on(
+        v,
+        &numbers[1..n],
+        &mut numbering,
+        &mut buffer,
+        &mut order,
+        Builder::MAX_PLACES,
+    );
+    print_answer(r, &buffer, &order, (n - 1) / 3, name)
 }
 
 fn print_no_model() -> Output {
@@ -226,19 +251,22 @@ fn print_no_model() -> Output {
 }
 
 // Reads a model and packs it.
-fn run(part: &mut [u8], numbers: &mut [u16], numbering: &mut [u16], buffer: &mut [u8]) -> Output {
+fn run(part: &mut [u8], numbers: &mut [u16], name: &[u8]) -> Output {
     let t = read_text(part, numbers);
     match t {
-        Told::Numbers(n) => pack_numbers(numbers, n, numbering, buffer),
+        Told::Numbers(n) => pack_numbers(numbers, n, name),
         Told::NoModel => print_no_model(),
         Told::Nothing => Output::fresh(),
     }
 }
 
 fn main() {
+    let mut name = [0u8; MOST_NAME];
+    let r = read_arguments(&mut name);
+    let Read::To(n) = r else {
+        return;
+    };
     let mut part = [0u8; PART];
     let mut numbers = [0u16; NUMBERS];
-    let mut numbering = [0u16; VERTICES];
-    let mut buffer = [0u8; BUFFER];
-    run(&mut part, &mut numbers, &mut numbering, &mut buffer).end(b"pack");
+    run(&mut part, &mut numbers, &name[..n]).end(b"pack");
 }

@@ -8,6 +8,7 @@ pub mod Growing
 pub mod Lending
 pub mod Live
 pub mod Numbers
+pub mod Order
 pub mod Reading
 pub mod Renaming
 pub mod Running

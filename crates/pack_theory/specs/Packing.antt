@@ -4,5 +4,6 @@ pub mod Doing
 pub mod Finish
 pub mod Lent
 pub mod Numbers
+pub mod Order
 pub mod Steps
 pub mod Writing

@@ -14,6 +14,7 @@ ghost use Prim.Native.Nat.{_<_};
 ghost use lib.ListN.{length};
 ghost use Rattle.pack_theory.specs.Choosing.Choosable.{Choosable};
 ghost use Rattle.pack_theory.specs.Packing.Course.{isNumbered, placedBy, moveOf, flagsOf, Chooses};
+ghost use Rattle.pack_theory.specs.Packing.Order.{orderOf, Notable};
 
 // The entry of a vertex that has no number yet.
 pub(crate) const UNNUMBERED: u16 = 65535;
@@ -60,18 +61,22 @@ fn place_move(
     }
 }
 
-// What is taken at the current edge, from a to b: border, if no triangle has b→a. The flag of one that has is set.
+// What is taken at the current edge, from a to b: border, if no triangle has b→a. The flag of one that has is set, and its number is
+// the order's entry k.
 pub(crate) fn choose_move(
     list: &[u16],
     chains: &Links,
     built: &mut Flags,
+    order: &mut [u16],
+    k: u16,
     numbering: &[u16],
     m: &[u16],
     l: Loops,
 ) -> Move
-    requires { ⌜ Chooses (now list) (now chains) (now built) (now numbering) (now m) l ⌝ }
+    requires { ⌜ Chooses (now list) (now chains) (now built) (now numbering) (now m) l × Notable (now list) (now order) k (now m) l ⌝ }
     ensures taken { λ r. ⌜ r ≡ moveOf (now (list .entry)) (now (built .entry)) (now (numbering .entry)) (now (m .entry)) l ⌝ }
     ensures flags { λ _. ⌜ now (built .exit) ≡ flagsOf (now (list .entry)) (now (built .entry)) (now (m .entry)) l ⌝ }
+    ensures order { λ _. ⌜ now (order .exit) ≡ orderOf (now (list .entry)) (now (order .entry)) k (now (m .entry)) l ⌝ }
 {
     let e = l.current;
     let f = after_of(m, e);
@@ -86,5 +91,6 @@ pub(crate) fn choose_move(
         };
     };
     built[n as usize] = 1;
+    order[k as usize] = n;
     place_move(list, chains, built, numbering, m, l, a, b, c)
 }

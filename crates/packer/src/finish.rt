@@ -31,16 +31,25 @@ fn counts_at(v: usize, k: usize, t: Course) -> Counts
     }
 }
 
-// A refusal past 8: the first v numbering entries and the whole pack buffer are zero.
-fn refuse(k: u8, v: usize, numbering: &mut [u16], buffer: &mut [u8]) -> Packed
-    requires { ⌜ v ≤ length (now numbering) ⌝ }
-    ensures answer { λ r. ⌜ r ≡ Packs.Refused k ⌝ }
+// A refusal with j, one of 9 to 11: the first v numbering entries, the first k order entries and the whole pack buffer are zero.
+fn refuse(
+    j: u8,
+    v: usize,
+    k: usize,
+    numbering: &mut [u16],
+    buffer: &mut [u8],
+    order: &mut [u16],
+) -> Packed
+    requires { ⌜ (v ≤ length (now numbering)) × (k ≤ length (now order)) ⌝ }
+    ensures answer { λ r. ⌜ r ≡ Packs.Refused j ⌝ }
     ensures numbers { λ _. ⌜ now (numbering .exit) ≡ zeroed v (now (numbering .entry)) ⌝ }
     ensures pack { λ _. ⌜ now (buffer .exit) ≡ zeroed (length (now (buffer .entry))) (now (buffer .entry)) ⌝ }
+    ensures order { λ _. ⌜ now (order .exit) ≡ zeroed k (now (order .entry)) ⌝ }
 {
     clear(numbering, v);
     clear_bytes(buffer);
-    Packed::Refused(k)
+    clear(order, k);
+    Packed::Refused(j)
 }
 
 // The number of a run's refusal.
@@ -60,18 +69,20 @@ pub(crate) fn finish(
     end: Ran,
     numbering: &mut [u16],
     buffer: &mut [u8],
+    order: &mut [u16],
 ) -> Packed
-    requires { ⌜ (v ≤ maxVertices) × (k ≤ maxTriangles) × (v ≤ length (now numbering)) × Sized end ⌝ }
+    requires { ⌜ (v ≤ maxVertices) × (k ≤ maxTriangles) × (v ≤ length (now numbering)) × (k ≤ length (now order)) × Sized end ⌝ }
     ensures answer { λ r. ⌜ r ≡ finishAnswer end (length (now (buffer .entry))) ⌝ }
     ensures numbers { λ _. ⌜ now (numbering .exit) ≡ finishNumbers end v (length (now (buffer .entry))) (now (numbering .entry)) ⌝ }
     ensures pack { λ _. ⌜ now (buffer .exit) ≡ finishPack end v k (now (buffer .entry)) ⌝ }
+    ensures order { λ _. ⌜ now (order .exit) ≡ finishNumbers end k (length (now (buffer .entry))) (now (order .entry)) ⌝ }
 {
     let Ran::Ended(t, at) = end else {
-        return refuse(number_of(end), v, numbering, buffer);
+        return refuse(number_of(end), v, k, numbering, buffer, order);
     };
     let n = (at + 7) / 8;
     if buffer.len() < n {
-        return refuse(11, v, numbering, buffer);
+        return refuse(11, v, k, numbering, buffer, order);
     }
     let counts = counts_at(v, k, t);
     write_header(buffer, counts, n - HEADER);

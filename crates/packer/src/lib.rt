@@ -34,6 +34,7 @@ ghost use Rattle.border_theory.specs.Memory.Fresh.{allFree};
 ghost use Rattle.border_theory.specs.Records.Plain.{coreSize};
 ghost use Rattle.pack_theory.specs.Packing.Numbers.{unnumbered};
 ghost use Rattle.pack_theory.specs.Packing.Doing.{statedFor};
+ghost use Rattle.pack_theory.specs.Packing.Order.{OrderLong};
 ghost use Rattle.pack_theory.specs.Packing.Lent.{PackedOn, Fitting, emptyCourse, Begins, RunGives, clearedBy};
 
 // What a packing of v vertices and k triangles may not exceed.
@@ -73,11 +74,13 @@ fn run_from(
     start: Course,
     numbering: &mut [u16],
     buffer: &mut [u8],
+    order: &mut [u16],
     m: &mut [u16],
 ) -> Packed
-    requires { ⌜ Begins v (now list) (now chains) start (now numbering) (now m) ⌝ }
+    requires { ⌜ Begins v (now list) (now chains) start (now numbering) (now m) × OrderLong (now list) (now order) ⌝ }
     ensures { λ r. ⌜ ((ns : List ℕ) → drop v (now (numbering .entry)) ≡ drop v ns
-        → RunGives v (now (list .entry)) ns (now (buffer .entry)) r (now (numbering .exit)) (now (buffer .exit))) ⌝ }
+        → RunGives v (now (list .entry)) ns (now (buffer .entry)) (now (order .entry)) r (now (numbering .exit)) (now (buffer .exit))
+        (now (order .exit))) ⌝ }
 {
     let k = list.len() / 3;
     let mut built = [0u8; TRIANGLES];
@@ -88,28 +91,30 @@ fn run_from(
         start,
         budget,
         &mut built,
+        order,
         numbering,
         buffer,
         m,
     );
-    finish(v, k, end, numbering, buffer)
+    finish(v, k, end, numbering, buffer, order)
 }
 
-// Packs a list that got past 8.
+// Packs a list that got past 8 and 22.
 fn pack_accepted(
     v: usize,
     list: &[u16],
     chains: &Links,
     numbering: &mut [u16],
     buffer: &mut [u8],
+    order: &mut [u16],
     m: &mut [u16],
 ) -> Packed
-    requires { ⌜ Fitting v (now list) (now chains) (now numbering) (now m) ⌝ }
-    ensures { λ r. ⌜ RunGives v (now (list .entry)) (now (numbering .entry)) (now (buffer .entry)) r (now (numbering .exit))
-        (now (buffer .exit)) ⌝ }
+    requires { ⌜ Fitting v (now list) (now chains) (now numbering) (now m) × OrderLong (now list) (now order) ⌝ }
+    ensures { λ r. ⌜ RunGives v (now (list .entry)) (now (numbering .entry)) (now (buffer .entry)) (now (order .entry)) r
+        (now (numbering .exit)) (now (buffer .exit)) (now (order .exit)) ⌝ }
 {
     let start = begin_course(v, list.len() / 3, numbering, m);
-    run_from(v, list, chains, start, numbering, buffer, m)
+    run_from(v, list, chains, start, numbering, buffer, order, m)
 }
 
 // A list's refusal, 1 to 7, as the packing's.
@@ -123,10 +128,17 @@ fn refusal_of(c: Checked) -> Packed
 }
 
 // Packs any list of a model of v vertices into any buffers, where n place records were lent: of these only the number counts, for the
-// packing works in a memory of its own. Before 8 nothing changes.
-pub fn pack_on(v: usize, list: &[u16], numbering: &mut [u16], buffer: &mut [u8], n: usize) -> Packed
-    ensures { λ r. ⌜ PackedOn v (now (list .entry)) (now (numbering .entry)) (now (buffer .entry)) n r (now (numbering .exit))
-        (now (buffer .exit)) ⌝ }
+// packing works in a memory of its own. After 1 to 8 and 22 nothing has changed.
+pub fn pack_on(
+    v: usize,
+    list: &[u16],
+    numbering: &mut [u16],
+    buffer: &mut [u8],
+    order: &mut [u16],
+    n: usize,
+) -> Packed
+    ensures { λ r. ⌜ PackedOn v (now (list .entry)) (now (numbering .entry)) (now (buffer .entry)) (now (order .entry)) n r
+        (now (numbering .exit)) (now (buffer .exit)) (now (order .exit)) ⌝ }
 {
     let mut chains = [0u16; VERTICES + CORNERS];
     let checked = check_into(v, list, &mut chains);
@@ -139,11 +151,14 @@ pub fn pack_on(v: usize, list: &[u16], numbering: &mut [u16], buffer: &mut [u8],
     if n < PLACES {
         return Packed::Refused(8);
     }
+    if order.len() < list.len() / 3 {
+        return Packed::Refused(22);
+    }
     let mut m = [0u16; CORE];
-    pack_accepted(v, list, &chains, numbering, buffer, &mut m)
+    pack_accepted(v, list, &chains, numbering, buffer, order, &mut m)
 }
 
-// How many place records a packing clears, read off its answer: none after 1 to 8, and past 8 the first 1,024.
+// How many place records a packing clears, read off its answer: the first 1,024 after 9 to 11 and where it is accepted, else none.
 pub fn cleared(r: Packed) -> usize
     ensures { λ n. ⌜ n ≡ clearedBy r ⌝ }
 {
@@ -151,6 +166,9 @@ pub fn cleared(r: Packed) -> usize
         return PLACES;
     };
     if k <= 8 {
+        return 0;
+    }
+    if 11 < k {
         return 0;
     }
     PLACES

@@ -5,7 +5,6 @@ use crate::operate::refusal_of;
 use cutborder::Course;
 use cutborder::Done;
 use cutborder::Flags;
-use cutborder::Front;
 use cutborder::Taken;
 use rings::place::after_of;
 use rings::place::set_vertex;
@@ -16,6 +15,7 @@ ghost use lib.ListN.{length};
 ghost use Rattle.rules.specs.Limits.{maxTriangles};
 ghost use Rattle.pack_theory.specs.Packing.Course.{renamed, numberedThree};
 ghost use Rattle.pack_theory.specs.Packing.Steps.{Lowest, Renames, Resting, Starts, StepOf};
+ghost use Rattle.pack_theory.specs.Packing.Order.{OrderLong, NotesOf};
 
 // The lowest triangle from k on that is not built, of n; or n.
 fn lowest_left(built: &Flags, k: usize, n: usize) -> usize
@@ -54,18 +54,21 @@ fn give_three(numbering: &mut [u16], k: u16, p: u16, q: u16, r: u16)
     numbering[r as usize] = k + 2;
 }
 
-// Triangle k, the lowest left, is built as a loop of its own.
+// Triangle k, the lowest left, is built as a loop of its own, and noted in the order.
 fn start_at(
     list: &[u16],
     t: Course,
     k: usize,
     built: &mut Flags,
+    order: &mut [u16],
     numbering: &mut [u16],
     m: &mut [u16],
 ) -> Taken
-    requires { ⌜ Starts (now list) t k (now built) (now numbering) (now m) ⌝ }
-    ensures { λ r. ⌜ StepOf (now (list .entry)) t (now (built .entry)) (now (numbering .entry)) (now (m .entry)) r (now (built .exit))
+    requires { ⌜ Starts (now list) t k (now built) (now numbering) (now m) × OrderLong (now list) (now order) ⌝ }
+    ensures step { λ r. ⌜ StepOf (now (list .entry)) t (now (built .entry)) (now (numbering .entry)) (now (m .entry)) r (now (built .exit))
         (now (numbering .exit)) (now (m .exit)) ⌝ }
+    ensures order { λ r. ⌜ NotesOf (now (list .entry)) t (now (built .entry)) (now (numbering .entry)) (now (m .entry)) r
+        (now (order .entry)) (now (order .exit)) ⌝ }
 {
     let p = list[3 * k];
     let q = list[3 * k + 1];
@@ -78,6 +81,7 @@ fn start_at(
     };
     let loops = after.loops;
     built[k] = 1;
+    order[front.built as usize] = k as u16;
     name_three(m, loops.current, p, q, r);
     give_three(numbering, t.given, p, q, r);
     Taken::Going(
@@ -95,17 +99,20 @@ pub(crate) fn begin_piece(
     list: &[u16],
     t: Course,
     built: &mut Flags,
+    order: &mut [u16],
     numbering: &mut [u16],
     m: &mut [u16],
 ) -> Taken
-    requires { ⌜ Resting (now list) t (now built) (now numbering) (now m) ⌝ }
-    ensures { λ r. ⌜ StepOf (now (list .entry)) t (now (built .entry)) (now (numbering .entry)) (now (m .entry)) r (now (built .exit))
+    requires { ⌜ Resting (now list) t (now built) (now numbering) (now m) × OrderLong (now list) (now order) ⌝ }
+    ensures step { λ r. ⌜ StepOf (now (list .entry)) t (now (built .entry)) (now (numbering .entry)) (now (m .entry)) r (now (built .exit))
         (now (numbering .exit)) (now (m .exit)) ⌝ }
+    ensures order { λ r. ⌜ NotesOf (now (list .entry)) t (now (built .entry)) (now (numbering .entry)) (now (m .entry)) r
+        (now (order .entry)) (now (order .exit)) ⌝ }
 {
     let n = list.len() / 3;
     let k = lowest_left(built, t.lowest as usize, n);
     if n <= k {
         return Taken::Refused(9);
     }
-    start_at(list, t, k, built, numbering, m)
+    start_at(list, t, k, built, order, numbering, m)
 }

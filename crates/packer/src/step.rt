@@ -21,6 +21,7 @@ ghost use Rattle.cutborder.specs.declared.Taken.the-variants as Takes;
 ghost use Rattle.cutborder.specs.declared.Ran.the-variants as Runs;
 ghost use Rattle.border_theory.specs.Memory.Finish.{isComplete};
 ghost use Rattle.pack_theory.specs.Packing.Course.{Held, givenBy, numbersBy};
+ghost use Rattle.pack_theory.specs.Packing.Order.{OrderLong, NotesOf, ListsOf};
 ghost use Rattle.pack_theory.specs.Packing.Steps.{Alive, StepOf, RunOf};
 
 // The bit position of the first operation.
@@ -45,15 +46,19 @@ fn go_on(
     chains: &Links,
     t: Course,
     built: &mut Flags,
+    order: &mut [u16],
     numbering: &mut [u16],
     m: &mut [u16],
 ) -> Taken
-    requires { ⌜ Alive (now list) (now chains) t (now built) (now numbering) (now m) ⌝ }
-    ensures { λ r. ⌜ StepOf (now (list .entry)) t (now (built .entry)) (now (numbering .entry)) (now (m .entry)) r (now (built .exit))
+    requires { ⌜ Alive (now list) (now chains) t (now built) (now numbering) (now m) × OrderLong (now list) (now order) ⌝ }
+    ensures step { λ r. ⌜ StepOf (now (list .entry)) t (now (built .entry)) (now (numbering .entry)) (now (m .entry)) r (now (built .exit))
         (now (numbering .exit)) (now (m .exit)) ⌝ }
+    ensures order { λ r. ⌜ NotesOf (now (list .entry)) t (now (built .entry)) (now (numbering .entry)) (now (m .entry)) r
+        (now (order .entry)) (now (order .exit)) ⌝ }
 {
     let front = t.front;
-    let next = choose_move(list, chains, built, numbering, m, front.loops);
+    let k = front.built;
+    let next = choose_move(list, chains, built, order, k, numbering, m, front.loops);
     let o = next.operation;
     let c = next.vertex;
     let s = ready_for(front, c);
@@ -78,19 +83,23 @@ pub fn step(
     chains: &Links,
     t: Course,
     built: &mut Flags,
+    order: &mut [u16],
     numbering: &mut [u16],
     m: &mut [u16],
 ) -> Taken
-    requires { ⌜ Held (now list) (now chains) t (now built) (now numbering) (now m) × (isComplete (t .front) ≡ false) ⌝ }
-    ensures { λ r. ⌜ StepOf (now (list .entry)) t (now (built .entry)) (now (numbering .entry)) (now (m .entry)) r (now (built .exit))
+    requires { ⌜ Held (now list) (now chains) t (now built) (now numbering) (now m) × (isComplete (t .front) ≡ false)
+        × OrderLong (now list) (now order) ⌝ }
+    ensures step { λ r. ⌜ StepOf (now (list .entry)) t (now (built .entry)) (now (numbering .entry)) (now (m .entry)) r (now (built .exit))
         (now (numbering .exit)) (now (m .exit)) ⌝ }
+    ensures order { λ r. ⌜ NotesOf (now (list .entry)) t (now (built .entry)) (now (numbering .entry)) (now (m .entry)) r
+        (now (order .entry)) (now (order .exit)) ⌝ }
 {
     let front = t.front;
     let loops = front.loops;
     if loops.live == 0 {
-        return begin_piece(list, t, built, numbering, m);
+        return begin_piece(list, t, built, order, numbering, m);
     }
-    go_on(list, chains, t, built, numbering, m)
+    go_on(list, chains, t, built, order, numbering, m)
 }
 
 // A step's refusal, as the run's.
@@ -111,13 +120,17 @@ pub fn run(
     start: Course,
     budget: usize,
     built: &mut Flags,
+    order: &mut [u16],
     numbering: &mut [u16],
     buffer: &mut [u8],
     m: &mut [u16],
 ) -> Ran
-    requires { ⌜ Held (now list) (now chains) start (now built) (now numbering) (now m) × (budget ≤ 32769) ⌝ }
-    ensures { λ r. ⌜ RunOf (now (list .entry)) budget start (now (built .entry)) (now (numbering .entry)) (now (buffer .entry))
+    requires { ⌜ Held (now list) (now chains) start (now built) (now numbering) (now m) × (budget ≤ 32769)
+        × OrderLong (now list) (now order) ⌝ }
+    ensures run { λ r. ⌜ RunOf (now (list .entry)) budget start (now (built .entry)) (now (numbering .entry)) (now (buffer .entry))
         (now (m .entry)) r (now (built .exit)) (now (numbering .exit)) (now (buffer .exit)) (now (m .exit)) ⌝ }
+    ensures order { λ r. ⌜ ListsOf (now (list .entry)) budget start (now (built .entry)) (now (numbering .entry)) (now (m .entry)) r
+        (now (order .entry)) (now (order .exit)) ⌝ }
 {
     let mut t = start;
     let mut at = FIRST;
@@ -126,7 +139,7 @@ pub fn run(
         if is_complete(t.front) {
             return Ran::Ended(t, at);
         }
-        let r = step(list, chains, t, built, numbering, m);
+        let r = step(list, chains, t, built, order, numbering, m);
         let Taken::Going(o, after) = r else {
             return refusal_from(r);
         };

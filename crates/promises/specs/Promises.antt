@@ -26,20 +26,21 @@ use Rattle.rules.specs.Build.{begins, operates, finishes, Begins, OperatedBy}
 abbrev pub lentTo : List ℕ → List Place → Buffers
 lentTo ts ps = record { triangles = ts; places = ps }
 
--- the numbering buffer, the pack buffer and the place list that a packing is lent
-abbrev pub packingBuffers : List ℕ → List ℕ → List Place → PackBuffers
-packingBuffers ns bs ps = record { numbering = ns; places = ps; pack = bs }
+-- the numbering buffer, the pack buffer, the order buffer and the place list that a packing is lent
+abbrev pub packingBuffers : List ℕ → List ℕ → List ℕ → List Place → PackBuffers
+packingBuffers ns bs qs ps = record { numbering = ns; places = ps; pack = bs; order = qs }
 
 -- a check of the list xs for a model of v vertices: its answer; the list is only read
 pub record Checking (v : ℕ) (xs : List ℕ) (r : Checked) : Type 0 where
   pub answer : checkedAnswer r ≡ checks v xs
 
--- a packing: its answer, and the three buffers afterwards
-pub record Packs (v : ℕ) (xs ns bs : List ℕ) (ps : List Place) (r : Packed) (ns′ bs′ : List ℕ) (ps′ : List Place) : Type 0 where
-  pub answer : packedAnswer r ≡ pack v xs (packingBuffers ns bs ps) .answer
-  pub numbering : ns′ ≡ pack v xs (packingBuffers ns bs ps) .buffers .numbering
-  pub bytes : bs′ ≡ pack v xs (packingBuffers ns bs ps) .buffers .pack
-  pub places : ps′ ≡ pack v xs (packingBuffers ns bs ps) .buffers .places
+-- a packing: its answer, and the four buffers afterwards
+pub record Packs (v : ℕ) (xs ns bs qs : List ℕ) (ps : List Place) (r : Packed) (ns′ bs′ qs′ : List ℕ) (ps′ : List Place) : Type 0 where
+  pub answer : packedAnswer r ≡ pack v xs (packingBuffers ns bs qs ps) .answer
+  pub numbering : ns′ ≡ pack v xs (packingBuffers ns bs qs ps) .buffers .numbering
+  pub bytes : bs′ ≡ pack v xs (packingBuffers ns bs qs ps) .buffers .pack
+  pub order : qs′ ≡ pack v xs (packingBuffers ns bs qs ps) .buffers .order
+  pub places : ps′ ≡ pack v xs (packingBuffers ns bs qs ps) .buffers .places
 
 -- an unpacking: its answer, and both buffers afterwards
 pub record Unpacks (bytes ts : List ℕ) (ps : List Place) (r : Unpacked) (ts′ : List ℕ) (ps′ : List Place) : Type 0 where

@@ -19,8 +19,8 @@ use Rattle.rules.specs.Bits.{bytesOf}
 use Rattle.rules.specs.Code.{operationsBits}
 use Rattle.rules.specs.Fields.{fields, fieldsOf}
 use Rattle.rules.specs.Choice.{Packing}
-use Rattle.rules.specs.Pack.{Chosen, stopped, chosen, most, chosenFor, packOf, newNumbers, PackBuffers, PackResult, packDone, packRefused}
-use Rattle.rules.specs.Pack.{packStored, packChosen, packLongEnough, packChecked, pack}
+use Rattle.rules.specs.Pack.{Chosen, stopped, chosen, most, chosenFor, orderFor, packOf, newNumbers, PackBuffers, PackResult, PackContents}
+use Rattle.rules.specs.Pack.{packDone, packRefused, packStored, contentsOf, packChosen, packLongEnough, orderLongEnough, packChecked, pack}
 use Rattle.rules.specs.Pack as P
 use Rattle.roundtrip.specs.Run.{runLoops, peakOf}
 use Rattle.roundtrip.specs.Claims.{SameInAllBuffers, SameAnswerInAllBuffers, StatedPeaksAreTrue}
@@ -28,7 +28,7 @@ use Rattle.roundtrip.proofs.Numbers.{length-new}
 use Rattle.roundtrip.proofs.Limits.{run-ends, chosen-same}
 use Rattle.roundtrip.proofs.Results.{PackedBy, packed-by}
 use Rattle.roundtrip.proofs.Forth.{found}
-use Rattle.roundtrip.proofs.Each.{front-bytes}
+use Rattle.roundtrip.proofs.Each.{front-bytes, front-order}
 
 front-numbers : (v : ℕ) (xs : List ℕ) (r : PackBuffers) (n : ℕ) (p : PackedBy most v xs r n)
     → take v (pack v xs r .buffers .numbering) ≡ newNumbers v (p .last .numbered)
@@ -49,48 +49,56 @@ same-in-all-buffers v xs r r′ n n′ e e′ =
       p .long ∙ (ap length b ∙ sym (p′ .long)),
       front-bytes v xs r n p ∙ (b ∙ sym (front-bytes v xs r′ n′ p′)),
       front-numbers v xs r n p ∙ (ap (λ (k : Packing). newNumbers v (k .numbered)) s ∙ sym (front-numbers v xs r′ n′ p′)),
+      front-order v xs r n p ∙ sym (front-order v xs r′ n′ p′),
     )
 
 -- the answer looks at the buffers' lengths only
 abbrev answer : PackResult → Answer
 answer p = p .answer
 
-stored-answer : (v : ℕ) (ns bytes : List ℕ) (r r′ : PackBuffers) → length (r .pack) ≡ length (r′ .pack)
-    → packStored v ns bytes r .answer ≡ packStored v ns bytes r′ .answer
-stored-answer v ns bytes r r′ e =
-    by r (leb (length bytes) (length (r .pack)))
-    ∙ (ap (λ (k : ℕ). elim (leb (length bytes) k) [ true ↦ packed (length bytes) | false ↦ refusal 11 ]) e
-    ∙ sym (by r′ (leb (length bytes) (length (r′ .pack)))))
+stored-answer : (v : ℕ) (ts : List Triangle) (w : PackContents) (r r′ : PackBuffers) → length (r .pack) ≡ length (r′ .pack)
+    → packStored v ts w r .answer ≡ packStored v ts w r′ .answer
+stored-answer v ts w r r′ e =
+    by r (leb (length (w .pack)) (length (r .pack)))
+    ∙ (ap (λ (k : ℕ). elim (leb (length (w .pack)) k) [ true ↦ packed (length (w .pack)) | false ↦ refusal 11 ]) e
+    ∙ sym (by r′ (leb (length (w .pack)) (length (r′ .pack)))))
   where
     by : (q : PackBuffers) (t : Bool)
-        → answer (elim t [ true ↦ packDone ns bytes q | false ↦ packRefused 11 v q ])
-        ≡ elim t [ true ↦ packed (length bytes) | false ↦ refusal 11 ]
+        → answer (elim t [ true ↦ packDone w q | false ↦ packRefused 11 v ts q ])
+        ≡ elim t [ true ↦ packed (length (w .pack)) | false ↦ refusal 11 ]
     by q true = refl
     by q false = refl
 
-chosen-answer : (v : ℕ) (ts : List Triangle) (r r′ : PackBuffers) (c : Chosen) → length (r .pack) ≡ length (r′ .pack)
-    → packChosen v ts r c .answer ≡ packChosen v ts r′ c .answer
+chosen-answer : (v : ℕ) (ts : List Triangle) (r r′ : PackBuffers) (qs : List ℕ) (c : Chosen) → length (r .pack) ≡ length (r′ .pack)
+    → packChosen v ts r qs c .answer ≡ packChosen v ts r′ qs c .answer
 unfolding packChosen
-chosen-answer v ts r r′ (stopped n) e = refl
-chosen-answer v ts r r′ (chosen os s) e = stored-answer v (newNumbers v (s .numbered)) (packOf v ts os s) r r′ e
+chosen-answer v ts r r′ qs (stopped n) e = refl
+chosen-answer v ts r r′ qs (chosen os s) e = stored-answer v ts (contentsOf v ts qs os s) r r′ e
 
 checked-answer : (v : ℕ) (ts : List Triangle) (r r′ : PackBuffers) (c : Checked) → packLongEnough v r ≡ packLongEnough v r′
-    → length (r .pack) ≡ length (r′ .pack)
+    → orderLongEnough ts r ≡ orderLongEnough ts r′ → length (r .pack) ≡ length (r′ .pack)
     → packChecked most v ts r c .answer ≡ packChecked most v ts r′ c .answer
 unfolding packChecked
-checked-answer v ts r r′ (Refused n) k e = refl
-checked-answer v ts r r′ Accepted k e =
-    same (packLongEnough v r)
-    ∙ ap (λ (w : Bool). answer (elim w [ true ↦ packChosen v ts r′ (chosenFor most ts) | false ↦ P.turnedDown 8 r′ ])) k
+checked-answer v ts r r′ (Refused n) k l e = refl
+checked-answer v ts r r′ Accepted k l e =
+    same (packLongEnough v r) (orderLongEnough ts r) ∙ ap₂ (λ (t u : Bool). answer (by t u r′)) k l
   where
-    same : (t : Bool) → answer (elim t [ true ↦ packChosen v ts r (chosenFor most ts) | false ↦ P.turnedDown 8 r ])
-        ≡ answer (elim t [ true ↦ packChosen v ts r′ (chosenFor most ts) | false ↦ P.turnedDown 8 r′ ])
-    same true = chosen-answer v ts r r′ (chosenFor most ts) e
-    same false = refl
+    by : Bool → Bool → PackBuffers → PackResult
+    by t u q =
+        elim t [
+          | true ↦ elim u [ true ↦ packChosen v ts q (orderFor most ts) (chosenFor most ts) | false ↦ P.turnedDown 22 q ]
+          | false ↦ P.turnedDown 8 q
+        ]
+
+    same : (t u : Bool) → answer (by t u r) ≡ answer (by t u r′)
+    same true true = chosen-answer v ts r r′ (orderFor most ts) (chosenFor most ts) e
+    same true false = refl
+    same false u = refl
 
 pub same-answer-in-all-buffers : SameAnswerInAllBuffers
-same-answer-in-all-buffers v xs r r′ a b c =
-    checked-answer v (trianglesOf xs) r r′ (check v xs) (ap₂ (λ (k l : ℕ). leb v k && leb maxPlaces l) a b) c
+same-answer-in-all-buffers v xs r r′ a b c d =
+    checked-answer v (trianglesOf xs) r r′ (check v xs) (ap₂ (λ (k l : ℕ). leb v k && leb maxPlaces l) a b)
+    (ap (leb (length (trianglesOf xs))) d) c
 
 pub stated-peaks-are-true : StatedPeaksAreTrue
 stated-peaks-are-true v xs r n e =

@@ -7,13 +7,16 @@ use mathlib.Core.List.{List, [], _∷_, _++_, append-assoc}
 use mathlib.Core.Path.{_≡_, refl, sym, ap, ap₂, _∙_, subst}
 use lib.ListN.{length, take, drop, getD, replicate, length-append}
 use lib.Seq.{take-at}
-use lib.Dec.{eqb, ltb}
-use borrow.Author.Tests.{eqb-true, ltb-true, le-leb}
+use lib.Dec.{eqb, leb, ltb}
+use borrow.Author.Tests.{eqb-true, ltb-true, leb-true, le-leb}
+use Rattle.rules.specs.declared.Triangle.{Triangle}
 use Rattle.rules.specs.declared.Counts.{Counts}
+use Rattle.rules.specs.declared.Place.{Place}
 use Rattle.rules.specs.declared.Model.{Model}
 use Rattle.rules.specs.declared.Operation.{Operation}
 use Rattle.rules.specs.declared.Checked.the-variants.{Accepted}
-use Rattle.rules.specs.Triangle.{trianglesOf}
+use Rattle.rules.specs.Triangle.{tri, trianglesOf, at-p}
+use Rattle.rules.specs.Limits.{maxPlaces}
 use Rattle.rules.specs.Fan.{oneFanEach}
 use Rattle.rules.specs.Check.{check}
 use Rattle.rules.specs.Machine.{Machine, empty, complete, asStated}
@@ -21,13 +24,14 @@ use Rattle.rules.specs.Answer.{unpacked}
 use Rattle.rules.specs.Bits.{bitsOfBytes, bytesOf, allZero}
 use Rattle.rules.specs.Code.{operationBits, operationsBits}
 use Rattle.rules.specs.Fields.{packBytes}
-use Rattle.rules.specs.Pack.{Chosen, stopped, chosen, most, chosenFor, packOf, indexOf, newNumbers, PackBuffers, PackResult, packDone}
-use Rattle.rules.specs.Pack.{packChosen, packLongEnough, pack}
+use Rattle.rules.specs.Pack.{Chosen, stopped, chosen, most, chosenFor, orderFor, packOf, indexOf, newNumbers, PackBuffers, PackResult}
+use Rattle.rules.specs.Pack.{PackContents, packDone, packChosen, packLongEnough, orderLongEnough, pack}
 use Rattle.rules.specs.Buffer.{Buffers}
 use Rattle.rules.specs.Unpack.{numbersOf, UnpackResult, unpack}
 use Rattle.mesh_theory.proofs.Fans.Accepted.{accepted-mesh}
 use Rattle.choice_theory.specs.Works.{Reads, none-read, one-read}
 use Rattle.choice_theory.proofs.Runs.Working.{works-stated}
+use Rattle.choice_theory.proofs.Runs.Accepted.{accepted-packable}
 use Rattle.choice_theory.proofs.Runs.Repacking.{Repacked}
 use Rattle.choice_theory.proofs.Runs.RoundBack.{Done, packs-back, checks-back}
 use Rattle.choice_theory.proofs.Runs.Running.{Held, held-of, no-loops}
@@ -37,9 +41,12 @@ use Rattle.wire_theory.proofs.Lists.{Bits, below-rest}
 use Rattle.wire_theory.proofs.Bytes.{fill, length-bits-of-bytes, bits-of-bytes-are, bytes-of-bits, bytes-filled}
 use Rattle.wire_theory.proofs.Operations.{operation-read, operations-bits-are}
 use Rattle.wire_theory.proofs.Fields.{pack-header, PackFound, pack-found}
-use Rattle.roundtrip.specs.Claims.{newNumber, PackOf, listIn, EveryAcceptedPackIsThePackOfItsList, NoTwoPacksOfOneList}
+use Rattle.roundtrip.specs.Claims.{under, Rotated, nth, written, newNumber, inputNumber, LongEnoughFor, PackOf, listIn}
+use Rattle.roundtrip.specs.Claims.{EveryAcceptedPackIsThePackOfItsList, NoTwoPacksOfOneList}
 use Rattle.roundtrip.proofs.Numbers.{getD-front, length-new, new-at, index-up}
-use Rattle.roundtrip.proofs.Results.{within-checked, stored-done, UnpackedBy, unpacked-by}
+use Rattle.roundtrip.proofs.Results.{within-checked, stored-done, packed-by, UnpackedBy, unpacked-by}
+use Rattle.roundtrip.proofs.Rotated.{turned-back, nth-below, one-place}
+use Rattle.roundtrip.proofs.Each.{each-once}
 use Rattle.counting.proofs.Bools.{and-true}
 use Rattle.mesh_theory.proofs.Chains.Prefix.{length-numbers}
 use Rattle.mesh_theory.proofs.Fans.Checks.{accepted-count}
@@ -165,20 +172,44 @@ module _ (bytes : List ℕ) (hb : Bytes bytes) (r : Buffers) (m : Model) (u : Un
       ≡ bytes
   pack-is = ap₂ packBytes counts-are (sym ops-are) ∙ sym (found .from)
 
-  module _ (r′ : PackBuffers) (enough : packLongEnough (m .vertices) r′ ≡ true) (long : length bytes ≤ length (r′ .pack)) where
-    packs : pack (m .vertices) (listIn m (unpack bytes r)) r′
-        ≡ packDone (newNumbers (m .vertices) (back bytes r m u .last .numbered)) bytes r′
+  -- what a packing of its list writes
+  abbrev writes : List ℕ → PackContents
+  writes bs = record {
+    numbering = newNumbers (m .vertices) (back bytes r m u .last .numbered);
+    pack = bs;
+    order = orderFor most (trianglesOf (listIn m (unpack bytes r)));
+  }
+
+  long-enough : LongEnoughFor (length (trianglesOf (listIn m (unpack bytes r)))) r
+  long-enough =
+      let k = and-true (leb (3 * u .counts .triangles) (length (r .triangles))) (leb maxPlaces (length {A = Place} (r .places)))
+      (u .enough) in
+      let a = leb-true (3 * u .counts .triangles) (length (r .triangles)) (k .0) in
+      (omega (arith, count-is bytes r m u, ap (λ (k : Model). k .triangles) (u .model)), leb-true _ _ (k .1))
+
+  module _ (r′ : PackBuffers) (enough : packLongEnough (m .vertices) r′ ≡ true)
+      (ordered : orderLongEnough (trianglesOf (listIn m (unpack bytes r))) r′ ≡ true) (long : length bytes ≤ length (r′ .pack)) where
+    -- its packing
+    abbrev packing : PackResult
+    packing = pack (m .vertices) (listIn m (unpack bytes r)) r′
+
+    packs : packing ≡ packDone (writes bytes) r′
     unfolding packChosen
     packs =
         let l = listIn m (unpack bytes r) in
         let bs = packOf (m .vertices) (trianglesOf l) (held bytes r m u .operations) (back bytes r m u .last) in
-        within-checked most (m .vertices) l r′ (checks bytes r m u) enough
-        ∙ (ap (packChosen (m .vertices) (trianglesOf l) r′) (chose bytes r m u)
-        ∙ (stored-done (m .vertices) (newNumbers (m .vertices) (back bytes r m u .last .numbered)) bs r′
+        within-checked most (m .vertices) l r′ (checks bytes r m u) enough ordered
+        ∙ (ap (packChosen (m .vertices) (trianglesOf l) r′ (orderFor most (trianglesOf l))) (chose bytes r m u)
+        ∙ (stored-done (m .vertices) (trianglesOf l) (writes bs) r′
         (le-leb (length bs) (length (r′ .pack)) (omega (arith, ap length pack-is)))
-        ∙ ap (λ (x : List ℕ). packDone (newNumbers (m .vertices) (back bytes r m u .last .numbered)) x r′) pack-is))
+        ∙ ap (λ (x : List ℕ). packDone (writes x) r′) pack-is))
 
-    numbers-same : (x : ℕ) → x < m .vertices → newNumber (pack (m .vertices) (listIn m (unpack bytes r)) r′) x ≡ x
+    bytes-same : take (length bytes) (packing .buffers .pack) ≡ bytes
+    bytes-same =
+        ap (λ (p : PackResult). take (length bytes) (p .buffers .pack)) packs
+        ∙ take-at bytes (drop (length bytes) (r′ .pack)) (length bytes) refl
+
+    numbers-same : (x : ℕ) → x < m .vertices → newNumber packing x ≡ x
     numbers-same x h =
         let ns = newNumbers (m .vertices) (back bytes r m u .last .numbered) in
         ap (λ (k : PackResult). getD (k .buffers .numbering) x 0) packs
@@ -186,15 +217,38 @@ module _ (bytes : List ℕ) (hb : Bytes bytes) (r : Buffers) (m : Model) (u : Un
         ∙ (new-at (m .vertices) x (back bytes r m u .last .numbered) h
         ∙ (ap (indexOf x) (back bytes r m u .numbers) ∙ index-up (u .end .used) x (omega (arith, used-is bytes r m u)))))
 
+    -- unpacking gives the list itself, so triangle i is the one that the order names there
+    order-same : (i : ℕ) → i < m .triangles → inputNumber packing i ≡ i
+    order-same i l =
+        let xs = listIn m (unpack bytes r) in
+        let v = m .vertices in
+        let ts = trianglesOf xs in
+        let ok = accepted-packable v xs (checks bytes r m u) in
+        let one = each-once v xs r′ (length bytes) (packed-by most v xs r′ (length bytes) (ap (λ (p : PackResult). p .answer) packs)) r
+        long-enough in
+        let k : i < length ts = omega (arith, count-is bytes r m u) in
+        let n = inputNumber packing i in
+        let t = nth ts n in
+        let b = nth-below v ts n (one .order .below i k) (ok .below) in
+        let same : under (newNumber packing) t ≡ t =
+        λ j. tri (numbers-same (t .p) (b .0) j) (numbers-same (t .q) (b .1) j) (numbers-same (t .r) (b .2) j) in
+        let list : written (length ts) (unpack (take (length bytes) (packing .buffers .pack)) r) ≡ ts =
+        ap (λ (bs : List ℕ). written (length ts) (unpack bs r)) bytes-same
+        ∙ ap (λ (k : ℕ). written k (unpack bytes r)) (count-is bytes r m u) in
+        let seen : Rotated (nth ts i) t =
+        subst (Rotated (nth ts i)) same
+        (subst (λ (us : List Triangle). Rotated (nth us i) (under (newNumber packing) t)) list (one .names i k)) in
+        one-place ts (ok .once) n i (one .order .below i k) k (turned-back seen) (at-p refl refl refl)
+
   pub pack-of : PackOf bytes m (listIn m (unpack bytes r))
   pack-of = record {
     accepted = checks bytes r m u;
     count = count-is bytes r m u;
-    packs = λ r′ k l. record {
-      same-length = ap (λ (p : PackResult). p .answer) (packs r′ k l);
-      same-bytes = ap (λ (p : PackResult). take (length bytes) (p .buffers .pack)) (packs r′ k l)
-          ∙ take-at bytes (drop (length bytes) (r′ .pack)) (length bytes) refl;
-      same-numbers = numbers-same r′ k l;
+    packs = λ r′ k o l. record {
+      same-length = ap (λ (p : PackResult). p .answer) (packs r′ k o l);
+      same-bytes = bytes-same r′ k o l;
+      same-numbers = numbers-same r′ k o l;
+      same-order = order-same r′ k o l;
     };
   }
 

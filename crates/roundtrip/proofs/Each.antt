@@ -1,4 +1,4 @@
--- Claim 2: unpacking the pack of a list gives each of its triangles once, under a numbering that is one to one.
+-- Claim 2: unpacking the pack of a list gives each of its triangles once, under a numbering that is one to one, and the order names them.
 -- Assumes nothing.
 use Prim.Native.Nat.{ℕ, _*_, _<_}
 use native.Mathlib.Omega.{arith}
@@ -7,13 +7,13 @@ use mathlib.Core.List.{List, [], _∷_}
 use mathlib.Core.Path.{_≡_, refl, sym, ap, _∙_, subst}
 use mathlib.Core.Logic.{_⊎_, inl, inr}
 use lib.ListN.{length, take, drop, getD}
-use lib.Seq.{take-at}
+use lib.Seq.{take-at, drop-at}
 use Rattle.rules.specs.declared.Triangle.{Triangle}
 use Rattle.rules.specs.declared.Operation.{Operation}
 use Rattle.rules.specs.Triangle.{trianglesOf, In}
 use Rattle.rules.specs.Machine.{totals}
 use Rattle.rules.specs.Choice.{Packing, has}
-use Rattle.rules.specs.Pack.{most, nothingBuilt, packOf, indexOf, newNumbers, PackBuffers, PackResult, pack}
+use Rattle.rules.specs.Pack.{most, nothingBuilt, enough, orderFor, packOf, indexOf, newNumbers, PackBuffers, PackResult, pack}
 use Rattle.rules.specs.Buffer.{Buffers}
 use Rattle.rules.specs.Unpack.{numbersOf, UnpackResult, unpackDone, unpack}
 use Rattle.mesh_theory.specs.Fans.Corner.{Once}
@@ -29,10 +29,13 @@ use Rattle.choice_theory.proofs.Runs.RoundTrip as T
 use Rattle.choice_theory.proofs.Runs.Rechecking.{length-numbers}
 use Rattle.choice_theory.proofs.Runs.Repacking.{in-onto, run-onto, numbersIn, triangles-in, numbers-onto, built-order, works-facts}
 use Rattle.choice_theory.proofs.Runs.Repacking.{works-order}
-use Rattle.roundtrip.specs.Run.{enough, buildOrder}
-use Rattle.roundtrip.specs.Claims.{renumbered, Rearranged, OneToOne, newNumber, LongEnoughFor, EachOnce, EachTriangleOnce}
+use Rattle.roundtrip.specs.Run.{buildOrder}
+use Rattle.roundtrip.specs.Claims.{under, renumbered, Rotated, nth, Rearranged, OneToOne, written, newNumber, inputNumber}
+use Rattle.roundtrip.specs.Claims.{LongEnoughFor, EachOnce, EachTriangleOnce}
 use Rattle.roundtrip.proofs.Numbers.{getD-front, length-new, new-at, has-at, index-at}
-use Rattle.roundtrip.proofs.Renumber.{named-is-renumbered, renumbered-agree}
+use Rattle.roundtrip.proofs.Renumber.{named-is-renumbered, renumbered-agree, nth-renumbered, turned-under}
+use Rattle.roundtrip.proofs.Order.{HasNumber, Names, names-length, names-at, order-names}
+use Rattle.roundtrip.proofs.Rotated.{turned-back, named-once}
 use Rattle.roundtrip.proofs.Results.{PackedBy, packed-by}
 use Rattle.roundtrip.proofs.Forth.{whole, ok, reached, unpacks-done}
 
@@ -124,6 +127,34 @@ module _ (v : ℕ) (xs : List ℕ) (r : PackBuffers) (n : ℕ) (p : PackedBy mos
         once = run-facts .once;
       })
 
+  -- the order
+  built-names : Names (trianglesOf xs) (orderFor most (trianglesOf xs)) (buildOrder (trianglesOf xs))
+  built-names = order-names (enough ts) (nothingBuilt most ts) (good .once) (λ x y z i. i)
+
+  order-length : length (orderFor most (trianglesOf xs)) ≡ length (trianglesOf xs)
+  order-length = names-length built-names ∙ rearranged .count
+
+  pub front-order : take (length (trianglesOf xs)) (pack v xs r .buffers .order) ≡ orderFor most (trianglesOf xs)
+  front-order =
+      let qs = orderFor most ts in
+      ap (λ (x : PackResult). take (length ts) (x .buffers .order)) (p .result)
+      ∙ take-at qs (drop (length qs) (r .order)) (length ts) order-length
+
+  pub beyond-order : drop (length (trianglesOf xs)) (pack v xs r .buffers .order) ≡ drop (length (trianglesOf xs)) (r .order)
+  beyond-order =
+      let qs = orderFor most ts in
+      ap (λ (x : PackResult). drop (length ts) (x .buffers .order)) (p .result)
+      ∙ (drop-at qs (drop (length qs) (r .order)) (length ts) order-length ∙ ap (λ (k : ℕ). drop k (r .order)) order-length)
+
+  built-named : (i : ℕ) → i < length (trianglesOf xs)
+      → HasNumber (trianglesOf xs) (inputNumber (pack v xs r) i) (nth (buildOrder (trianglesOf xs)) i)
+  built-named i l =
+      let qs = orderFor most ts in
+      let e : inputNumber (pack v xs r) i ≡ getD qs i 0 =
+      ap (λ (x : PackResult). getD (x .buffers .order) i 0) (p .result)
+      ∙ getD-front qs (drop (length qs) (r .order)) i (omega (arith, order-length)) in
+      subst (λ (n : ℕ). HasNumber ts n (nth (buildOrder ts) i)) (sym e) (names-at built-names i (omega (arith, rearranged .count)))
+
   -- the list that is written
   abbrev named : List Triangle
   named = triangles (T.newNumber s) (c .runs .order)
@@ -160,18 +191,35 @@ module _ (v : ℕ) (xs : List ℕ) (r : PackBuffers) (n : ℕ) (p : PackedBy mos
         (ap length numbers-written
         ∙ (length-numbers named ∙ ap (λ (k : ℕ). 3 * k) (length-triangles (T.newNumber s) (c .runs .order) ∙ c .runs .count)))
 
+    written-is : written (length (trianglesOf xs)) (unpack (take n (pack v xs r .buffers .pack)) r′)
+        ≡ renumbered (newNumber (pack v xs r)) (buildOrder (trianglesOf xs))
+    written-is =
+        ap trianglesOf (list-is ∙ numbers-written)
+        ∙ (triangles-in named ∙ (named-is ∙ ap (renumbered (newNumber (pack v xs r))) order-is))
+
+    names-written : (i : ℕ) → i < length (trianglesOf xs)
+        → Rotated (nth (written (length (trianglesOf xs)) (unpack (take n (pack v xs r .buffers .pack)) r′)) i)
+        (under (newNumber (pack v xs r)) (nth (trianglesOf xs) (inputNumber (pack v xs r) i)))
+    names-written i l =
+        let f = newNumber (pack v xs r) in
+        let t = nth ts (inputNumber (pack v xs r) i) in
+        subst (λ (u : Triangle). Rotated u (under f t))
+        (sym (ap (λ (us : List Triangle). nth us i) written-is ∙ nth-renumbered f (buildOrder ts) i (omega (arith, rearranged .count))))
+        (turned-under f (turned-back (built-named i l .seen)))
+
     pub each-once : EachOnce v (trianglesOf xs) (pack v xs r) (unpack (take n (pack v xs r .buffers .pack)) r′)
     each-once = record {
       totals = totals (reached v xs os s (p .accepted) (p .chose) .end);
       accepted = ap (λ (u : UnpackResult). u .answer) done;
       numbering = one-to-one;
       rearranged = rearranged;
-      unpacked = ap trianglesOf (list-is ∙ numbers-written)
-          ∙ (triangles-in named ∙ (named-is ∙ ap (renumbered (newNumber (pack v xs r))) order-is));
+      unpacked = written-is;
       once =
           let w = reached v xs os s (p .accepted) (p .chose) in
           subst Once (sym (ap trianglesOf list-is ∙ works-order (T.statedBy v ts s) os (w .end) (w .works) (w .no-loop)))
           (works-facts (T.statedBy v ts s) os (w .end) (w .works) (w .no-loop) .once);
+      order = named-once ts (buildOrder ts) (inputNumber (pack v xs r)) (good .once) rearranged built-named;
+      names = names-written;
     }
 
 pub each-triangle-once : EachTriangleOnce

@@ -8,11 +8,14 @@ pub mod Forth
 pub mod Limits
 pub mod Model
 pub mod Numbers
+pub mod Order
 pub mod Places
 pub mod Renumber
 pub mod Results
 pub mod Right
+pub mod SameOrder
 pub mod Starts
 pub mod Stuck
+pub mod Rotated
 pub mod Unpacked
 pub mod Wanting

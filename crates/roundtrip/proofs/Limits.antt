@@ -3,8 +3,8 @@
 use Prim.Native.Nat.{ℕ, zero, suc, _+_, _*_, _≤_, max}
 use native.Mathlib.Omega.{arith}
 use mathlib.Core.Bool.{Bool, true, false}
-use mathlib.Core.List.{List, [], _∷_}
-use mathlib.Core.Path.{_≡_, refl, sym, ap, _∙_}
+use mathlib.Core.List.{List, [], _∷_, _++_}
+use mathlib.Core.Path.{_≡_, refl, sym, ap, _∙_, subst}
 use mathlib.Core.Logic.{_⊎_, inl, inr}
 use lib.ListN.{length}
 use lib.Dec.{leb}
@@ -13,10 +13,11 @@ use Rattle.rules.specs.declared.Triangle.{Triangle}
 use Rattle.rules.specs.declared.Operation.{Operation}
 use Rattle.rules.specs.Ring.{Ring, places}
 use Rattle.rules.specs.Choice.{Packing, Next, ended, refuses, takes, packingAfter, limited, choose}
-use Rattle.rules.specs.Pack.{Chosen, stopped, chosen, cons, chooseAll, Most, nothingBuilt, chosenFor}
+use Rattle.rules.specs.Order.{nextNumber, orderBy}
+use Rattle.rules.specs.Pack.{Chosen, stopped, chosen, cons, chooseAll, Most, nothingBuilt, enough, chosenFor, orderFor}
 use Rattle.choice_theory.proofs.Runs.Whole.{all-ended, all-taken}
 use Rattle.choice_theory.proofs.Runs.Following.{limited-takes}
-use Rattle.roundtrip.specs.Run.{enough, unlimited, loopsAfter, runLoops, NoFault, FirstFault, places-exceeded, loops-exceeded, later}
+use Rattle.roundtrip.specs.Run.{unlimited, loopsAfter, runLoops, NoFault, FirstFault, places-exceeded, loops-exceeded, later}
 use Rattle.roundtrip.specs.Run.{peakOf}
 use Rattle.roundtrip.proofs.Wanting.{Want, idle, wants, want, doing, choose-want, Grown, want-grown}
 
@@ -75,6 +76,15 @@ loops-next : (n : ℕ) (s s′ : Packing) (o : Operation) → choose s ≡ takes
 unfolding loopsAfter
 loops-next n s s′ o h = rw (loopsAfter, h) refl
 
+order-idle : (n : ℕ) (s : Packing) → choose s ≡ ended → orderBy (suc n) s ≡ []
+unfolding orderBy
+order-idle n s h = rw (orderBy, h) refl
+
+order-next : (n : ℕ) (s s′ : Packing) (o : Operation) → choose s ≡ takes o s′
+    → orderBy (suc n) s ≡ nextNumber s ++ orderBy n s′
+unfolding orderBy
+order-next n s s′ o h = rw (orderBy, h) refl
+
 -- the limits b are above all that n operations can reach
 abbrev Ample : Most → ℕ → Packing → Type 0
 Ample b n s = (places (s .loops) + 3 * n ≤ b .places) × (length (s .loops) + n ≤ b .loops)
@@ -125,6 +135,34 @@ module _ (h b : Most) where
           (all-next n (relimit h s)
           ∙ (ap (taken n o (relimit h s)) f
           ∙ next-limited n o (relimit h s) s′ (loopsAfter n (relimit b s′)) (chooseAll n (relimit b s′)) i))
+
+  -- and if none is at fault the same triangles are built
+  pub same-order : (n : ℕ) (s : Packing) → Ample b n s → NoFault h (loopsAfter n (relimit b s))
+      → orderBy n (relimit h s) ≡ orderBy n (relimit b s)
+  unfolding orderBy
+  same-order zero s k x = refl
+  same-order (suc n) s k x = go (want s) refl (want-grown s) (λ s′. same-order n s′)
+    where
+      go : (w : Want) → want s ≡ w → Grown (places (s .loops)) (length (s .loops)) w
+          → ((s′ : Packing) → Ample b n s′ → NoFault h (loopsAfter n (relimit b s′)) → orderBy n (relimit h s′) ≡ orderBy n (relimit b s′))
+          → orderBy (suc n) (relimit h s) ≡ orderBy (suc n) (relimit b s)
+      go idle e g again =
+          order-idle n (relimit h s) (choose-want (relimit h s) ∙ ap (doing (relimit h s)) e)
+          ∙ sym (order-idle n (relimit b s) (choose-want (relimit b s) ∙ ap (doing (relimit b s)) e))
+      go (wants o ts vs ls) e g again =
+          let s′ = packingAfter s ts vs ls in
+          let p : places ls ≤ b .places = omega (arith, g .0, k .0) in
+          let l : length ls ≤ b .loops = omega (arith, g .1, k .1) in
+          let f′ : choose (relimit b s) ≡ takes o (relimit b s′) =
+          choose-want (relimit b s) ∙ (ap (doing (relimit b s)) e ∙ limited-takes o (relimit b s′) p l) in
+          let y : NoFault h (ls ∷ loopsAfter n (relimit b s′)) =
+          subst (NoFault h) (loops-next n (relimit b s) (relimit b s′) o f′) x in
+          let f : choose (relimit h s) ≡ takes o (relimit h s′) =
+          choose-want (relimit h s) ∙ (ap (doing (relimit h s)) e ∙ limited-takes o (relimit h s′) (y .0 .0) (y .0 .1)) in
+          order-next n (relimit h s) (relimit h s′) o f
+          ∙ (ap (λ (ns : List ℕ). nextNumber s ++ ns)
+          (again s′ (omega (arith, g .0, k .0), omega (arith, g .1, k .1)) (y .1))
+          ∙ sym (order-next n (relimit b s) (relimit b s′) o f′))
 
 -- a run without limits is not stopped; its peaks are those of the loops after each operation
 pub record Unstopped (n : ℕ) (s : Packing) : Type 0 where
@@ -180,6 +218,9 @@ module _ (ts : List Triangle) where
   pub chosen-with : (h : Most) → chosenFor h ts ≡ limitedTo h (runLoops ts) (chosen (run-ends .operations) (run-ends .last))
   chosen-with h =
       same-choices h (unlimited ts) (enough ts) (nothingBuilt (unlimited ts) ts) ample ∙ ap (limitedTo h (runLoops ts)) (run-ends .does)
+
+  pub order-with : (h : Most) → NoFault h (runLoops ts) → orderFor h ts ≡ orderFor (unlimited ts) ts
+  order-with h = same-order h (unlimited ts) (enough ts) (nothingBuilt (unlimited ts) ts) ample
 
 -- 9 and 10, and neither
 pub data Judged (h : Most) (lss : List (List Ring)) (c : Chosen) : Type 0 where

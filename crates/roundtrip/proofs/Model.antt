@@ -18,7 +18,7 @@ use Rattle.roundtrip.specs.Claims.{renumbered, Rearranged, OneToOne, wri
 use Rattle.roundtrip.specs.Claims.{SameTrianglesSameModel}
 use Rattle.roundtrip.proofs.Renumber.{renumbered-agree, renumbered-twice, length-renumbered, renumbered-in, Had, in-renumbered}
 use Rattle.roundtrip.proofs.Results.{packed-by}
-use Rattle.roundtrip.proofs.Starts.{no-more}
+use Rattle.roundtrip.proofs.Starts.{same-all}
 use Rattle.roundtrip.proofs.Each.{each-once}
 
 -- the highest number below n that g numbers k, or else 0
@@ -124,13 +124,7 @@ same-triangles-same-model v xs ys r q n m e f same r′ q′ a b =
     let two = each-once v ys q m p′ q′ b in
     let ok = accepted-packable v xs (p .accepted) in
     let ok′ = accepted-packable v ys (p′ .accepted) in
-    let k : length (trianglesOf xs) ≡ length (trianglesOf ys) =
-    omega (
-      arith,
-      no-more (trianglesOf xs) (trianglesOf ys) (ok .once) (ok′ .once) (λ x y z. same x y z .0),
-      no-more (trianglesOf ys)
-          (trianglesOf xs) (ok′ .once) (ok .once) (λ x y z. same x y z .1),
-    ) in (
+    let k = same-all (trianglesOf xs) (trianglesOf ys) (ok .once) (ok′ .once) same .count in (
       change v xs ys _ _ _ _ one two same k (ok .below),
       between-one v _ _ (one .numbering) (two .numbering),
       same-model v xs ys _ _ _ _ one two same k (ok .below),

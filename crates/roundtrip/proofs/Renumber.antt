@@ -1,13 +1,18 @@
 -- Triangles under a numbering of their vertices.
 -- Assumes nothing.
-use Prim.Native.Nat.{ℕ, suc}
+use Prim.Native.Nat.{ℕ, zero, suc, _<_}
+use native.Mathlib.Omega.{arith}
 use mathlib.Core.List.{List, [], _∷_}
 use mathlib.Core.Path.{_≡_, refl, ap, ap₂}
 use lib.ListN.{length}
 use Rattle.rules.specs.declared.Triangle.{Triangle}
 use Rattle.rules.specs.Triangle.{tri, at-p, at-q, at-r, In, here, there}
 use Rattle.choice_theory.proofs.Places.Renaming.{triangles}
-use Rattle.roundtrip.specs.Claims.{renumbered}
+use Rattle.roundtrip.specs.Claims.{under, renumbered, Rotated, nth, OneToOne}
+
+-- the vertices of a triangle are below v
+abbrev pub Below : ℕ → Triangle → Type 0
+Below v t = (t .p < v) × (t .q < v) × (t .r < v)
 
 pub named-is-renumbered : (f : ℕ → ℕ) (ts : List Triangle) → triangles f ts ≡ renumbered f ts
 named-is-renumbered f [] = refl
@@ -36,6 +41,26 @@ renumbered-in f (t ∷ ts) x y z (here (at-p a b c)) = here (at-p (ap f a) (ap f
 renumbered-in f (t ∷ ts) x y z (here (at-q a b c)) = here (at-q (ap f a) (ap f b) (ap f c))
 renumbered-in f (t ∷ ts) x y z (here (at-r a b c)) = here (at-r (ap f a) (ap f b) (ap f c))
 renumbered-in f (t ∷ ts) x y z (there i) = there (renumbered-in f ts x y z i)
+
+pub nth-renumbered : (f : ℕ → ℕ) (ts : List Triangle) (i : ℕ) → i < length ts → nth (renumbered f ts) i ≡ under f (nth ts i)
+nth-renumbered f [] i l = absurd (omega arith)
+nth-renumbered f (t ∷ ts) zero l = refl
+nth-renumbered f (t ∷ ts) (suc i) l = nth-renumbered f ts i (omega arith)
+
+pub turned-under : (f : ℕ → ℕ) {t u : Triangle} → Rotated t u → Rotated (under f t) (under f u)
+turned-under f (at-p a b c) = at-p (ap f a) (ap f b) (ap f c)
+turned-under f (at-q a b c) = at-q (ap f a) (ap f b) (ap f c)
+turned-under f (at-r a b c) = at-r (ap f a) (ap f b) (ap f c)
+
+-- and back, where the numbering is one to one
+pub under-turned : (v : ℕ) (f : ℕ → ℕ) (t u : Triangle) → OneToOne v f → Below v t → Below v u → Rotated (under f t) (under f u)
+    → Rotated t u
+under-turned v f t u o k l (at-p a b c) =
+    at-p (o .tells _ _ (k .0) (l .0) a) (o .tells _ _ (k .1) (l .1) b) (o .tells _ _ (k .2) (l .2) c)
+under-turned v f t u o k l (at-q a b c) =
+    at-q (o .tells _ _ (k .1) (l .0) a) (o .tells _ _ (k .2) (l .1) b) (o .tells _ _ (k .0) (l .2) c)
+under-turned v f t u o k l (at-r a b c) =
+    at-r (o .tells _ _ (k .2) (l .0) a) (o .tells _ _ (k .0) (l .1) b) (o .tells _ _ (k .1) (l .2) c)
 
 -- a triangle that has new numbers had old ones
 pub record Had (f : ℕ → ℕ) (ts : List Triangle) (x y z : ℕ) : Type 0 where

@@ -21,8 +21,9 @@ use Rattle.rules.specs.Machine.{Machine, asStated, longEnough, totals}
 use Rattle.rules.specs.Answer.{Answer, refusal, accepted, triangle, no-triangle, numbers, packed, unpacked}
 use Rattle.rules.specs.Fields.{Fields, no-pack, fields, fieldsOf}
 use Rattle.rules.specs.Choice.{Packing}
-use Rattle.rules.specs.Pack.{Chosen, stopped, chosen, Most, chosenFor, packOf, newNumbers, PackBuffers, PackResult, packRefused, packDone}
-use Rattle.rules.specs.Pack.{packStored, packChosen, packLongEnough, packChecked, packWithin}
+use Rattle.rules.specs.declared.Triangle.{Triangle}
+use Rattle.rules.specs.Pack.{Chosen, stopped, chosen, Most, chosenFor, orderFor, packOf, PackBuffers, PackResult, packRefused, PackContents}
+use Rattle.rules.specs.Pack.{packDone, packStored, contentsOf, packChosen, packLongEnough, orderLongEnough, packChecked, packWithin}
 use Rattle.rules.specs.Pack as P
 use Rattle.rules.specs.Buffer.{Buffers, lengths}
 use Rattle.rules.specs.Unpack as U
@@ -34,12 +35,14 @@ use Rattle.counting.proofs.Bools.{and-true}
 pub record PackedBy (h : Most) (v : ℕ) (xs : List ℕ) (r : PackBuffers) (n : ℕ) : Type 0 where
   pub accepted : check v xs ≡ Accepted
   pub enough : packLongEnough v r ≡ true
+  pub ordered : orderLongEnough (trianglesOf xs) r ≡ true
   pub operations : List Operation
   pub last : Packing
   pub chose : chosenFor h (trianglesOf xs) ≡ chosen operations last
   pub long : n ≡ length (packOf v (trianglesOf xs) operations last)
   pub fits : length (packOf v (trianglesOf xs) operations last) ≤ length (r .pack)
-  pub result : packWithin h v xs r ≡ packDone (newNumbers v (last .numbered)) (packOf v (trianglesOf xs) operations last) r
+  pub result : packWithin h v xs r
+      ≡ packDone (contentsOf v (trianglesOf xs) (orderFor h (trianglesOf xs)) operations last) r
 
 abbrev packAnswer : PackResult → Answer
 packAnswer p = p .answer
@@ -74,68 +77,89 @@ modelIn d (numbers x) = d
 modelIn d (packed n) = d
 modelIn d (unpacked m) = m
 
-not-packed : (n k : ℕ) → refusal k ≡ packed n → ⊥
+pub not-packed : (n k : ℕ) → refusal k ≡ packed n → ⊥
 not-packed n k e = let z : _≡_ {A = ℕ} 0 5 = ap kind e in omega arith
 
 not-unpacked : (m : Model) (k : ℕ) → refusal k ≡ unpacked m → ⊥
 not-unpacked m k e = let z : _≡_ {A = ℕ} 0 6 = ap kind e in omega arith
 
-pub stored-done : (v : ℕ) (ns bytes : List ℕ) (r : PackBuffers) → leb (length bytes) (length (r .pack)) ≡ true
-    → packStored v ns bytes r ≡ packDone ns bytes r
-stored-done v ns bytes r h = ap (λ (t : Bool). elim t [ true ↦ packDone ns bytes r | false ↦ packRefused 11 v r ]) h
+pub stored-done : (v : ℕ) (ts : List Triangle) (w : PackContents) (r : PackBuffers) → leb (length (w .pack)) (length (r .pack)) ≡ true
+    → packStored v ts w r ≡ packDone w r
+stored-done v ts w r h = ap (λ (t : Bool). elim t [ true ↦ packDone w r | false ↦ packRefused 11 v ts r ]) h
 
-pub stored-refused : (v : ℕ) (ns bytes : List ℕ) (r : PackBuffers) → leb (length bytes) (length (r .pack)) ≡ false
-    → packStored v ns bytes r ≡ packRefused 11 v r
-stored-refused v ns bytes r h = ap (λ (t : Bool). elim t [ true ↦ packDone ns bytes r | false ↦ packRefused 11 v r ]) h
+pub stored-refused : (v : ℕ) (ts : List Triangle) (w : PackContents) (r : PackBuffers) → leb (length (w .pack)) (length (r .pack)) ≡ false
+    → packStored v ts w r ≡ packRefused 11 v ts r
+stored-refused v ts w r h = ap (λ (t : Bool). elim t [ true ↦ packDone w r | false ↦ packRefused 11 v ts r ]) h
 
--- a list that passes 1 to 8
+-- a list that passes 1 to 8 and 22
 pub within-checked : (h : Most) (v : ℕ) (xs : List ℕ) (r : PackBuffers) → check v xs ≡ Accepted → packLongEnough v r ≡ true
-    → packWithin h v xs r ≡ packChosen v (trianglesOf xs) r (chosenFor h (trianglesOf xs))
+    → orderLongEnough (trianglesOf xs) r ≡ true
+    → packWithin h v xs r ≡ packChosen v (trianglesOf xs) r (orderFor h (trianglesOf xs)) (chosenFor h (trianglesOf xs))
 unfolding packChecked
-within-checked h v xs r a k =
-    ap (packChecked h v (trianglesOf xs) r) a
-    ∙ ap (λ (t : Bool). elim t [ true ↦ packChosen v (trianglesOf xs) r (chosenFor h (trianglesOf xs)) | false ↦ P.turnedDown 8 r ]) k
+within-checked h v xs r a k l =
+    let ts = trianglesOf xs in
+    let p = packChosen v ts r (orderFor h ts) (chosenFor h ts) in
+    ap (packChecked h v ts r) a
+    ∙ (ap (λ (t : Bool). elim t [
+      | true ↦ elim (orderLongEnough ts r) [ true ↦ p | false ↦ P.turnedDown 22 r ]
+      | false ↦ P.turnedDown 8 r
+    ]) k
+    ∙ ap (λ (t : Bool). elim t [ true ↦ p | false ↦ P.turnedDown 22 r ]) l)
 
-pub packed-by : (h : Most) (v : ℕ) (xs : List ℕ) (r : PackBuffers) (n : ℕ) → packWithin h v xs r .answer ≡ packed n → PackedBy h v xs r n
-unfolding packChecked packChosen
-packed-by h v xs r n e = at-check (check v xs) refl e
-  where
-    at-store : (os : List Operation) (s : Packing) (t : Bool) → check v xs ≡ Accepted → packLongEnough v r ≡ true
-        → chosenFor h (trianglesOf xs) ≡ chosen os s
-        → leb (length (packOf v (trianglesOf xs) os s)) (length (r .pack)) ≡ t
-        → _≡_ {A = Answer} (packAnswer
-        (elim t [ true ↦ packDone (newNumbers v (s .numbered)) (packOf v (trianglesOf xs) os s) r | false ↦ packRefused 11 v r ]))
-        (packed n)
-        → PackedBy h v xs r n
-    at-store os s true a k c l q = record {
-      accepted = a;
-      enough = k;
-      operations = os;
-      last = s;
-      chose = c;
-      long = sym (ap lengthIn q);
-      fits = leb-true _ _ l;
-      result =
-          within-checked h v xs r a k
-          ∙ (ap (packChosen v (trianglesOf xs) r) c ∙ stored-done v (newNumbers v (s .numbered)) (packOf v (trianglesOf xs) os s) r l);
-    }
-    at-store os s false a k c l q = absurd (not-packed n 11 q)
+module _ (h : Most) (v : ℕ) (xs : List ℕ) (r : PackBuffers) (n : ℕ) where
+  abbrev ts : List Triangle
+  ts = trianglesOf xs
 
-    at-chosen : (x : Chosen) → check v xs ≡ Accepted → packLongEnough v r ≡ true → chosenFor h (trianglesOf xs) ≡ x
-        → packChosen v (trianglesOf xs) r x .answer ≡ packed n → PackedBy h v xs r n
-    at-chosen (stopped k) a b c q = absurd (not-packed n k q)
-    at-chosen (chosen os s) a b c q = at-store os s (leb (length (packOf v (trianglesOf xs) os s)) (length (r .pack))) a b c refl q
+  abbrev qs : List ℕ
+  qs = orderFor h (trianglesOf xs)
 
-    at-enough : (t : Bool) → check v xs ≡ Accepted → packLongEnough v r ≡ t
-        → _≡_ {A = Answer} (packAnswer
-        (elim t [ true ↦ packChosen v (trianglesOf xs) r (chosenFor h (trianglesOf xs)) | false ↦ P.turnedDown 8 r ])) (packed n)
-        → PackedBy h v xs r n
-    at-enough true a k q = at-chosen (chosenFor h (trianglesOf xs)) a k refl q
-    at-enough false a k q = absurd (not-packed n 8 q)
+  -- what passes 1 to 8 and 22
+  abbrev Passed : Type 0
+  Passed = (check v xs ≡ Accepted) × (packLongEnough v r ≡ true) × (orderLongEnough ts r ≡ true)
 
-    at-check : (c : Checked) → check v xs ≡ c → packChecked h v (trianglesOf xs) r c .answer ≡ packed n → PackedBy h v xs r n
-    at-check Accepted a q = at-enough (packLongEnough v r) a refl q
-    at-check (Refused k) a q = absurd (not-packed n k q)
+  at-store : (os : List Operation) (s : Packing) (t : Bool) → Passed → chosenFor h ts ≡ chosen os s
+      → leb (length (packOf v ts os s)) (length (r .pack)) ≡ t
+      → _≡_ {A = Answer} (packAnswer (elim t [ true ↦ packDone (contentsOf v ts qs os s) r | false ↦ packRefused 11 v ts r ])) (packed n)
+      → PackedBy h v xs r n
+  unfolding packChosen
+  at-store os s true a c l q = record {
+    accepted = a .0;
+    enough = a .1;
+    ordered = a .2;
+    operations = os;
+    last = s;
+    chose = c;
+    long = sym (ap lengthIn q);
+    fits = leb-true _ _ l;
+    result =
+        within-checked h v xs r (a .0) (a .1) (a .2)
+        ∙ (ap (packChosen v ts r qs) c ∙ stored-done v ts (contentsOf v ts qs os s) r l);
+  }
+  at-store os s false a c l q = absurd (not-packed n 11 q)
+
+  at-chosen : (x : Chosen) → Passed → chosenFor h ts ≡ x → packChosen v ts r qs x .answer ≡ packed n → PackedBy h v xs r n
+  unfolding packChosen
+  at-chosen (stopped k) a c q = absurd (not-packed n k q)
+  at-chosen (chosen os s) a c q = at-store os s (leb (length (packOf v ts os s)) (length (r .pack))) a c refl q
+
+  at-enough : (t u : Bool) → check v xs ≡ Accepted → packLongEnough v r ≡ t → orderLongEnough ts r ≡ u
+      → _≡_ {A = Answer}
+      (packAnswer (elim t [
+        | true ↦ elim u [ true ↦ packChosen v ts r qs (chosenFor h ts) | false ↦ P.turnedDown 22 r ]
+        | false ↦ P.turnedDown 8 r
+      ])) (packed n)
+      → PackedBy h v xs r n
+  at-enough true true a k l q = at-chosen (chosenFor h ts) (a, k, l) refl q
+  at-enough true false a k l q = absurd (not-packed n 22 q)
+  at-enough false u a k l q = absurd (not-packed n 8 q)
+
+  at-check : (c : Checked) → check v xs ≡ c → packChecked h v ts r c .answer ≡ packed n → PackedBy h v xs r n
+  unfolding packChecked
+  at-check Accepted a q = at-enough (packLongEnough v r) (orderLongEnough ts r) a refl refl q
+  at-check (Refused k) a q = absurd (not-packed n k q)
+
+  pub packed-by : packWithin h v xs r .answer ≡ packed n → PackedBy h v xs r n
+  packed-by e = at-check (check v xs) refl e
 
 -- an unpacking that was not refused
 pub record UnpackedBy (bytes : List ℕ) (r : Buffers) (m : Model) : Type 0 where

@@ -14,14 +14,14 @@ use Rattle.rules.specs.declared.Checked.the-variants.{Accepted}
 use Rattle.rules.specs.Triangle.{trianglesOf}
 use Rattle.rules.specs.Check.{check}
 use Rattle.rules.specs.Answer.{Answer, refusal, accepted, triangle, no-triangle, numbers, packed, unpacked}
-use Rattle.rules.specs.Pack.{Chosen, stopped, chosen, Most, nothingBuilt, packOf, newNumbers, PackBuffers, PackResult, packDone, packChosen}
-use Rattle.rules.specs.Pack.{packLongEnough, packWithin}
+use Rattle.rules.specs.Pack.{Chosen, stopped, chosen, Most, nothingBuilt, orderFor, packOf, PackBuffers, PackResult, PackContents, packDone}
+use Rattle.rules.specs.Pack.{contentsOf, packChosen, packLongEnough, orderLongEnough, packWithin}
 use Rattle.choice_theory.proofs.Runs.Whole.{Complete}
 use Rattle.choice_theory.proofs.Runs.RoundTrip.{accepted-complete}
 use Rattle.roundtrip.specs.Run.{unlimited, runLoops, NoFault, FirstFault}
 use Rattle.roundtrip.specs.Claims.{NeverStuck, PackingIsNeverStuck}
-use Rattle.roundtrip.proofs.Limits.{relimit, limitedTo, run-ends, chosen-with, Judged, at-fault, no-fault, judged, one-fault}
-use Rattle.roundtrip.proofs.Limits.{fault-or-none}
+use Rattle.roundtrip.proofs.Limits.{relimit, limitedTo, run-ends, chosen-with, order-with, Judged, at-fault, no-fault, judged}
+use Rattle.roundtrip.proofs.Limits.{one-fault, fault-or-none}
 use Rattle.roundtrip.proofs.Results.{within-checked, stored-done, stored-refused}
 
 -- the answer by a number: 0 for a pack of l bytes, else the refusal
@@ -42,12 +42,17 @@ number-for : (l k : ℕ) → numberOf (answerFor l k) ≡ k
 number-for l zero = refl
 number-for l (suc n) = refl
 
-module _ (h : Most) (v : ℕ) (xs : List ℕ) (r : PackBuffers) (a : check v xs ≡ Accepted) (enough : packLongEnough v r ≡ true) where
+module _ (h : Most) (v : ℕ) (xs : List ℕ) (r : PackBuffers) (a : check v xs ≡ Accepted) (enough : packLongEnough v r ≡ true)
+    (ordered : orderLongEnough (trianglesOf xs) r ≡ true) where
   abbrev ts : List Triangle
   ts = trianglesOf xs
 
   abbrev bytes : List ℕ
   bytes = packOf v (trianglesOf xs) (run-ends (trianglesOf xs) .operations) (run-ends (trianglesOf xs) .last)
+
+  -- what is written where the order is qs
+  abbrev writes : List ℕ → PackContents
+  writes qs = contentsOf v (trianglesOf xs) qs (run-ends (trianglesOf xs) .operations) (run-ends (trianglesOf xs) .last)
 
   -- where the answer k is due
   abbrev Due : ℕ → Type 0
@@ -68,10 +73,10 @@ module _ (h : Most) (v : ℕ) (xs : List ℕ) (r : PackBuffers) (a : check v xs 
   due-one k m (inr (inr x)) (inr (inr y)) = x .0 ∙ sym (y .0)
 
   chose : (c : Chosen) → limitedTo h (runLoops ts) (chosen (run-ends ts .operations) (run-ends ts .last)) ≡ c
-      → packWithin h v xs r .answer ≡ packChosen v (trianglesOf xs) r c .answer
+      → packWithin h v xs r .answer ≡ packChosen v ts r (orderFor h ts) c .answer
   chose c e =
-      ap (λ (p : PackResult). p .answer) (within-checked h v xs r a enough)
-      ∙ ap (λ (x : Chosen). packChosen v (trianglesOf xs) r x .answer) (chosen-with ts h ∙ e)
+      ap (λ (p : PackResult). p .answer) (within-checked h v xs r a enough ordered)
+      ∙ ap (λ (x : Chosen). packChosen v ts r (orderFor h ts) x .answer) (chosen-with ts h ∙ e)
 
   due : (k : ℕ) × Due k × (packWithin h v xs r .answer ≡ answerFor (length bytes) k)
   unfolding packChosen
@@ -83,17 +88,17 @@ module _ (h : Most) (v : ℕ) (xs : List ℕ) (r : PackBuffers) (a : check v xs 
 
       stored : (t : Bool) → leb (length bytes) (length (r .pack)) ≡ t → NoFault h (runLoops ts)
           → packWithin h v xs r .answer
-          ≡ packChosen v (trianglesOf xs) r (chosen (run-ends ts .operations) (relimit h (run-ends ts .last))) .answer
+          ≡ packChosen v ts r (orderFor h ts) (chosen (run-ends ts .operations) (relimit h (run-ends ts .last))) .answer
           → (k : ℕ) × Due k × (packWithin h v xs r .answer ≡ answerFor (length bytes) k)
       stored true e x q = (
         0,
         inr (inr (refl, x, leb-true (length bytes) (length (r .pack)) e)),
-        q ∙ ap (λ (p : PackResult). p .answer) (stored-done v (newNumbers v (run-ends ts .last .numbered)) bytes r e),
+        q ∙ ap (λ (p : PackResult). p .answer) (stored-done v ts (writes (orderFor h ts)) r e),
       )
       stored false e x q = (
         11,
         inr (inl (refl, x, (let k = leb-false (length bytes) (length (r .pack)) e in omega arith))),
-        q ∙ ap (λ (p : PackResult). p .answer) (stored-refused v (newNumbers v (run-ends ts .last .numbered)) bytes r e),
+        q ∙ ap (λ (p : PackResult). p .answer) (stored-refused v ts (writes (orderFor h ts)) r e),
       )
 
       go : Judged h (runLoops ts) (chosen (run-ends ts .operations) (run-ends ts .last))
@@ -104,17 +109,18 @@ module _ (h : Most) (v : ℕ) (xs : List ℕ) (r : PackBuffers) (a : check v xs 
 
   -- with no operation at fault and a buffer that is long enough
   done : NoFault h (runLoops ts) → length bytes ≤ length (r .pack)
-      → packWithin h v xs r ≡ packDone (newNumbers v (run-ends (trianglesOf xs) .last .numbered)) bytes r
+      → packWithin h v xs r ≡ packDone (writes (orderFor (unlimited ts) ts)) r
   unfolding packChosen
   done x l = go (judged h (runLoops ts) (chosen (run-ends ts .operations) (run-ends ts .last)))
     where
       go : Judged h (runLoops ts) (chosen (run-ends ts .operations) (run-ends ts .last))
-          → packWithin h v xs r ≡ packDone (newNumbers v (run-ends ts .last .numbered)) bytes r
+          → packWithin h v xs r ≡ packDone (writes (orderFor (unlimited ts) ts)) r
       go (at-fault n w y e) = absurd (fault-or-none h n (runLoops ts) y x)
       go (no-fault y e) =
-          within-checked h v xs r a enough
-          ∙ (ap (packChosen v (trianglesOf xs) r) (chosen-with ts h ∙ e)
-          ∙ stored-done v (newNumbers v (run-ends ts .last .numbered)) bytes r (le-leb (length bytes) (length (r .pack)) l))
+          within-checked h v xs r a enough ordered
+          ∙ (ap (packChosen v ts r (orderFor h ts)) (chosen-with ts h ∙ e)
+          ∙ (stored-done v ts (writes (orderFor h ts)) r (le-leb (length bytes) (length (r .pack)) l)
+          ∙ ap (λ (qs : List ℕ). packDone (writes qs) r) (order-with ts h y)))
 
   told : (k : ℕ) → packWithin h v xs r .answer ≡ answerFor (length bytes) k → Due k
   told k e =
@@ -170,5 +176,5 @@ module _ (h : Most) (v : ℕ) (xs : List ℕ) (r : PackBuffers) (a : check v xs 
   }
 
 pub packing-is-never-stuck : PackingIsNeverStuck
-packing-is-never-stuck h v xs r a enough =
-    (run-ends (trianglesOf xs) .operations, run-ends (trianglesOf xs) .last, stuck-never h v xs r a enough)
+packing-is-never-stuck h v xs r a enough ordered =
+    (run-ends (trianglesOf xs) .operations, run-ends (trianglesOf xs) .last, stuck-never h v xs r a enough ordered)

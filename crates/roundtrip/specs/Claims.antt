@@ -5,7 +5,7 @@ use mathlib.Core.Bool.{true}
 use mathlib.Core.List.{List, [], _∷_}
 use mathlib.Core.Path.{_≡_}
 use mathlib.Core.Logic.{_⊎_, _↔_}
-use lib.ListN.{length, take, getD}
+use lib.ListN.{length, take, drop, getD}
 use Rattle.rules.specs.declared.Triangle.{Triangle}
 use Rattle.rules.specs.declared.Operation.{Operation}
 use Rattle.rules.specs.declared.Counts.{Counts}
@@ -15,7 +15,7 @@ use Rattle.rules.specs.declared.Across.the-variants.{Found}
 use Rattle.rules.specs.declared.Place.{Place}
 use Rattle.rules.specs.declared.Checked.the-variants.{Accepted}
 use Rattle.rules.specs.Limits.{maxPlaces}
-use Rattle.rules.specs.Triangle.{tri, Edge, trianglesOf, corners, In}
+use Rattle.rules.specs.Triangle.{tri, Edge, trianglesOf, corners, Rot, In}
 use Rattle.rules.specs.Count.{different}
 use Rattle.rules.specs.Across.{across}
 use Rattle.rules.specs.Check.{check}
@@ -24,8 +24,8 @@ use Rattle.rules.specs.Table.{Side, glued, builds, effect, edgeRule}
 use Rattle.rules.specs.Answer.{refusal, packed, unpacked}
 use Rattle.rules.specs.Fields.{fields, fieldsOf}
 use Rattle.rules.specs.Choice.{Packing, has, operationFor, limited, choose, afterCurrent}
-use Rattle.rules.specs.Pack.{chosen, Most, chosenFor, packOf, newNumbers, PackBuffers, PackResult, packDone, packLongEnough, packWithin}
-use Rattle.rules.specs.Pack.{pack}
+use Rattle.rules.specs.Pack.{chosen, Most, chosenFor, orderFor, packOf, PackBuffers, PackResult, packDone, contentsOf, packLongEnough}
+use Rattle.rules.specs.Pack.{orderLongEnough, packWithin, pack}
 use Rattle.rules.specs.Buffer.{Buffers}
 use Rattle.rules.specs.Machine.{Machine, empty, totals}
 use Rattle.rules.specs.Book.{recounted}
@@ -52,13 +52,14 @@ pub record NeverStuck (h : Most) (v : ℕ) (ts : List Triangle) (r : PackBuffers
       ↔ (NoFault h (runLoops ts) × (length (packOf v ts operations last) ≤ length (r .pack)))
   -- what it packs is what it would pack without limits
   pub packs-them : p .answer ≡ packed (length (packOf v ts operations last))
-      → p ≡ packDone (newNumbers v (last .numbered)) (packOf v ts operations last) r
+      → p ≡ packDone (contentsOf v ts (orderFor (unlimited ts) ts) operations last) r
   pub no-other : (p .answer ≡ packed (length (packOf v ts operations last)))
       ⊎ ((p .answer ≡ refusal 9) ⊎ ((p .answer ≡ refusal 10) ⊎ (p .answer ≡ refusal 11)))
 
--- on every list that passes 1 to 7 and all buffers that pass 8, for any limits; p is what the packing does
+-- on every list that passes 1 to 7 and all buffers that pass 8 and 22, for any limits; p is what the packing does
 abbrev pub PackingIsNeverStuck : Type 0
 PackingIsNeverStuck = (h : Most) (v : ℕ) (xs : List ℕ) (r : PackBuffers) → check v xs ≡ Accepted → packLongEnough v r ≡ true
+    → orderLongEnough (trianglesOf xs) r ≡ true
     → (operations : List Operation) × (last : Packing) × NeverStuck h v (trianglesOf xs) r (packWithin h v xs r) operations last
 
 -- B are the triangles that a packing has built: those of its list that are not left
@@ -93,10 +94,21 @@ OnePlaceIsRight = (h : Most) (v : ℕ) (xs : List ℕ) → check v xs ≡ Accept
     → across (startOr (vertex e) ps) (vertex e) (s .mesh) ≡ Found n k c → has c (s .numbered) ≡ true
     → RightChoice s (vertex e) (startOr (vertex e) ps) c
 
--- 2. Each triangle once. The triangles under a numbering of their vertices
+-- 2. Each triangle once. A triangle and triangles under a numbering of their vertices
+abbrev pub under : (ℕ → ℕ) → Triangle → Triangle
+under f t = tri (f (t .p)) (f (t .q)) (f (t .r))
+
 abbrev pub renumbered : (ℕ → ℕ) → List Triangle → List Triangle
 renumbered f [] = []
-renumbered f (t ∷ ts) = tri (f (t .p)) (f (t .q)) (f (t .r)) ∷ renumbered f ts
+renumbered f (t ∷ ts) = under f t ∷ renumbered f ts
+
+-- t is the triangle u, from one of its corners on; its orientation is the same
+abbrev pub Rotated : Triangle → Triangle → Type 0
+Rotated t u = Rot t (u .p) (u .q) (u .r)
+
+-- triangle n of a list, counted from 0; past its end 0 0 0, which is none
+abbrev pub nth : List Triangle → ℕ → Triangle
+nth ts n = getD ts n (tri 0 0 0)
 
 -- the same triangles, each once, in some order and each from any of its corners on
 pub record Rearranged (ts us : List Triangle) : Type 0 where
@@ -118,6 +130,10 @@ written n u = trianglesOf (take (3 * n) (u .buffers .triangles))
 abbrev pub newNumber : PackResult → ℕ → ℕ
 newNumber p x = getD (p .buffers .numbering) x 0
 
+-- the number in the list of the triangle that was built as the i-th, counted from 0
+abbrev pub inputNumber : PackResult → ℕ → ℕ
+inputNumber p i = getD (p .buffers .order) i 0
+
 -- the buffers of an unpacking are long enough for n triangles
 abbrev pub LongEnoughFor : ℕ → Buffers → Type 0
 LongEnoughFor n r = (3 * n ≤ length (r .triangles)) × (maxPlaces ≤ length {A = Place} (r .places))
@@ -131,24 +147,29 @@ pub record EachOnce (v : ℕ) (ts : List Triangle) (p : PackResult) (u : UnpackR
   pub rearranged : Rearranged ts (buildOrder ts)
   pub unpacked : written (length ts) u ≡ renumbered (newNumber p) (buildOrder ts)
   pub once : Once (written (length ts) u)
+  -- the order has each number below T once; triangle i unpacked is list triangle order[i] under the new numbers, from one of its corners on
+  pub order : OneToOne (length ts) (inputNumber p)
+  pub names : (i : ℕ) → i < length ts → Rotated (nth (written (length ts) u) i) (under (newNumber p) (nth ts (inputNumber p i)))
 
 abbrev pub EachTriangleOnce : Type 0
 EachTriangleOnce = (v : ℕ) (xs : List ℕ) (r : PackBuffers) (n : ℕ) → pack v xs r .answer ≡ packed n
     → (r′ : Buffers) → LongEnoughFor (length (trianglesOf xs)) r′
     → EachOnce v (trianglesOf xs) (pack v xs r) (unpack (take n (pack v xs r .buffers .pack)) r′)
 
--- 3. Every accepted pack is the pack of its list. A packing p gives these bytes, and each vertex below v its own number
-pub record Gives (bytes : List ℕ) (v : ℕ) (p : PackResult) : Type 0 where
+-- 3. Every accepted pack is the pack of its list. A packing p gives these bytes, each vertex below v its own number, and an order
+-- that is the list's own: 0, 1, 2 and so on below n
+pub record Gives (bytes : List ℕ) (v n : ℕ) (p : PackResult) : Type 0 where
   pub same-length : p .answer ≡ packed (length bytes)
   pub same-bytes : take (length bytes) (p .buffers .pack) ≡ bytes
   pub same-numbers : (x : ℕ) → x < v → newNumber p x ≡ x
+  pub same-order : (i : ℕ) → i < n → inputNumber p i ≡ i
 
 -- m is what the unpacking answers, xs the list that it writes
 pub record PackOf (bytes : List ℕ) (m : Model) (xs : List ℕ) : Type 0 where
   pub accepted : check (m .vertices) xs ≡ Accepted
   pub count : length (trianglesOf xs) ≡ m .triangles
-  pub packs : (r : PackBuffers) → packLongEnough (m .vertices) r ≡ true → length bytes ≤ length (r .pack)
-      → Gives bytes (m .vertices) (pack (m .vertices) xs r)
+  pub packs : (r : PackBuffers) → packLongEnough (m .vertices) r ≡ true → orderLongEnough (trianglesOf xs) r ≡ true
+      → length bytes ≤ length (r .pack) → Gives bytes (m .vertices) (m .triangles) (pack (m .vertices) xs r)
 
 abbrev pub listIn : Model → UnpackResult → List ℕ
 listIn m u = take (3 * m .triangles) (u .buffers .triangles)
@@ -168,22 +189,35 @@ abbrev pub SameInAllBuffers : Type 0
 SameInAllBuffers = (v : ℕ) (xs : List ℕ) (r r′ : PackBuffers) (n n′ : ℕ) → pack v xs r .answer ≡ packed n → pack v xs r′ .answer ≡ packed n′
     → (n ≡ n′) × (take n (pack v xs r .buffers .pack) ≡ take n′ (pack v xs r′ .buffers .pack))
     × (take v (pack v xs r .buffers .numbering) ≡ take v (pack v xs r′ .buffers .numbering))
+    × (take (length (trianglesOf xs)) (pack v xs r .buffers .order) ≡ take (length (trianglesOf xs)) (pack v xs r′ .buffers .order))
 
 -- in buffers of the same lengths the answer is the same
 abbrev pub SameAnswerInAllBuffers : Type 0
 SameAnswerInAllBuffers = (v : ℕ) (xs : List ℕ) (r r′ : PackBuffers) → length (r .numbering) ≡ length (r′ .numbering)
     → length {A = Place} (r .places) ≡ length {A = Place} (r′ .places) → length (r .pack) ≡ length (r′ .pack)
-    → pack v xs r .answer ≡ pack v xs r′ .answer
+    → length (r .order) ≡ length (r′ .order) → pack v xs r .answer ≡ pack v xs r′ .answer
 
 -- the same triangles, in any order and each from any of its corners on
 abbrev pub SameTriangles : List ℕ → List ℕ → Type 0
 SameTriangles xs ys = (x y z : ℕ) → In x y z (trianglesOf xs) ↔ In x y z (trianglesOf ys)
 
+-- two packings p of ts and q of us in the same buffers are the same, but that each list has its own numbers for the triangles built
+pub record SamePacking (ts us : List Triangle) (p q : PackResult) : Type 0 where
+  pub answer : p .answer ≡ q .answer
+  pub numbering : p .buffers .numbering ≡ q .buffers .numbering
+  pub places : p .buffers .places ≡ q .buffers .places
+  pub pack : p .buffers .pack ≡ q .buffers .pack
+  -- where they are accepted, the two orders name the same triangles, and beyond them nothing differs
+  pub order : (n : ℕ) → p .answer ≡ packed n → (i : ℕ) → i < length ts → Rotated (nth ts (inputNumber p i)) (nth us (inputNumber q i))
+  pub beyond : drop (length ts) (p .buffers .order) ≡ drop (length ts) (q .buffers .order)
+  -- where they are refused, nothing does
+  pub refused : (n : ℕ) → p .answer ≡ refusal n → p .buffers .order ≡ q .buffers .order
+
 -- Packing does not depend on the order of the triangles, or on the corner that each is listed from, but for those that a start begins with
 abbrev pub SameStartsSamePacking : Type 0
 SameStartsSamePacking = (v : ℕ) (xs ys : List ℕ) (r : PackBuffers) → check v xs ≡ Accepted → check v ys ≡ Accepted
     → SameTriangles xs ys → startsOf (trianglesOf xs) ≡ startsOf (trianglesOf ys)
-    → pack v xs r ≡ pack v ys r
+    → SamePacking (trianglesOf xs) (trianglesOf ys) (pack v xs r) (pack v ys r)
 
 -- and lists with the same triangles, whatever their starts, unpack to the same model: up to the numbers of its vertices
 abbrev pub SameTrianglesSameModel : Type 0

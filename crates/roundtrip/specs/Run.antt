@@ -1,6 +1,6 @@
 -- The run of the packer without limits, and the first of its operations that exceeds some limits.
 -- Assumes nothing.
-use Prim.Native.Nat.{ℕ, zero, suc, _+_, _*_, _≤_, _<_, max}
+use Prim.Native.Nat.{ℕ, zero, suc, _*_, _≤_, _<_, max}
 use mathlib.Core.List.{List, [], _∷_, _++_}
 use mathlib.Core.Path.{_≡_}
 use lib.ListN.{length}
@@ -8,12 +8,8 @@ use Rattle.rules.specs.declared.Triangle.{Triangle}
 use Rattle.rules.specs.declared.Operation.{Operation}
 use Rattle.rules.specs.Ring.{Ring, places}
 use Rattle.rules.specs.Choice.{Packing, ended, refuses, takes, choose}
-use Rattle.rules.specs.Pack.{Most, most, nothingBuilt}
+use Rattle.rules.specs.Pack.{Most, most, nothingBuilt, enough}
 use Rattle.choice_theory.specs.Building.{builtBy}
-
--- by so many operations a list of triangles is packed
-abbrev pub enough : List Triangle → ℕ
-enough ts = 4 * length ts + 1
 
 -- limits that the list's packing never exceeds (`run-ends`): an operation adds at most three places and one loop
 abbrev pub unlimited : List Triangle → Most

@@ -12,6 +12,7 @@ use Rattle.rules.specs.Answer.{refusal, accepted, triangle, packed}
 use Rattle.rules.specs.Book.{begin, operate}
 use Rattle.rules.specs.Calls.{answers}
 use Rattle.rules.specs.Pack.{PackBuffers, most, pack, chooseAll, indexOf, newNumbers, packChosen, packChecked}
+use Rattle.rules.specs.Order.{orderBy}
 use Rattle.rules.specs.Count.{same, hit, occurs, count}
 use Rattle.rules.specs.Fan.{about, leaving, entering, turnOn, turnBack, oneRun, oneFanEach}
 use Rattle.rules.specs.Across.{inTriangle, across}
@@ -28,9 +29,10 @@ use Rattle.rules.proofs.Rows.{place, counts, packLent, lengths, noBook}
 
 -- buffers longer than these models need, which hold anything
 abbrev pub lent : PackBuffers
-lent = packLent (replicate 8 7) (replicate 1025 (place 3 1 2 true)) (replicate 20 5)
+lent = packLent (replicate 8 7) (replicate 1025 (place 3 1 2 true)) (replicate 20 5) (replicate 6 9)
 
--- the list is packed to these bytes; each vertex keeps its number; the first 1,024 place records are zero; nothing else is changed
+-- the list is packed to these bytes; each vertex keeps its number, each triangle too; the first 1,024 place records are zero; nothing else
+-- is changed
 abbrev pub Packs : ℕ → List ℕ → List ℕ → Type 0
 Packs v xs bytes =
     pack v xs lent
@@ -38,7 +40,8 @@ Packs v xs bytes =
       answer = packed (length bytes);
       buffers =
           packLent (take v (0 ∷ 1 ∷ 2 ∷ 3 ∷ 4 ∷ 5 ∷ []) ++ replicate (8 - v) 7)
-          (replicate 1024 (place 0 0 0 false) ++ (place 3 1 2 true ∷ [])) (bytes ++ replicate (20 - length bytes) 5);
+          (replicate 1024 (place 0 0 0 false) ++ (place 3 1 2 true ∷ [])) (bytes ++ replicate (20 - length bytes) 5)
+          (take (length (trianglesOf xs)) (0 ∷ 1 ∷ 2 ∷ 3 ∷ []) ++ replicate (6 - length (trianglesOf xs)) 9);
     }
 
 -- the list is refused, and no buffer has changed
@@ -107,5 +110,5 @@ unfolding trianglesOf corners edgesOf same hit occurs count about leaving enteri
     allBelow allDistinct noneTwice allUsed passes checkTriangles check allOpen vertexAt lastOpen lastVertex front onward reached
     places loopAt without allowed inOrder atEdge atRest effect test done beginning answers bits valueOf bytesWithin operationBits
     operationsBits packBytes has dropTriangle turnIn turnOut edgeIn spotOf choosePlace limited taking chooseAt chooseIn cleared
-    chooseAll indexOf newNumbers packChosen packChecked
+    chooseAll indexOf newNumbers packChosen packChecked orderBy
 bench = (refl, refl, refl, refl, refl, refl, refl, refl, (λ v. refl), refl, refl)

@@ -31,6 +31,7 @@ use Rattle.rules.specs.Bits.{bits, valueOf, bitsOfBytes, bytesWithin, re
 use Rattle.rules.specs.Code.{operationBits, operationsBits, kindIn, readOperation}
 use Rattle.rules.specs.Fields.{packBytes, takeField, fieldsOf}
 use Rattle.rules.specs.Choice.{has, dropTriangle, turnIn, turnOut, edgeIn, spotOf, choosePlace, limited, taking, chooseAt, chooseIn}
+use Rattle.rules.specs.Order.{orderBy}
 use Rattle.rules.specs.Pack.{chooseAll, indexOf, newNumbers, packChosen, packChecked}
 use Rattle.rules.specs.Unpack.{runAll, numbersOf, unpackRun, unpackFields}
 use Rattle.rules.specs.View.{follow, followed, nodes, placesOf, openAmong, loopsOf, placeNodes, placeRings, trianglesBuilt, view}
@@ -43,10 +44,10 @@ packRows =
       limits = most;
       vertices = 3;
       list = (0 ∷ 1 ∷ 2 ∷ []);
-      lent = packLent (7 ∷ 7 ∷ 7 ∷ 7 ∷ 7 ∷ []) (replicate 1026 (place 3 1 2 true)) (replicate 60 5);
+      lent = packLent (7 ∷ 7 ∷ 7 ∷ 7 ∷ 7 ∷ []) (replicate 1026 (place 3 1 2 true)) (replicate 60 5) (9 ∷ 9 ∷ 9 ∷ []);
       answer = packed 16;
       left = packLent (0 ∷ 1 ∷ 2 ∷ 7 ∷ 7 ∷ []) (replicate 1024 (place 0 0 0 false) ++ (place 3 1 2 true ∷ place 3 1 2 true ∷ []))
-          ((1 ∷ 0 ∷ 8 ∷ 0 ∷ 3 ∷ 0 ∷ 1 ∷ 0 ∷ 3 ∷ 0 ∷ 1 ∷ 2 ∷ 0 ∷ 2 ∷ 237 ∷ 176 ∷ []) ++ replicate 44 5);
+          ((1 ∷ 0 ∷ 8 ∷ 0 ∷ 3 ∷ 0 ∷ 1 ∷ 0 ∷ 3 ∷ 0 ∷ 1 ∷ 2 ∷ 0 ∷ 2 ∷ 237 ∷ 176 ∷ []) ++ replicate 44 5) (0 ∷ 9 ∷ 9 ∷ []);
     }
     ∷
     -- M2: accepted
@@ -54,10 +55,10 @@ packRows =
       limits = most;
       vertices = 4;
       list = (0 ∷ 1 ∷ 2 ∷ 1 ∷ 0 ∷ 3 ∷ 2 ∷ 1 ∷ 3 ∷ 0 ∷ 2 ∷ 3 ∷ []);
-      lent = packLent (7 ∷ 7 ∷ 7 ∷ 7 ∷ 7 ∷ 7 ∷ []) (replicate 1026 (place 3 1 2 true)) (replicate 60 5);
+      lent = packLent (7 ∷ 7 ∷ 7 ∷ 7 ∷ 7 ∷ 7 ∷ []) (replicate 1026 (place 3 1 2 true)) (replicate 60 5) (9 ∷ 9 ∷ 9 ∷ 9 ∷ 9 ∷ 9 ∷ []);
       answer = packed 16;
       left = packLent (0 ∷ 1 ∷ 2 ∷ 3 ∷ 7 ∷ 7 ∷ []) (replicate 1024 (place 0 0 0 false) ++ (place 3 1 2 true ∷ place 3 1 2 true ∷ []))
-          ((1 ∷ 0 ∷ 8 ∷ 0 ∷ 4 ∷ 0 ∷ 4 ∷ 0 ∷ 4 ∷ 0 ∷ 1 ∷ 2 ∷ 0 ∷ 2 ∷ 224 ∷ 208 ∷ []) ++ replicate 44 5);
+          ((1 ∷ 0 ∷ 8 ∷ 0 ∷ 4 ∷ 0 ∷ 4 ∷ 0 ∷ 4 ∷ 0 ∷ 1 ∷ 2 ∷ 0 ∷ 2 ∷ 224 ∷ 208 ∷ []) ++ replicate 44 5) (0 ∷ 1 ∷ 2 ∷ 3 ∷ 9 ∷ 9 ∷ []);
     }
     ∷
     -- M3: accepted
@@ -65,10 +66,10 @@ packRows =
       limits = most;
       vertices = 4;
       list = (0 ∷ 1 ∷ 2 ∷ 1 ∷ 0 ∷ 3 ∷ []);
-      lent = packLent (7 ∷ 7 ∷ 7 ∷ 7 ∷ 7 ∷ 7 ∷ []) (replicate 1026 (place 3 1 2 true)) (replicate 60 5);
+      lent = packLent (7 ∷ 7 ∷ 7 ∷ 7 ∷ 7 ∷ 7 ∷ []) (replicate 1026 (place 3 1 2 true)) (replicate 60 5) (9 ∷ 9 ∷ 9 ∷ 9 ∷ []);
       answer = packed 17;
       left = packLent (0 ∷ 1 ∷ 2 ∷ 3 ∷ 7 ∷ 7 ∷ []) (replicate 1024 (place 0 0 0 false) ++ (place 3 1 2 true ∷ place 3 1 2 true ∷ []))
-          ((1 ∷ 0 ∷ 8 ∷ 0 ∷ 4 ∷ 0 ∷ 2 ∷ 0 ∷ 4 ∷ 0 ∷ 1 ∷ 2 ∷ 0 ∷ 3 ∷ 225 ∷ 182 ∷ 192 ∷ []) ++ replicate 43 5);
+          ((1 ∷ 0 ∷ 8 ∷ 0 ∷ 4 ∷ 0 ∷ 2 ∷ 0 ∷ 4 ∷ 0 ∷ 1 ∷ 2 ∷ 0 ∷ 3 ∷ 225 ∷ 182 ∷ 192 ∷ []) ++ replicate 43 5) (0 ∷ 1 ∷ 9 ∷ 9 ∷ []);
     }
     ∷
     -- M4: accepted
@@ -76,10 +77,10 @@ packRows =
       limits = most;
       vertices = 3;
       list = (0 ∷ 1 ∷ 2 ∷ 1 ∷ 0 ∷ 2 ∷ []);
-      lent = packLent (7 ∷ 7 ∷ 7 ∷ 7 ∷ 7 ∷ []) (replicate 1026 (place 3 1 2 true)) (replicate 60 5);
+      lent = packLent (7 ∷ 7 ∷ 7 ∷ 7 ∷ 7 ∷ []) (replicate 1026 (place 3 1 2 true)) (replicate 60 5) (9 ∷ 9 ∷ 9 ∷ 9 ∷ []);
       answer = packed 15;
       left = packLent (0 ∷ 1 ∷ 2 ∷ 7 ∷ 7 ∷ []) (replicate 1024 (place 0 0 0 false) ++ (place 3 1 2 true ∷ place 3 1 2 true ∷ []))
-          ((1 ∷ 0 ∷ 8 ∷ 0 ∷ 3 ∷ 0 ∷ 2 ∷ 0 ∷ 3 ∷ 0 ∷ 1 ∷ 2 ∷ 0 ∷ 1 ∷ 244 ∷ []) ++ replicate 45 5);
+          ((1 ∷ 0 ∷ 8 ∷ 0 ∷ 3 ∷ 0 ∷ 2 ∷ 0 ∷ 3 ∷ 0 ∷ 1 ∷ 2 ∷ 0 ∷ 1 ∷ 244 ∷ []) ++ replicate 45 5) (0 ∷ 1 ∷ 9 ∷ 9 ∷ []);
     }
     ∷
     -- M5: accepted
@@ -87,11 +88,11 @@ packRows =
       limits = most;
       vertices = 6;
       list = (0 ∷ 1 ∷ 2 ∷ 3 ∷ 4 ∷ 5 ∷ []);
-      lent = packLent (replicate 8 7) (replicate 1026 (place 3 1 2 true)) (replicate 60 5);
+      lent = packLent (replicate 8 7) (replicate 1026 (place 3 1 2 true)) (replicate 60 5) (9 ∷ 9 ∷ 9 ∷ 9 ∷ []);
       answer = packed 17;
       left = packLent (0 ∷ 1 ∷ 2 ∷ 3 ∷ 4 ∷ 5 ∷ 7 ∷ 7 ∷ [])
           (replicate 1024 (place 0 0 0 false) ++ (place 3 1 2 true ∷ place 3 1 2 true ∷ []))
-          ((1 ∷ 0 ∷ 8 ∷ 0 ∷ 6 ∷ 0 ∷ 2 ∷ 0 ∷ 3 ∷ 0 ∷ 1 ∷ 2 ∷ 0 ∷ 3 ∷ 237 ∷ 190 ∷ 219 ∷ []) ++ replicate 43 5);
+          ((1 ∷ 0 ∷ 8 ∷ 0 ∷ 6 ∷ 0 ∷ 2 ∷ 0 ∷ 3 ∷ 0 ∷ 1 ∷ 2 ∷ 0 ∷ 3 ∷ 237 ∷ 190 ∷ 219 ∷ []) ++ replicate 43 5) (0 ∷ 1 ∷ 9 ∷ 9 ∷ []);
     }
     ∷
     -- M6: refusal 6
@@ -99,9 +100,9 @@ packRows =
       limits = most;
       vertices = 4;
       list = (0 ∷ 1 ∷ 2 ∷ []);
-      lent = packLent (7 ∷ 7 ∷ 7 ∷ 7 ∷ 7 ∷ 7 ∷ []) (replicate 1026 (place 3 1 2 true)) (replicate 60 5);
+      lent = packLent (7 ∷ 7 ∷ 7 ∷ 7 ∷ 7 ∷ 7 ∷ []) (replicate 1026 (place 3 1 2 true)) (replicate 60 5) (9 ∷ 9 ∷ 9 ∷ []);
       answer = refusal 6;
-      left = packLent (7 ∷ 7 ∷ 7 ∷ 7 ∷ 7 ∷ 7 ∷ []) (replicate 1026 (place 3 1 2 true)) (replicate 60 5);
+      left = packLent (7 ∷ 7 ∷ 7 ∷ 7 ∷ 7 ∷ 7 ∷ []) (replicate 1026 (place 3 1 2 true)) (replicate 60 5) (9 ∷ 9 ∷ 9 ∷ []);
     }
     ∷
     -- M7: refusal 5
@@ -109,9 +110,9 @@ packRows =
       limits = most;
       vertices = 4;
       list = (0 ∷ 1 ∷ 2 ∷ 0 ∷ 1 ∷ 3 ∷ []);
-      lent = packLent (7 ∷ 7 ∷ 7 ∷ 7 ∷ 7 ∷ 7 ∷ []) (replicate 1026 (place 3 1 2 true)) (replicate 60 5);
+      lent = packLent (7 ∷ 7 ∷ 7 ∷ 7 ∷ 7 ∷ 7 ∷ []) (replicate 1026 (place 3 1 2 true)) (replicate 60 5) (9 ∷ 9 ∷ 9 ∷ 9 ∷ []);
       answer = refusal 5;
-      left = packLent (7 ∷ 7 ∷ 7 ∷ 7 ∷ 7 ∷ 7 ∷ []) (replicate 1026 (place 3 1 2 true)) (replicate 60 5);
+      left = packLent (7 ∷ 7 ∷ 7 ∷ 7 ∷ 7 ∷ 7 ∷ []) (replicate 1026 (place 3 1 2 true)) (replicate 60 5) (9 ∷ 9 ∷ 9 ∷ 9 ∷ []);
     }
     ∷
     -- M8: refusal 7
@@ -119,9 +120,9 @@ packRows =
       limits = most;
       vertices = 5;
       list = (0 ∷ 1 ∷ 2 ∷ 0 ∷ 3 ∷ 4 ∷ []);
-      lent = packLent (7 ∷ 7 ∷ 7 ∷ 7 ∷ 7 ∷ 7 ∷ 7 ∷ []) (replicate 1026 (place 3 1 2 true)) (replicate 60 5);
+      lent = packLent (7 ∷ 7 ∷ 7 ∷ 7 ∷ 7 ∷ 7 ∷ 7 ∷ []) (replicate 1026 (place 3 1 2 true)) (replicate 60 5) (9 ∷ 9 ∷ 9 ∷ 9 ∷ []);
       answer = refusal 7;
-      left = packLent (7 ∷ 7 ∷ 7 ∷ 7 ∷ 7 ∷ 7 ∷ 7 ∷ []) (replicate 1026 (place 3 1 2 true)) (replicate 60 5);
+      left = packLent (7 ∷ 7 ∷ 7 ∷ 7 ∷ 7 ∷ 7 ∷ 7 ∷ []) (replicate 1026 (place 3 1 2 true)) (replicate 60 5) (9 ∷ 9 ∷ 9 ∷ 9 ∷ []);
     }
     ∷
     -- M9, any V: refusal 1
@@ -129,9 +130,9 @@ packRows =
       limits = most;
       vertices = 3;
       list = [];
-      lent = packLent (7 ∷ 7 ∷ 7 ∷ 7 ∷ 7 ∷ []) (replicate 1026 (place 3 1 2 true)) (replicate 60 5);
+      lent = packLent (7 ∷ 7 ∷ 7 ∷ 7 ∷ 7 ∷ []) (replicate 1026 (place 3 1 2 true)) (replicate 60 5) (9 ∷ 9 ∷ []);
       answer = refusal 1;
-      left = packLent (7 ∷ 7 ∷ 7 ∷ 7 ∷ 7 ∷ []) (replicate 1026 (place 3 1 2 true)) (replicate 60 5);
+      left = packLent (7 ∷ 7 ∷ 7 ∷ 7 ∷ 7 ∷ []) (replicate 1026 (place 3 1 2 true)) (replicate 60 5) (9 ∷ 9 ∷ []);
     }
     ∷
     -- forward at three places; c is reached from the edge that enters its place only: accepted
@@ -139,10 +140,10 @@ packRows =
       limits = most;
       vertices = 4;
       list = (0 ∷ 1 ∷ 2 ∷ 2 ∷ 3 ∷ 0 ∷ 0 ∷ 3 ∷ 1 ∷ []);
-      lent = packLent (7 ∷ 7 ∷ 7 ∷ 7 ∷ 7 ∷ 7 ∷ []) (replicate 1026 (place 3 1 2 true)) (replicate 60 5);
+      lent = packLent (7 ∷ 7 ∷ 7 ∷ 7 ∷ 7 ∷ 7 ∷ []) (replicate 1026 (place 3 1 2 true)) (replicate 60 5) (9 ∷ 9 ∷ 9 ∷ 9 ∷ 9 ∷ []);
       answer = packed 17;
       left = packLent (0 ∷ 1 ∷ 2 ∷ 3 ∷ 7 ∷ 7 ∷ []) (replicate 1024 (place 0 0 0 false) ++ (place 3 1 2 true ∷ place 3 1 2 true ∷ []))
-          ((1 ∷ 0 ∷ 8 ∷ 0 ∷ 4 ∷ 0 ∷ 3 ∷ 0 ∷ 4 ∷ 0 ∷ 1 ∷ 2 ∷ 0 ∷ 3 ∷ 225 ∷ 178 ∷ 192 ∷ []) ++ replicate 43 5);
+          ((1 ∷ 0 ∷ 8 ∷ 0 ∷ 4 ∷ 0 ∷ 3 ∷ 0 ∷ 4 ∷ 0 ∷ 1 ∷ 2 ∷ 0 ∷ 3 ∷ 225 ∷ 178 ∷ 192 ∷ []) ++ replicate 43 5) (0 ∷ 2 ∷ 1 ∷ 9 ∷ 9 ∷ []);
     }
     ∷
     -- backward at three places; c is reached from the edge that leaves its place only: accepted
@@ -150,10 +151,12 @@ packRows =
       limits = most;
       vertices = 5;
       list = (0 ∷ 2 ∷ 1 ∷ 1 ∷ 3 ∷ 0 ∷ 3 ∷ 1 ∷ 4 ∷ 0 ∷ 4 ∷ 2 ∷ 0 ∷ 3 ∷ 4 ∷ []);
-      lent = packLent (7 ∷ 7 ∷ 7 ∷ 7 ∷ 7 ∷ 7 ∷ 7 ∷ []) (replicate 1026 (place 3 1 2 true)) (replicate 60 5);
+      lent = packLent (7 ∷ 7 ∷ 7 ∷ 7 ∷ 7 ∷ 7 ∷ 7 ∷ []) (replicate 1026 (place 3 1 2 true)) (replicate 60 5)
+          (9 ∷ 9 ∷ 9 ∷ 9 ∷ 9 ∷ 9 ∷ 9 ∷ []);
       answer = packed 17;
       left = packLent (0 ∷ 2 ∷ 1 ∷ 4 ∷ 3 ∷ 7 ∷ 7 ∷ []) (replicate 1024 (place 0 0 0 false) ++ (place 3 1 2 true ∷ place 3 1 2 true ∷ []))
-          ((1 ∷ 0 ∷ 8 ∷ 0 ∷ 5 ∷ 0 ∷ 5 ∷ 0 ∷ 4 ∷ 0 ∷ 1 ∷ 2 ∷ 0 ∷ 3 ∷ 225 ∷ 176 ∷ 83 ∷ []) ++ replicate 43 5);
+          ((1 ∷ 0 ∷ 8 ∷ 0 ∷ 5 ∷ 0 ∷ 5 ∷ 0 ∷ 4 ∷ 0 ∷ 1 ∷ 2 ∷ 0 ∷ 3 ∷ 225 ∷ 176 ∷ 83 ∷ []) ++ replicate 43 5)
+          (0 ∷ 3 ∷ 1 ∷ 4 ∷ 2 ∷ 9 ∷ 9 ∷ []);
     }
     ∷
     -- split k - 2 across a link; the second part has fewer places, in full loops as many: accepted
@@ -161,10 +164,12 @@ packRows =
       limits = most;
       vertices = 5;
       list = (0 ∷ 1 ∷ 2 ∷ 1 ∷ 0 ∷ 3 ∷ 0 ∷ 2 ∷ 4 ∷ 3 ∷ 4 ∷ 1 ∷ 0 ∷ 4 ∷ 3 ∷ []);
-      lent = packLent (7 ∷ 7 ∷ 7 ∷ 7 ∷ 7 ∷ 7 ∷ 7 ∷ []) (replicate 1026 (place 3 1 2 true)) (replicate 60 5);
+      lent = packLent (7 ∷ 7 ∷ 7 ∷ 7 ∷ 7 ∷ 7 ∷ 7 ∷ []) (replicate 1026 (place 3 1 2 true)) (replicate 60 5)
+          (9 ∷ 9 ∷ 9 ∷ 9 ∷ 9 ∷ 9 ∷ 9 ∷ []);
       answer = packed 19;
       left = packLent (0 ∷ 1 ∷ 2 ∷ 3 ∷ 4 ∷ 7 ∷ 7 ∷ []) (replicate 1024 (place 0 0 0 false) ++ (place 3 1 2 true ∷ place 3 1 2 true ∷ []))
-          ((1 ∷ 0 ∷ 8 ∷ 0 ∷ 5 ∷ 0 ∷ 5 ∷ 0 ∷ 5 ∷ 0 ∷ 2 ∷ 2 ∷ 0 ∷ 5 ∷ 224 ∷ 55 ∷ 0 ∷ 39 ∷ 64 ∷ []) ++ replicate 41 5);
+          ((1 ∷ 0 ∷ 8 ∷ 0 ∷ 5 ∷ 0 ∷ 5 ∷ 0 ∷ 5 ∷ 0 ∷ 2 ∷ 2 ∷ 0 ∷ 5 ∷ 224 ∷ 55 ∷ 0 ∷ 39 ∷ 64 ∷ []) ++ replicate 41 5)
+          (0 ∷ 1 ∷ 3 ∷ 2 ∷ 4 ∷ 9 ∷ 9 ∷ []);
     }
     ∷
     -- split, the first part is smaller: accepted
@@ -172,11 +177,12 @@ packRows =
       limits = most;
       vertices = 6;
       list = (1 ∷ 3 ∷ 2 ∷ 2 ∷ 4 ∷ 5 ∷ 2 ∷ 3 ∷ 4 ∷ 1 ∷ 0 ∷ 3 ∷ 2 ∷ 5 ∷ 0 ∷ 0 ∷ 1 ∷ 2 ∷ []);
-      lent = packLent (replicate 8 7) (replicate 1026 (place 3 1 2 true)) (replicate 60 5);
+      lent = packLent (replicate 8 7) (replicate 1026 (place 3 1 2 true)) (replicate 60 5) (replicate 8 9);
       answer = packed 19;
       left = packLent (3 ∷ 0 ∷ 2 ∷ 1 ∷ 4 ∷ 5 ∷ 7 ∷ 7 ∷ [])
           (replicate 1024 (place 0 0 0 false) ++ (place 3 1 2 true ∷ place 3 1 2 true ∷ []))
-          ((1 ∷ 0 ∷ 8 ∷ 0 ∷ 6 ∷ 0 ∷ 6 ∷ 0 ∷ 7 ∷ 0 ∷ 2 ∷ 2 ∷ 0 ∷ 5 ∷ 225 ∷ 129 ∷ 0 ∷ 42 ∷ 219 ∷ []) ++ replicate 41 5);
+          ((1 ∷ 0 ∷ 8 ∷ 0 ∷ 6 ∷ 0 ∷ 6 ∷ 0 ∷ 7 ∷ 0 ∷ 2 ∷ 2 ∷ 0 ∷ 5 ∷ 225 ∷ 129 ∷ 0 ∷ 42 ∷ 219 ∷ []) ++ replicate 41 5)
+          (0 ∷ 3 ∷ 2 ∷ 1 ∷ 4 ∷ 5 ∷ 9 ∷ 9 ∷ []);
     }
     ∷
     -- split k - 2, the second part is smaller: accepted
@@ -184,11 +190,12 @@ packRows =
       limits = most;
       vertices = 6;
       list = (0 ∷ 2 ∷ 1 ∷ 0 ∷ 3 ∷ 2 ∷ 1 ∷ 5 ∷ 4 ∷ 1 ∷ 2 ∷ 5 ∷ 4 ∷ 3 ∷ 0 ∷ 4 ∷ 5 ∷ 3 ∷ []);
-      lent = packLent (replicate 8 7) (replicate 1026 (place 3 1 2 true)) (replicate 60 5);
+      lent = packLent (replicate 8 7) (replicate 1026 (place 3 1 2 true)) (replicate 60 5) (replicate 8 9);
       answer = packed 20;
       left = packLent (0 ∷ 2 ∷ 1 ∷ 3 ∷ 5 ∷ 4 ∷ 7 ∷ 7 ∷ [])
           (replicate 1024 (place 0 0 0 false) ++ (place 3 1 2 true ∷ place 3 1 2 true ∷ []))
-          ((1 ∷ 0 ∷ 8 ∷ 0 ∷ 6 ∷ 0 ∷ 6 ∷ 0 ∷ 6 ∷ 0 ∷ 2 ∷ 2 ∷ 0 ∷ 6 ∷ 225 ∷ 128 ∷ 220 ∷ 0 ∷ 218 ∷ 108 ∷ []) ++ replicate 40 5);
+          ((1 ∷ 0 ∷ 8 ∷ 0 ∷ 6 ∷ 0 ∷ 6 ∷ 0 ∷ 6 ∷ 0 ∷ 2 ∷ 2 ∷ 0 ∷ 6 ∷ 225 ∷ 128 ∷ 220 ∷ 0 ∷ 218 ∷ 108 ∷ []) ++ replicate 40 5)
+          (0 ∷ 1 ∷ 3 ∷ 2 ∷ 4 ∷ 5 ∷ 9 ∷ 9 ∷ []);
     }
     ∷
     -- smallest union found: accepted
@@ -196,11 +203,12 @@ packRows =
       limits = most;
       vertices = 6;
       list = (5 ∷ 2 ∷ 1 ∷ 5 ∷ 4 ∷ 2 ∷ 4 ∷ 1 ∷ 3 ∷ 5 ∷ 3 ∷ 0 ∷ 4 ∷ 5 ∷ 0 ∷ 2 ∷ 4 ∷ 3 ∷ 0 ∷ 3 ∷ 1 ∷ 0 ∷ 1 ∷ 2 ∷ []);
-      lent = packLent (replicate 8 7) (replicate 1026 (place 3 1 2 true)) (replicate 60 5);
+      lent = packLent (replicate 8 7) (replicate 1026 (place 3 1 2 true)) (replicate 60 5) (replicate 10 9);
       answer = packed 23;
       left = packLent (5 ∷ 2 ∷ 1 ∷ 4 ∷ 3 ∷ 0 ∷ 7 ∷ 7 ∷ [])
           (replicate 1024 (place 0 0 0 false) ++ (place 3 1 2 true ∷ place 3 1 2 true ∷ []))
-          ((1 ∷ 0 ∷ 8 ∷ 0 ∷ 6 ∷ 0 ∷ 8 ∷ 0 ∷ 8 ∷ 0 ∷ 2 ∷ 2 ∷ 0 ∷ 9 ∷ 224 ∷ 49 ∷ 0 ∷ 60 ∷ 4 ∷ 2 ∷ 108 ∷ 178 ∷ 216 ∷ []) ++ replicate 37 5);
+          ((1 ∷ 0 ∷ 8 ∷ 0 ∷ 6 ∷ 0 ∷ 8 ∷ 0 ∷ 8 ∷ 0 ∷ 2 ∷ 2 ∷ 0 ∷ 9 ∷ 224 ∷ 49 ∷ 0 ∷ 60 ∷ 4 ∷ 2 ∷ 108 ∷ 178 ∷ 216 ∷ []) ++ replicate 37 5)
+          (0 ∷ 1 ∷ 5 ∷ 7 ∷ 6 ∷ 3 ∷ 4 ∷ 2 ∷ 9 ∷ 9 ∷ []);
     }
     ∷
     -- union with j = 0, and two pieces more: accepted
@@ -210,12 +218,13 @@ packRows =
       list =
           (0 ∷ 1 ∷ 2 ∷ 2 ∷ 3 ∷ 0 ∷ 4 ∷ 5 ∷ 6 ∷ 7 ∷ 8 ∷ 9 ∷ 0 ∷ 6 ∷ 5 ∷ 0 ∷ 3 ∷ 6 ∷ 1 ∷ 10 ∷ 2 ∷ 10 ∷ 6 ∷ 3 ∷ 5 ∷ 2 ∷ 10 ∷ 6 ∷ 10 ∷ 1 ∷ 2 ∷ 5
           ∷ 4 ∷ 3 ∷ 5 ∷ 10 ∷ []);
-      lent = packLent (replicate 13 7) (replicate 1026 (place 3 1 2 true)) (replicate 60 5);
+      lent = packLent (replicate 13 7) (replicate 1026 (place 3 1 2 true)) (replicate 60 5) (replicate 14 9);
       answer = packed 26;
       left = packLent (0 ∷ 1 ∷ 2 ∷ 6 ∷ 5 ∷ 4 ∷ 7 ∷ 8 ∷ 9 ∷ 10 ∷ 3 ∷ 7 ∷ 7 ∷ [])
           (replicate 1024 (place 0 0 0 false) ++ (place 3 1 2 true ∷ place 3 1 2 true ∷ []))
           ((1 ∷ 0 ∷ 8 ∷ 0 ∷ 11 ∷ 0 ∷ 12 ∷ 0 ∷ 9 ∷ 0 ∷ 2 ∷ 2 ∷ 0 ∷ 12 ∷ 236 ∷ 0 ∷ 192 ∷ 128 ∷ 27 ∷ 192 ∷ 64 ∷ 4 ∷ 91 ∷ 45 ∷ 246 ∷ 216 ∷ [])
-          ++ replicate 34 5);
+          ++ replicate 34 5)
+          (0 ∷ 6 ∷ 8 ∷ 10 ∷ 1 ∷ 5 ∷ 4 ∷ 9 ∷ 7 ∷ 11 ∷ 2 ∷ 3 ∷ 9 ∷ 9 ∷ []);
     }
     ∷
     -- the peak of places is reached by the union alone: accepted
@@ -225,12 +234,13 @@ packRows =
       list =
           (2 ∷ 6 ∷ 7 ∷ 0 ∷ 4 ∷ 6 ∷ 7 ∷ 6 ∷ 3 ∷ 4 ∷ 1 ∷ 6 ∷ 3 ∷ 0 ∷ 7 ∷ 0 ∷ 5 ∷ 1 ∷ 6 ∷ 1 ∷ 3 ∷ 2 ∷ 5 ∷ 6 ∷ 6 ∷ 5 ∷ 0 ∷ 0 ∷ 1 ∷ 7 ∷ 1 ∷ 4 ∷ 7
           ∷ []);
-      lent = packLent (replicate 10 7) (replicate 1026 (place 3 1 2 true)) (replicate 60 5);
+      lent = packLent (replicate 10 7) (replicate 1026 (place 3 1 2 true)) (replicate 60 5) (replicate 13 9);
       answer = packed 25;
       left = packLent (4 ∷ 6 ∷ 0 ∷ 7 ∷ 5 ∷ 3 ∷ 1 ∷ 2 ∷ 7 ∷ 7 ∷ [])
           (replicate 1024 (place 0 0 0 false) ++ (place 3 1 2 true ∷ place 3 1 2 true ∷ []))
           ((1 ∷ 0 ∷ 8 ∷ 0 ∷ 8 ∷ 0 ∷ 11 ∷ 0 ∷ 9 ∷ 0 ∷ 2 ∷ 2 ∷ 0 ∷ 11 ∷ 224 ∷ 0 ∷ 12 ∷ 0 ∷ 240 ∷ 16 ∷ 13 ∷ 54 ∷ 203 ∷ 109 ∷ 128 ∷ [])
-          ++ replicate 35 5);
+          ++ replicate 35 5)
+          (0 ∷ 7 ∷ 8 ∷ 1 ∷ 3 ∷ 6 ∷ 2 ∷ 4 ∷ 9 ∷ 10 ∷ 5 ∷ 9 ∷ 9 ∷ []);
     }
     ∷
     -- union next to a marked edge: accepted
@@ -240,12 +250,13 @@ packRows =
       list =
           (0 ∷ 1 ∷ 2 ∷ 3 ∷ 1 ∷ 0 ∷ 4 ∷ 0 ∷ 2 ∷ 4 ∷ 1 ∷ 5 ∷ 6 ∷ 5 ∷ 2 ∷ 2 ∷ 7 ∷ 6 ∷ 3 ∷ 0 ∷ 6 ∷ 0 ∷ 4 ∷ 6 ∷ 4 ∷ 5 ∷ 6 ∷ 7 ∷ 2 ∷ 1 ∷ 3 ∷ 5 ∷ 1
           ∷ []);
-      lent = packLent (replicate 10 7) (replicate 1026 (place 3 1 2 true)) (replicate 60 5);
+      lent = packLent (replicate 10 7) (replicate 1026 (place 3 1 2 true)) (replicate 60 5) (replicate 13 9);
       answer = packed 26;
       left = packLent (0 ∷ 1 ∷ 2 ∷ 3 ∷ 5 ∷ 4 ∷ 7 ∷ 6 ∷ 7 ∷ 7 ∷ [])
           (replicate 1024 (place 0 0 0 false) ++ (place 3 1 2 true ∷ place 3 1 2 true ∷ []))
           ((1 ∷ 0 ∷ 8 ∷ 0 ∷ 8 ∷ 0 ∷ 11 ∷ 0 ∷ 11 ∷ 0 ∷ 2 ∷ 2 ∷ 0 ∷ 12 ∷ 224 ∷ 6 ∷ 4 ∷ 0 ∷ 222 ∷ 2 ∷ 1 ∷ 64 ∷ 30 ∷ 150 ∷ 219 ∷ 96 ∷ [])
-          ++ replicate 34 5);
+          ++ replicate 34 5)
+          (0 ∷ 1 ∷ 10 ∷ 3 ∷ 9 ∷ 5 ∷ 4 ∷ 2 ∷ 7 ∷ 8 ∷ 6 ∷ 9 ∷ 9 ∷ []);
     }
     ∷
     -- union 2 of two waiting loops; 1 counted from the oldest: accepted
@@ -255,12 +266,13 @@ packRows =
       list =
           (0 ∷ 1 ∷ 2 ∷ 1 ∷ 0 ∷ 3 ∷ 1 ∷ 3 ∷ 4 ∷ 1 ∷ 4 ∷ 5 ∷ 1 ∷ 5 ∷ 6 ∷ 1 ∷ 6 ∷ 7 ∷ 1 ∷ 7 ∷ 2 ∷ 2 ∷ 7 ∷ 4 ∷ 2 ∷ 4 ∷ 8 ∷ 2 ∷ 8 ∷ 3 ∷ 2 ∷ 3 ∷ 9
           ∷ 2 ∷ 9 ∷ 6 ∷ 2 ∷ 6 ∷ 10 ∷ 3 ∷ 8 ∷ 4 ∷ 6 ∷ 5 ∷ 10 ∷ []);
-      lent = packLent (replicate 13 7) (replicate 1026 (place 3 1 2 true)) (replicate 60 5);
+      lent = packLent (replicate 13 7) (replicate 1026 (place 3 1 2 true)) (replicate 60 5) (replicate 17 9);
       answer = packed 28;
       left = packLent (0 ∷ 1 ∷ 2 ∷ 3 ∷ 4 ∷ 5 ∷ 6 ∷ 7 ∷ 8 ∷ 9 ∷ 10 ∷ 7 ∷ 7 ∷ [])
           (replicate 1024 (place 0 0 0 false) ++ (place 3 1 2 true ∷ place 3 1 2 true ∷ []))
           ((1 ∷ 0 ∷ 8 ∷ 0 ∷ 11 ∷ 0 ∷ 15 ∷ 0 ∷ 13 ∷ 0 ∷ 3 ∷ 2 ∷ 0 ∷ 14 ∷ 224 ∷ 0 ∷ 12 ∷ 0 ∷ 196 ∷ 0 ∷ 134 ∷ 4 ∷ 1 ∷ 134 ∷ 219 ∷ 109 ∷ 178
-          ∷ 232 ∷ []) ++ replicate 32 5);
+          ∷ 232 ∷ []) ++ replicate 32 5)
+          (0 ∷ 1 ∷ 2 ∷ 3 ∷ 4 ∷ 5 ∷ 6 ∷ 7 ∷ 8 ∷ 9 ∷ 10 ∷ 11 ∷ 12 ∷ 14 ∷ 13 ∷ 9 ∷ 9 ∷ []);
     }
     ∷
     -- split to c that has a place in a waiting loop too: accepted
@@ -270,12 +282,13 @@ packRows =
       list =
           (0 ∷ 1 ∷ 2 ∷ 3 ∷ 1 ∷ 4 ∷ 3 ∷ 0 ∷ 5 ∷ 6 ∷ 7 ∷ 0 ∷ 0 ∷ 8 ∷ 5 ∷ 0 ∷ 2 ∷ 8 ∷ 5 ∷ 8 ∷ 2 ∷ 6 ∷ 9 ∷ 3 ∷ 0 ∷ 7 ∷ 1 ∷ 1 ∷ 7 ∷ 4 ∷ 9 ∷ 0 ∷ 3
           ∷ 9 ∷ 6 ∷ 0 ∷ 3 ∷ 4 ∷ 7 ∷ 3 ∷ 7 ∷ 6 ∷ []);
-      lent = packLent (replicate 12 7) (replicate 1026 (place 3 1 2 true)) (replicate 60 5);
+      lent = packLent (replicate 12 7) (replicate 1026 (place 3 1 2 true)) (replicate 60 5) (replicate 16 9);
       answer = packed 24;
       left = packLent (0 ∷ 1 ∷ 2 ∷ 5 ∷ 4 ∷ 7 ∷ 9 ∷ 3 ∷ 6 ∷ 8 ∷ 7 ∷ 7 ∷ [])
           (replicate 1024 (place 0 0 0 false) ++ (place 3 1 2 true ∷ place 3 1 2 true ∷ []))
           ((1 ∷ 0 ∷ 8 ∷ 0 ∷ 10 ∷ 0 ∷ 14 ∷ 0 ∷ 10 ∷ 0 ∷ 3 ∷ 2 ∷ 0 ∷ 10 ∷ 224 ∷ 6 ∷ 192 ∷ 128 ∷ 24 ∷ 6 ∷ 0 ∷ 86 ∷ 178 ∷ 192 ∷ [])
-          ++ replicate 36 5);
+          ++ replicate 36 5)
+          (0 ∷ 8 ∷ 9 ∷ 1 ∷ 5 ∷ 4 ∷ 2 ∷ 10 ∷ 11 ∷ 3 ∷ 13 ∷ 12 ∷ 7 ∷ 6 ∷ 9 ∷ 9 ∷ []);
     }
     ∷
     -- union from a loop of two places: accepted
@@ -285,12 +298,13 @@ packRows =
       list =
           (0 ∷ 1 ∷ 2 ∷ 3 ∷ 4 ∷ 5 ∷ 1 ∷ 6 ∷ 7 ∷ 1 ∷ 7 ∷ 4 ∷ 1 ∷ 4 ∷ 2 ∷ 2 ∷ 4 ∷ 6 ∷ 2 ∷ 6 ∷ 8 ∷ 2 ∷ 8 ∷ 7 ∷ 7 ∷ 8 ∷ 9 ∷ 7 ∷ 9 ∷ 4 ∷ 6 ∷ 4 ∷ 3
           ∷ 6 ∷ 3 ∷ 5 ∷ 6 ∷ 5 ∷ 7 ∷ []);
-      lent = packLent (replicate 12 7) (replicate 1026 (place 3 1 2 true)) (replicate 60 5);
+      lent = packLent (replicate 12 7) (replicate 1026 (place 3 1 2 true)) (replicate 60 5) (replicate 15 9);
       answer = packed 26;
       left = packLent (0 ∷ 1 ∷ 2 ∷ 9 ∷ 3 ∷ 7 ∷ 4 ∷ 6 ∷ 5 ∷ 8 ∷ 7 ∷ 7 ∷ [])
           (replicate 1024 (place 0 0 0 false) ++ (place 3 1 2 true ∷ place 3 1 2 true ∷ []))
           ((1 ∷ 0 ∷ 8 ∷ 0 ∷ 10 ∷ 0 ∷ 13 ∷ 0 ∷ 8 ∷ 0 ∷ 2 ∷ 2 ∷ 0 ∷ 12 ∷ 236 ∷ 0 ∷ 27 ∷ 128 ∷ 30 ∷ 2 ∷ 1 ∷ 6 ∷ 216 ∷ 44 ∷ 20 ∷ 216 ∷ [])
-          ++ replicate 34 5);
+          ++ replicate 34 5)
+          (0 ∷ 4 ∷ 5 ∷ 6 ∷ 7 ∷ 3 ∷ 2 ∷ 12 ∷ 8 ∷ 9 ∷ 10 ∷ 11 ∷ 1 ∷ 9 ∷ 9 ∷ []);
     }
     ∷
     -- union from a loop of two places, then a split past links: accepted
@@ -300,12 +314,13 @@ packRows =
       list =
           (0 ∷ 1 ∷ 2 ∷ 1 ∷ 3 ∷ 2 ∷ 4 ∷ 5 ∷ 6 ∷ 7 ∷ 2 ∷ 8 ∷ 7 ∷ 0 ∷ 2 ∷ 3 ∷ 0 ∷ 7 ∷ 3 ∷ 9 ∷ 0 ∷ 1 ∷ 0 ∷ 9 ∷ 10 ∷ 1 ∷ 9 ∷ 3 ∷ 1 ∷ 10 ∷ 3 ∷ 10
           ∷ 11 ∷ 11 ∷ 9 ∷ 3 ∷ 8 ∷ 9 ∷ 11 ∷ 8 ∷ 11 ∷ 7 ∷ []);
-      lent = packLent (replicate 14 7) (replicate 1026 (place 3 1 2 true)) (replicate 60 5);
+      lent = packLent (replicate 14 7) (replicate 1026 (place 3 1 2 true)) (replicate 60 5) (replicate 16 9);
       answer = packed 28;
       left = packLent (0 ∷ 1 ∷ 2 ∷ 5 ∷ 9 ∷ 10 ∷ 11 ∷ 6 ∷ 7 ∷ 3 ∷ 4 ∷ 8 ∷ 7 ∷ 7 ∷ [])
           (replicate 1024 (place 0 0 0 false) ++ (place 3 1 2 true ∷ place 3 1 2 true ∷ []))
           ((1 ∷ 0 ∷ 8 ∷ 0 ∷ 12 ∷ 0 ∷ 14 ∷ 0 ∷ 8 ∷ 0 ∷ 2 ∷ 2 ∷ 0 ∷ 14 ∷ 224 ∷ 2 ∷ 196 ∷ 0 ∷ 216 ∷ 13 ∷ 224 ∷ 32 ∷ 20 ∷ 1 ∷ 42 ∷ 109 ∷ 246
-          ∷ 216 ∷ []) ++ replicate 32 5);
+          ∷ 216 ∷ []) ++ replicate 32 5)
+          (0 ∷ 7 ∷ 8 ∷ 9 ∷ 1 ∷ 4 ∷ 5 ∷ 3 ∷ 13 ∷ 12 ∷ 11 ∷ 6 ∷ 10 ∷ 2 ∷ 9 ∷ 9 ∷ []);
     }
     ∷
     -- union to c that has two places in the waiting loop: accepted
@@ -316,12 +331,13 @@ packRows =
           (0 ∷ 1 ∷ 2 ∷ 1 ∷ 0 ∷ 3 ∷ 4 ∷ 5 ∷ 6 ∷ 7 ∷ 1 ∷ 3 ∷ 6 ∷ 8 ∷ 7 ∷ 4 ∷ 9 ∷ 5 ∷ 10 ∷ 3 ∷ 8 ∷ 5 ∷ 7 ∷ 8 ∷ 11 ∷ 5 ∷ 8 ∷ 12 ∷ 8 ∷ 1 ∷ 10 ∷ 8
           ∷ 2 ∷ 1 ∷ 7 ∷ 12 ∷ 8 ∷ 6 ∷ 1 ∷ 13 ∷ 12 ∷ 4 ∷ 11 ∷ 8 ∷ 0 ∷ 12 ∷ 7 ∷ 5 ∷ 1 ∷ 6 ∷ 5 ∷ 12 ∷ 9 ∷ 4 ∷ 5 ∷ 9 ∷ 12 ∷ 0 ∷ 8 ∷ 3 ∷ 14 ∷ 10
           ∷ 2 ∷ 1 ∷ 14 ∷ 2 ∷ []);
-      lent = packLent (replicate 17 7) (replicate 1026 (place 3 1 2 true)) (replicate 60 5);
+      lent = packLent (replicate 17 7) (replicate 1026 (place 3 1 2 true)) (replicate 60 5) (replicate 24 9);
       answer = packed 35;
       left = packLent (0 ∷ 1 ∷ 2 ∷ 3 ∷ 12 ∷ 8 ∷ 7 ∷ 4 ∷ 6 ∷ 13 ∷ 10 ∷ 11 ∷ 5 ∷ 14 ∷ 9 ∷ 7 ∷ 7 ∷ [])
           (replicate 1024 (place 0 0 0 false) ++ (place 3 1 2 true ∷ place 3 1 2 true ∷ []))
           ((1 ∷ 0 ∷ 8 ∷ 0 ∷ 15 ∷ 0 ∷ 22 ∷ 0 ∷ 13 ∷ 0 ∷ 2 ∷ 2 ∷ 0 ∷ 21 ∷ 224 ∷ 0 ∷ 3 ∷ 2 ∷ 0 ∷ 173 ∷ 224 ∷ 32 ∷ 10 ∷ 110 ∷ 0 ∷ 184 ∷ 8 ∷ 8
-          ∷ 27 ∷ 101 ∷ 128 ∷ 80 ∷ 108 ∷ 182 ∷ 192 ∷ []) ++ replicate 25 5);
+          ∷ 27 ∷ 101 ∷ 128 ∷ 80 ∷ 108 ∷ 182 ∷ 192 ∷ []) ++ replicate 25 5)
+          (0 ∷ 1 ∷ 3 ∷ 11 ∷ 9 ∷ 12 ∷ 16 ∷ 21 ∷ 20 ∷ 10 ∷ 19 ∷ 6 ∷ 15 ∷ 7 ∷ 8 ∷ 4 ∷ 2 ∷ 5 ∷ 18 ∷ 17 ∷ 13 ∷ 14 ∷ 9 ∷ 9 ∷ []);
     }
     ∷
     -- torus of seven vertices: accepted
@@ -331,12 +347,13 @@ packRows =
       list =
           (0 ∷ 1 ∷ 3 ∷ 1 ∷ 2 ∷ 4 ∷ 2 ∷ 3 ∷ 5 ∷ 3 ∷ 4 ∷ 6 ∷ 4 ∷ 5 ∷ 0 ∷ 5 ∷ 6 ∷ 1 ∷ 6 ∷ 0 ∷ 2 ∷ 1 ∷ 0 ∷ 5 ∷ 2 ∷ 1 ∷ 6 ∷ 3 ∷ 2 ∷ 0 ∷ 4 ∷ 3 ∷ 1
           ∷ 5 ∷ 4 ∷ 2 ∷ 6 ∷ 5 ∷ 3 ∷ 0 ∷ 6 ∷ 4 ∷ []);
-      lent = packLent (replicate 9 7) (replicate 1026 (place 3 1 2 true)) (replicate 60 5);
+      lent = packLent (replicate 9 7) (replicate 1026 (place 3 1 2 true)) (replicate 60 5) (replicate 16 9);
       answer = packed 24;
       left = packLent (0 ∷ 1 ∷ 5 ∷ 2 ∷ 6 ∷ 3 ∷ 4 ∷ 7 ∷ 7 ∷ [])
           (replicate 1024 (place 0 0 0 false) ++ (place 3 1 2 true ∷ place 3 1 2 true ∷ []))
           ((1 ∷ 0 ∷ 8 ∷ 0 ∷ 7 ∷ 0 ∷ 14 ∷ 0 ∷ 8 ∷ 0 ∷ 2 ∷ 2 ∷ 0 ∷ 10 ∷ 224 ∷ 0 ∷ 96 ∷ 7 ∷ 128 ∷ 128 ∷ 69 ∷ 64 ∷ 14 ∷ 154 ∷ [])
-          ++ replicate 36 5);
+          ++ replicate 36 5)
+          (0 ∷ 7 ∷ 5 ∷ 8 ∷ 1 ∷ 10 ∷ 3 ∷ 13 ∷ 6 ∷ 9 ∷ 2 ∷ 12 ∷ 11 ∷ 4 ∷ 9 ∷ 9 ∷ []);
     }
     ∷
     -- a loop of two places, which new makes longer; f leaves; three places are the peak, in full loops four: accepted
@@ -344,10 +361,10 @@ packRows =
       limits = most;
       vertices = 4;
       list = (0 ∷ 2 ∷ 1 ∷ 1 ∷ 3 ∷ 0 ∷ []);
-      lent = packLent (7 ∷ 7 ∷ 7 ∷ 7 ∷ 7 ∷ 7 ∷ []) (replicate 1026 (place 3 1 2 true)) (replicate 60 5);
+      lent = packLent (7 ∷ 7 ∷ 7 ∷ 7 ∷ 7 ∷ 7 ∷ []) (replicate 1026 (place 3 1 2 true)) (replicate 60 5) (9 ∷ 9 ∷ 9 ∷ 9 ∷ []);
       answer = packed 17;
       left = packLent (0 ∷ 2 ∷ 1 ∷ 3 ∷ 7 ∷ 7 ∷ []) (replicate 1024 (place 0 0 0 false) ++ (place 3 1 2 true ∷ place 3 1 2 true ∷ []))
-          ((1 ∷ 0 ∷ 8 ∷ 0 ∷ 4 ∷ 0 ∷ 2 ∷ 0 ∷ 3 ∷ 0 ∷ 1 ∷ 2 ∷ 0 ∷ 3 ∷ 237 ∷ 134 ∷ 192 ∷ []) ++ replicate 43 5);
+          ((1 ∷ 0 ∷ 8 ∷ 0 ∷ 4 ∷ 0 ∷ 2 ∷ 0 ∷ 3 ∷ 0 ∷ 1 ∷ 2 ∷ 0 ∷ 3 ∷ 237 ∷ 134 ∷ 192 ∷ []) ++ replicate 43 5) (0 ∷ 1 ∷ 9 ∷ 9 ∷ []);
     }
     ∷
     -- both places of an edge leave: accepted
@@ -355,10 +372,10 @@ packRows =
       limits = most;
       vertices = 4;
       list = (0 ∷ 1 ∷ 2 ∷ 2 ∷ 1 ∷ 3 ∷ []);
-      lent = packLent (7 ∷ 7 ∷ 7 ∷ 7 ∷ 7 ∷ 7 ∷ []) (replicate 1026 (place 3 1 2 true)) (replicate 60 5);
+      lent = packLent (7 ∷ 7 ∷ 7 ∷ 7 ∷ 7 ∷ 7 ∷ []) (replicate 1026 (place 3 1 2 true)) (replicate 60 5) (9 ∷ 9 ∷ 9 ∷ 9 ∷ []);
       answer = packed 17;
       left = packLent (0 ∷ 1 ∷ 2 ∷ 3 ∷ 7 ∷ 7 ∷ []) (replicate 1024 (place 0 0 0 false) ++ (place 3 1 2 true ∷ place 3 1 2 true ∷ []))
-          ((1 ∷ 0 ∷ 8 ∷ 0 ∷ 4 ∷ 0 ∷ 2 ∷ 0 ∷ 4 ∷ 0 ∷ 1 ∷ 2 ∷ 0 ∷ 3 ∷ 236 ∷ 54 ∷ 192 ∷ []) ++ replicate 43 5);
+          ((1 ∷ 0 ∷ 8 ∷ 0 ∷ 4 ∷ 0 ∷ 2 ∷ 0 ∷ 4 ∷ 0 ∷ 1 ∷ 2 ∷ 0 ∷ 3 ∷ 236 ∷ 54 ∷ 192 ∷ []) ++ replicate 43 5) (0 ∷ 1 ∷ 9 ∷ 9 ∷ []);
     }
     ∷
     -- split 1 across a link: accepted
@@ -366,11 +383,12 @@ packRows =
       limits = most;
       vertices = 6;
       list = (2 ∷ 5 ∷ 3 ∷ 2 ∷ 3 ∷ 0 ∷ 2 ∷ 1 ∷ 5 ∷ 3 ∷ 1 ∷ 4 ∷ 4 ∷ 1 ∷ 2 ∷ 3 ∷ 4 ∷ 0 ∷ []);
-      lent = packLent (replicate 8 7) (replicate 1026 (place 3 1 2 true)) (replicate 60 5);
+      lent = packLent (replicate 8 7) (replicate 1026 (place 3 1 2 true)) (replicate 60 5) (replicate 8 9);
       answer = packed 20;
       left = packLent (4 ∷ 3 ∷ 0 ∷ 2 ∷ 5 ∷ 1 ∷ 7 ∷ 7 ∷ [])
           (replicate 1024 (place 0 0 0 false) ++ (place 3 1 2 true ∷ place 3 1 2 true ∷ []))
-          ((1 ∷ 0 ∷ 8 ∷ 0 ∷ 6 ∷ 0 ∷ 6 ∷ 0 ∷ 6 ∷ 0 ∷ 2 ∷ 2 ∷ 0 ∷ 6 ∷ 225 ∷ 176 ∷ 196 ∷ 0 ∷ 89 ∷ 108 ∷ []) ++ replicate 40 5);
+          ((1 ∷ 0 ∷ 8 ∷ 0 ∷ 6 ∷ 0 ∷ 6 ∷ 0 ∷ 6 ∷ 0 ∷ 2 ∷ 2 ∷ 0 ∷ 6 ∷ 225 ∷ 176 ∷ 196 ∷ 0 ∷ 89 ∷ 108 ∷ []) ++ replicate 40 5)
+          (0 ∷ 2 ∷ 1 ∷ 4 ∷ 3 ∷ 5 ∷ 9 ∷ 9 ∷ []);
     }
     ∷
     -- split of equal halves, next to a marked edge: accepted
@@ -378,10 +396,12 @@ packRows =
       limits = most;
       vertices = 5;
       list = (2 ∷ 0 ∷ 1 ∷ 1 ∷ 4 ∷ 2 ∷ 2 ∷ 4 ∷ 0 ∷ 3 ∷ 4 ∷ 1 ∷ 1 ∷ 0 ∷ 3 ∷ []);
-      lent = packLent (7 ∷ 7 ∷ 7 ∷ 7 ∷ 7 ∷ 7 ∷ 7 ∷ []) (replicate 1026 (place 3 1 2 true)) (replicate 60 5);
+      lent = packLent (7 ∷ 7 ∷ 7 ∷ 7 ∷ 7 ∷ 7 ∷ 7 ∷ []) (replicate 1026 (place 3 1 2 true)) (replicate 60 5)
+          (9 ∷ 9 ∷ 9 ∷ 9 ∷ 9 ∷ 9 ∷ 9 ∷ []);
       answer = packed 19;
       left = packLent (1 ∷ 2 ∷ 0 ∷ 4 ∷ 3 ∷ 7 ∷ 7 ∷ []) (replicate 1024 (place 0 0 0 false) ++ (place 3 1 2 true ∷ place 3 1 2 true ∷ []))
-          ((1 ∷ 0 ∷ 8 ∷ 0 ∷ 5 ∷ 0 ∷ 5 ∷ 0 ∷ 6 ∷ 0 ∷ 2 ∷ 2 ∷ 0 ∷ 5 ∷ 225 ∷ 136 ∷ 1 ∷ 86 ∷ 192 ∷ []) ++ replicate 41 5);
+          ((1 ∷ 0 ∷ 8 ∷ 0 ∷ 5 ∷ 0 ∷ 5 ∷ 0 ∷ 6 ∷ 0 ∷ 2 ∷ 2 ∷ 0 ∷ 5 ∷ 225 ∷ 136 ∷ 1 ∷ 86 ∷ 192 ∷ []) ++ replicate 41 5)
+          (0 ∷ 2 ∷ 4 ∷ 3 ∷ 1 ∷ 9 ∷ 9 ∷ []);
     }
     ∷
     -- split 2 past a link; of halves equal in places the first goes on, in full loops the second would: accepted
@@ -389,11 +409,12 @@ packRows =
       limits = most;
       vertices = 6;
       list = (2 ∷ 0 ∷ 1 ∷ 1 ∷ 3 ∷ 2 ∷ 3 ∷ 1 ∷ 4 ∷ 3 ∷ 4 ∷ 5 ∷ 4 ∷ 0 ∷ 2 ∷ 5 ∷ 4 ∷ 2 ∷ []);
-      lent = packLent (replicate 8 7) (replicate 1026 (place 3 1 2 true)) (replicate 60 5);
+      lent = packLent (replicate 8 7) (replicate 1026 (place 3 1 2 true)) (replicate 60 5) (replicate 8 9);
       answer = packed 20;
       left = packLent (1 ∷ 2 ∷ 0 ∷ 4 ∷ 3 ∷ 5 ∷ 7 ∷ 7 ∷ [])
           (replicate 1024 (place 0 0 0 false) ++ (place 3 1 2 true ∷ place 3 1 2 true ∷ []))
-          ((1 ∷ 0 ∷ 8 ∷ 0 ∷ 6 ∷ 0 ∷ 6 ∷ 0 ∷ 6 ∷ 0 ∷ 2 ∷ 2 ∷ 0 ∷ 6 ∷ 225 ∷ 176 ∷ 196 ∷ 0 ∷ 147 ∷ 108 ∷ []) ++ replicate 40 5);
+          ((1 ∷ 0 ∷ 8 ∷ 0 ∷ 6 ∷ 0 ∷ 6 ∷ 0 ∷ 6 ∷ 0 ∷ 2 ∷ 2 ∷ 0 ∷ 6 ∷ 225 ∷ 176 ∷ 196 ∷ 0 ∷ 147 ∷ 108 ∷ []) ++ replicate 40 5)
+          (0 ∷ 4 ∷ 1 ∷ 5 ∷ 3 ∷ 2 ∷ 9 ∷ 9 ∷ []);
     }
     ∷
     -- split 1; the first part has fewer places, in full loops as many: accepted
@@ -401,11 +422,12 @@ packRows =
       limits = most;
       vertices = 6;
       list = (2 ∷ 5 ∷ 0 ∷ 1 ∷ 2 ∷ 0 ∷ 0 ∷ 3 ∷ 1 ∷ 3 ∷ 2 ∷ 1 ∷ 2 ∷ 4 ∷ 5 ∷ 0 ∷ 4 ∷ 3 ∷ 3 ∷ 4 ∷ 2 ∷ []);
-      lent = packLent (replicate 8 7) (replicate 1026 (place 3 1 2 true)) (replicate 60 5);
+      lent = packLent (replicate 8 7) (replicate 1026 (place 3 1 2 true)) (replicate 60 5) (replicate 9 9);
       answer = packed 19;
       left = packLent (2 ∷ 4 ∷ 0 ∷ 5 ∷ 3 ∷ 1 ∷ 7 ∷ 7 ∷ [])
           (replicate 1024 (place 0 0 0 false) ++ (place 3 1 2 true ∷ place 3 1 2 true ∷ []))
-          ((1 ∷ 0 ∷ 8 ∷ 0 ∷ 6 ∷ 0 ∷ 7 ∷ 0 ∷ 5 ∷ 0 ∷ 2 ∷ 2 ∷ 0 ∷ 5 ∷ 225 ∷ 176 ∷ 12 ∷ 0 ∷ 93 ∷ []) ++ replicate 41 5);
+          ((1 ∷ 0 ∷ 8 ∷ 0 ∷ 6 ∷ 0 ∷ 7 ∷ 0 ∷ 5 ∷ 0 ∷ 2 ∷ 2 ∷ 0 ∷ 5 ∷ 225 ∷ 176 ∷ 12 ∷ 0 ∷ 93 ∷ []) ++ replicate 41 5)
+          (0 ∷ 4 ∷ 1 ∷ 3 ∷ 6 ∷ 5 ∷ 2 ∷ 9 ∷ 9 ∷ []);
     }
     ∷
     -- split 1; the first part has fewer places, in full loops more: accepted
@@ -413,11 +435,12 @@ packRows =
       limits = most;
       vertices = 7;
       list = (3 ∷ 5 ∷ 6 ∷ 0 ∷ 5 ∷ 3 ∷ 0 ∷ 2 ∷ 5 ∷ 2 ∷ 4 ∷ 3 ∷ 1 ∷ 4 ∷ 2 ∷ 1 ∷ 3 ∷ 4 ∷ 1 ∷ 0 ∷ 3 ∷ 0 ∷ 1 ∷ 2 ∷ []);
-      lent = packLent (replicate 9 7) (replicate 1026 (place 3 1 2 true)) (replicate 60 5);
+      lent = packLent (replicate 9 7) (replicate 1026 (place 3 1 2 true)) (replicate 60 5) (replicate 10 9);
       answer = packed 20;
       left = packLent (3 ∷ 5 ∷ 4 ∷ 0 ∷ 6 ∷ 1 ∷ 2 ∷ 7 ∷ 7 ∷ [])
           (replicate 1024 (place 0 0 0 false) ++ (place 3 1 2 true ∷ place 3 1 2 true ∷ []))
-          ((1 ∷ 0 ∷ 8 ∷ 0 ∷ 7 ∷ 0 ∷ 8 ∷ 0 ∷ 5 ∷ 0 ∷ 2 ∷ 2 ∷ 0 ∷ 6 ∷ 224 ∷ 54 ∷ 193 ∷ 16 ∷ 1 ∷ 116 ∷ []) ++ replicate 40 5);
+          ((1 ∷ 0 ∷ 8 ∷ 0 ∷ 7 ∷ 0 ∷ 8 ∷ 0 ∷ 5 ∷ 0 ∷ 2 ∷ 2 ∷ 0 ∷ 6 ∷ 224 ∷ 54 ∷ 193 ∷ 16 ∷ 1 ∷ 116 ∷ []) ++ replicate 40 5)
+          (0 ∷ 1 ∷ 2 ∷ 6 ∷ 7 ∷ 4 ∷ 3 ∷ 5 ∷ 9 ∷ 9 ∷ []);
     }
     ∷
     -- split 2 where the edge after f is marked: accepted
@@ -425,11 +448,12 @@ packRows =
       limits = most;
       vertices = 6;
       list = (2 ∷ 1 ∷ 5 ∷ 0 ∷ 5 ∷ 4 ∷ 2 ∷ 3 ∷ 4 ∷ 2 ∷ 5 ∷ 3 ∷ 1 ∷ 4 ∷ 5 ∷ 0 ∷ 4 ∷ 3 ∷ []);
-      lent = packLent (replicate 8 7) (replicate 1026 (place 3 1 2 true)) (replicate 60 5);
+      lent = packLent (replicate 8 7) (replicate 1026 (place 3 1 2 true)) (replicate 60 5) (replicate 8 9);
       answer = packed 20;
       left = packLent (4 ∷ 1 ∷ 0 ∷ 5 ∷ 3 ∷ 2 ∷ 7 ∷ 7 ∷ [])
           (replicate 1024 (place 0 0 0 false) ++ (place 3 1 2 true ∷ place 3 1 2 true ∷ []))
-          ((1 ∷ 0 ∷ 8 ∷ 0 ∷ 6 ∷ 0 ∷ 6 ∷ 0 ∷ 7 ∷ 0 ∷ 2 ∷ 2 ∷ 0 ∷ 6 ∷ 236 ∷ 6 ∷ 32 ∷ 4 ∷ 217 ∷ 108 ∷ []) ++ replicate 40 5);
+          ((1 ∷ 0 ∷ 8 ∷ 0 ∷ 6 ∷ 0 ∷ 6 ∷ 0 ∷ 7 ∷ 0 ∷ 2 ∷ 2 ∷ 0 ∷ 6 ∷ 236 ∷ 6 ∷ 32 ∷ 4 ∷ 217 ∷ 108 ∷ []) ++ replicate 40 5)
+          (0 ∷ 4 ∷ 1 ∷ 3 ∷ 2 ∷ 5 ∷ 9 ∷ 9 ∷ []);
     }
     ∷
     -- split k - 3 where the edge into e is marked: accepted
@@ -437,11 +461,12 @@ packRows =
       limits = most;
       vertices = 6;
       list = (0 ∷ 1 ∷ 2 ∷ 3 ∷ 1 ∷ 0 ∷ 4 ∷ 0 ∷ 2 ∷ 4 ∷ 3 ∷ 0 ∷ 4 ∷ 1 ∷ 3 ∷ 4 ∷ 5 ∷ 1 ∷ []);
-      lent = packLent (replicate 8 7) (replicate 1026 (place 3 1 2 true)) (replicate 60 5);
+      lent = packLent (replicate 8 7) (replicate 1026 (place 3 1 2 true)) (replicate 60 5) (replicate 8 9);
       answer = packed 19;
       left = packLent (0 ∷ 1 ∷ 2 ∷ 3 ∷ 4 ∷ 5 ∷ 7 ∷ 7 ∷ [])
           (replicate 1024 (place 0 0 0 false) ++ (place 3 1 2 true ∷ place 3 1 2 true ∷ []))
-          ((1 ∷ 0 ∷ 8 ∷ 0 ∷ 6 ∷ 0 ∷ 6 ∷ 0 ∷ 6 ∷ 0 ∷ 2 ∷ 2 ∷ 0 ∷ 5 ∷ 224 ∷ 6 ∷ 224 ∷ 5 ∷ 91 ∷ []) ++ replicate 41 5);
+          ((1 ∷ 0 ∷ 8 ∷ 0 ∷ 6 ∷ 0 ∷ 6 ∷ 0 ∷ 6 ∷ 0 ∷ 2 ∷ 2 ∷ 0 ∷ 5 ∷ 224 ∷ 6 ∷ 224 ∷ 5 ∷ 91 ∷ []) ++ replicate 41 5)
+          (0 ∷ 1 ∷ 4 ∷ 5 ∷ 2 ∷ 3 ∷ 9 ∷ 9 ∷ []);
     }
     ∷
     -- seven places, in full loops six: the other half of the split goes on: accepted
@@ -449,11 +474,12 @@ packRows =
       limits = most;
       vertices = 7;
       list = (3 ∷ 1 ∷ 6 ∷ 5 ∷ 0 ∷ 4 ∷ 5 ∷ 1 ∷ 2 ∷ 6 ∷ 5 ∷ 3 ∷ 2 ∷ 3 ∷ 5 ∷ 0 ∷ 5 ∷ 6 ∷ 2 ∷ 1 ∷ 3 ∷ []);
-      lent = packLent (replicate 9 7) (replicate 1026 (place 3 1 2 true)) (replicate 60 5);
+      lent = packLent (replicate 9 7) (replicate 1026 (place 3 1 2 true)) (replicate 60 5) (replicate 9 9);
       answer = packed 20;
       left = packLent (5 ∷ 1 ∷ 3 ∷ 0 ∷ 6 ∷ 4 ∷ 2 ∷ 7 ∷ 7 ∷ [])
           (replicate 1024 (place 0 0 0 false) ++ (place 3 1 2 true ∷ place 3 1 2 true ∷ []))
-          ((1 ∷ 0 ∷ 8 ∷ 0 ∷ 7 ∷ 0 ∷ 7 ∷ 0 ∷ 7 ∷ 0 ∷ 2 ∷ 2 ∷ 0 ∷ 6 ∷ 224 ∷ 55 ∷ 0 ∷ 32 ∷ 27 ∷ 116 ∷ []) ++ replicate 40 5);
+          ((1 ∷ 0 ∷ 8 ∷ 0 ∷ 7 ∷ 0 ∷ 7 ∷ 0 ∷ 7 ∷ 0 ∷ 2 ∷ 2 ∷ 0 ∷ 6 ∷ 224 ∷ 55 ∷ 0 ∷ 32 ∷ 27 ∷ 116 ∷ []) ++ replicate 40 5)
+          (0 ∷ 6 ∷ 2 ∷ 3 ∷ 5 ∷ 1 ∷ 4 ∷ 9 ∷ 9 ∷ []);
     }
     ∷
     -- union from a loop of two places, with j = 0: accepted
@@ -461,11 +487,12 @@ packRows =
       limits = most;
       vertices = 6;
       list = (5 ∷ 4 ∷ 3 ∷ 3 ∷ 4 ∷ 2 ∷ 5 ∷ 3 ∷ 1 ∷ 5 ∷ 1 ∷ 2 ∷ 5 ∷ 2 ∷ 0 ∷ 2 ∷ 4 ∷ 0 ∷ 0 ∷ 4 ∷ 1 ∷ 0 ∷ 1 ∷ 3 ∷ []);
-      lent = packLent (replicate 8 7) (replicate 1026 (place 3 1 2 true)) (replicate 60 5);
+      lent = packLent (replicate 8 7) (replicate 1026 (place 3 1 2 true)) (replicate 60 5) (replicate 10 9);
       answer = packed 23;
       left = packLent (5 ∷ 4 ∷ 3 ∷ 2 ∷ 1 ∷ 0 ∷ 7 ∷ 7 ∷ [])
           (replicate 1024 (place 0 0 0 false) ++ (place 3 1 2 true ∷ place 3 1 2 true ∷ []))
-          ((1 ∷ 0 ∷ 8 ∷ 0 ∷ 6 ∷ 0 ∷ 8 ∷ 0 ∷ 7 ∷ 0 ∷ 2 ∷ 2 ∷ 0 ∷ 9 ∷ 236 ∷ 49 ∷ 0 ∷ 32 ∷ 206 ∷ 2 ∷ 0 ∷ 38 ∷ 216 ∷ []) ++ replicate 37 5);
+          ((1 ∷ 0 ∷ 8 ∷ 0 ∷ 6 ∷ 0 ∷ 8 ∷ 0 ∷ 7 ∷ 0 ∷ 2 ∷ 2 ∷ 0 ∷ 9 ∷ 236 ∷ 49 ∷ 0 ∷ 32 ∷ 206 ∷ 2 ∷ 0 ∷ 38 ∷ 216 ∷ []) ++ replicate 37 5)
+          (0 ∷ 1 ∷ 2 ∷ 3 ∷ 4 ∷ 5 ∷ 6 ∷ 7 ∷ 9 ∷ 9 ∷ []);
     }
     ∷
     -- union and split past a link: accepted
@@ -473,12 +500,13 @@ packRows =
       limits = most;
       vertices = 7;
       list = (6 ∷ 5 ∷ 4 ∷ 5 ∷ 6 ∷ 2 ∷ 6 ∷ 1 ∷ 0 ∷ 2 ∷ 0 ∷ 3 ∷ 5 ∷ 2 ∷ 3 ∷ 1 ∷ 6 ∷ 4 ∷ 3 ∷ 0 ∷ 1 ∷ 1 ∷ 4 ∷ 2 ∷ 2 ∷ 4 ∷ 0 ∷ []);
-      lent = packLent (replicate 9 7) (replicate 1026 (place 3 1 2 true)) (replicate 60 5);
+      lent = packLent (replicate 9 7) (replicate 1026 (place 3 1 2 true)) (replicate 60 5) (replicate 11 9);
       answer = packed 24;
       left = packLent (6 ∷ 5 ∷ 3 ∷ 4 ∷ 2 ∷ 1 ∷ 0 ∷ 7 ∷ 7 ∷ [])
           (replicate 1024 (place 0 0 0 false) ++ (place 3 1 2 true ∷ place 3 1 2 true ∷ []))
           ((1 ∷ 0 ∷ 8 ∷ 0 ∷ 7 ∷ 0 ∷ 9 ∷ 0 ∷ 7 ∷ 0 ∷ 2 ∷ 2 ∷ 0 ∷ 10 ∷ 224 ∷ 54 ∷ 3 ∷ 112 ∷ 3 ∷ 192 ∷ 64 ∷ 38 ∷ 89 ∷ 96 ∷ [])
-          ++ replicate 36 5);
+          ++ replicate 36 5)
+          (0 ∷ 1 ∷ 4 ∷ 5 ∷ 2 ∷ 3 ∷ 8 ∷ 7 ∷ 6 ∷ 9 ∷ 9 ∷ []);
     }
     ∷
     -- union 2 of two waiting loops, in shortened loops: accepted
@@ -488,12 +516,13 @@ packRows =
       list =
           (6 ∷ 2 ∷ 5 ∷ 7 ∷ 4 ∷ 0 ∷ 5 ∷ 4 ∷ 3 ∷ 3 ∷ 4 ∷ 2 ∷ 2 ∷ 7 ∷ 5 ∷ 7 ∷ 2 ∷ 4 ∷ 1 ∷ 7 ∷ 6 ∷ 4 ∷ 6 ∷ 0 ∷ 3 ∷ 6 ∷ 5 ∷ 3 ∷ 1 ∷ 6 ∷ 0 ∷ 6 ∷ 7
           ∷ []);
-      lent = packLent (replicate 10 7) (replicate 1026 (place 3 1 2 true)) (replicate 60 5);
+      lent = packLent (replicate 10 7) (replicate 1026 (place 3 1 2 true)) (replicate 60 5) (replicate 13 9);
       answer = packed 26;
       left = packLent (6 ∷ 5 ∷ 1 ∷ 4 ∷ 7 ∷ 2 ∷ 0 ∷ 3 ∷ 7 ∷ 7 ∷ [])
           (replicate 1024 (place 0 0 0 false) ++ (place 3 1 2 true ∷ place 3 1 2 true ∷ []))
           ((1 ∷ 0 ∷ 8 ∷ 0 ∷ 8 ∷ 0 ∷ 11 ∷ 0 ∷ 10 ∷ 0 ∷ 3 ∷ 2 ∷ 0 ∷ 12 ∷ 236 ∷ 48 ∷ 32 ∷ 4 ∷ 3 ∷ 128 ∷ 22 ∷ 4 ∷ 1 ∷ 166 ∷ 219 ∷ 160 ∷ [])
-          ++ replicate 34 5);
+          ++ replicate 34 5)
+          (0 ∷ 4 ∷ 8 ∷ 9 ∷ 6 ∷ 10 ∷ 7 ∷ 5 ∷ 3 ∷ 2 ∷ 1 ∷ 9 ∷ 9 ∷ []);
     }
     ∷
     -- union to c that has a place in the current loop too, before it: accepted
@@ -501,12 +530,13 @@ packRows =
       limits = most;
       vertices = 8;
       list = (0 ∷ 1 ∷ 2 ∷ 1 ∷ 0 ∷ 3 ∷ 2 ∷ 4 ∷ 0 ∷ 1 ∷ 5 ∷ 6 ∷ 5 ∷ 7 ∷ 0 ∷ 4 ∷ 5 ∷ 0 ∷ 5 ∷ 1 ∷ 3 ∷ 7 ∷ 5 ∷ 2 ∷ 7 ∷ 2 ∷ 1 ∷ 4 ∷ 6 ∷ 5 ∷ []);
-      lent = packLent (replicate 10 7) (replicate 1026 (place 3 1 2 true)) (replicate 60 5);
+      lent = packLent (replicate 10 7) (replicate 1026 (place 3 1 2 true)) (replicate 60 5) (replicate 12 9);
       answer = packed 25;
       left = packLent (0 ∷ 1 ∷ 2 ∷ 3 ∷ 7 ∷ 4 ∷ 5 ∷ 6 ∷ 7 ∷ 7 ∷ [])
           (replicate 1024 (place 0 0 0 false) ++ (place 3 1 2 true ∷ place 3 1 2 true ∷ []))
           ((1 ∷ 0 ∷ 8 ∷ 0 ∷ 8 ∷ 0 ∷ 10 ∷ 0 ∷ 10 ∷ 0 ∷ 2 ∷ 2 ∷ 0 ∷ 11 ∷ 224 ∷ 6 ∷ 32 ∷ 6 ∷ 198 ∷ 2 ∷ 0 ∷ 166 ∷ 219 ∷ 45 ∷ 128 ∷ [])
-          ++ replicate 35 5);
+          ++ replicate 35 5)
+          (0 ∷ 1 ∷ 6 ∷ 3 ∷ 8 ∷ 7 ∷ 2 ∷ 5 ∷ 4 ∷ 9 ∷ 9 ∷ 9 ∷ []);
     }
     ∷
     -- split to c that has an earlier place in the loop: the first place that has c does not do: accepted
@@ -516,12 +546,13 @@ packRows =
       list =
           (0 ∷ 1 ∷ 2 ∷ 3 ∷ 0 ∷ 2 ∷ 4 ∷ 3 ∷ 5 ∷ 4 ∷ 5 ∷ 0 ∷ 6 ∷ 4 ∷ 1 ∷ 5 ∷ 3 ∷ 2 ∷ 1 ∷ 3 ∷ 6 ∷ 1 ∷ 0 ∷ 5 ∷ 3 ∷ 4 ∷ 6 ∷ 1 ∷ 7 ∷ 3 ∷ 5 ∷ 7 ∷ 1
           ∷ []);
-      lent = packLent (replicate 10 7) (replicate 1026 (place 3 1 2 true)) (replicate 60 5);
+      lent = packLent (replicate 10 7) (replicate 1026 (place 3 1 2 true)) (replicate 60 5) (replicate 13 9);
       answer = packed 26;
       left = packLent (0 ∷ 1 ∷ 2 ∷ 5 ∷ 7 ∷ 3 ∷ 6 ∷ 4 ∷ 7 ∷ 7 ∷ [])
           (replicate 1024 (place 0 0 0 false) ++ (place 3 1 2 true ∷ place 3 1 2 true ∷ []))
           ((1 ∷ 0 ∷ 8 ∷ 0 ∷ 8 ∷ 0 ∷ 11 ∷ 0 ∷ 10 ∷ 0 ∷ 2 ∷ 2 ∷ 0 ∷ 12 ∷ 224 ∷ 0 ∷ 27 ∷ 128 ∷ 27 ∷ 192 ∷ 64 ∷ 56 ∷ 3 ∷ 84 ∷ 219 ∷ 96 ∷ [])
-          ++ replicate 34 5);
+          ++ replicate 34 5)
+          (0 ∷ 7 ∷ 10 ∷ 9 ∷ 6 ∷ 4 ∷ 1 ∷ 3 ∷ 2 ∷ 8 ∷ 5 ∷ 9 ∷ 9 ∷ []);
     }
     ∷
     -- split to c that has a later place in the loop: accepted
@@ -531,12 +562,13 @@ packRows =
       list =
           (0 ∷ 1 ∷ 2 ∷ 0 ∷ 3 ∷ 1 ∷ 4 ∷ 5 ∷ 1 ∷ 3 ∷ 4 ∷ 1 ∷ 0 ∷ 6 ∷ 3 ∷ 0 ∷ 2 ∷ 5 ∷ 5 ∷ 7 ∷ 1 ∷ 8 ∷ 7 ∷ 6 ∷ 5 ∷ 2 ∷ 3 ∷ 3 ∷ 6 ∷ 5 ∷ 5 ∷ 6 ∷ 7
           ∷ 3 ∷ 2 ∷ 7 ∷ 7 ∷ 8 ∷ 3 ∷ []);
-      lent = packLent (replicate 11 7) (replicate 1026 (place 3 1 2 true)) (replicate 60 5);
+      lent = packLent (replicate 11 7) (replicate 1026 (place 3 1 2 true)) (replicate 60 5) (replicate 15 9);
       answer = packed 27;
       left = packLent (0 ∷ 1 ∷ 2 ∷ 3 ∷ 4 ∷ 5 ∷ 7 ∷ 6 ∷ 8 ∷ 7 ∷ 7 ∷ [])
           (replicate 1024 (place 0 0 0 false) ++ (place 3 1 2 true ∷ place 3 1 2 true ∷ []))
           ((1 ∷ 0 ∷ 8 ∷ 0 ∷ 9 ∷ 0 ∷ 13 ∷ 0 ∷ 10 ∷ 0 ∷ 2 ∷ 2 ∷ 0 ∷ 13 ∷ 224 ∷ 0 ∷ 220 ∷ 0 ∷ 240 ∷ 16 ∷ 8 ∷ 17 ∷ 0 ∷ 36 ∷ 219 ∷ 108 ∷ 182
-          ∷ []) ++ replicate 33 5);
+          ∷ []) ++ replicate 33 5)
+          (0 ∷ 1 ∷ 3 ∷ 2 ∷ 6 ∷ 5 ∷ 8 ∷ 9 ∷ 10 ∷ 7 ∷ 12 ∷ 11 ∷ 4 ∷ 9 ∷ 9 ∷ []);
     }
     ∷
     -- backward to c that has an earlier place in the loop: accepted
@@ -544,12 +576,13 @@ packRows =
       limits = most;
       vertices = 8;
       list = (0 ∷ 1 ∷ 2 ∷ 1 ∷ 3 ∷ 2 ∷ 2 ∷ 3 ∷ 4 ∷ 1 ∷ 4 ∷ 5 ∷ 0 ∷ 2 ∷ 5 ∷ 0 ∷ 6 ∷ 1 ∷ 7 ∷ 4 ∷ 3 ∷ 1 ∷ 6 ∷ 4 ∷ 5 ∷ 4 ∷ 0 ∷ 4 ∷ 7 ∷ 0 ∷ []);
-      lent = packLent (replicate 10 7) (replicate 1026 (place 3 1 2 true)) (replicate 60 5);
+      lent = packLent (replicate 10 7) (replicate 1026 (place 3 1 2 true)) (replicate 60 5) (replicate 12 9);
       answer = packed 25;
       left = packLent (0 ∷ 1 ∷ 2 ∷ 6 ∷ 4 ∷ 5 ∷ 3 ∷ 7 ∷ 7 ∷ 7 ∷ [])
           (replicate 1024 (place 0 0 0 false) ++ (place 3 1 2 true ∷ place 3 1 2 true ∷ []))
           ((1 ∷ 0 ∷ 8 ∷ 0 ∷ 8 ∷ 0 ∷ 10 ∷ 0 ∷ 9 ∷ 0 ∷ 2 ∷ 2 ∷ 0 ∷ 11 ∷ 224 ∷ 6 ∷ 32 ∷ 6 ∷ 240 ∷ 16 ∷ 9 ∷ 6 ∷ 219 ∷ 101 ∷ 128 ∷ [])
-          ++ replicate 35 5);
+          ++ replicate 35 5)
+          (0 ∷ 5 ∷ 7 ∷ 3 ∷ 1 ∷ 2 ∷ 4 ∷ 8 ∷ 9 ∷ 6 ∷ 9 ∷ 9 ∷ []);
     }
     ∷
     -- forward to c that has a later place in the loop: accepted
@@ -557,12 +590,13 @@ packRows =
       limits = most;
       vertices = 7;
       list = (0 ∷ 2 ∷ 1 ∷ 5 ∷ 2 ∷ 6 ∷ 4 ∷ 2 ∷ 0 ∷ 4 ∷ 5 ∷ 3 ∷ 6 ∷ 0 ∷ 5 ∷ 0 ∷ 3 ∷ 5 ∷ 0 ∷ 1 ∷ 3 ∷ 3 ∷ 2 ∷ 4 ∷ 1 ∷ 2 ∷ 5 ∷ []);
-      lent = packLent (replicate 9 7) (replicate 1026 (place 3 1 2 true)) (replicate 60 5);
+      lent = packLent (replicate 9 7) (replicate 1026 (place 3 1 2 true)) (replicate 60 5) (replicate 11 9);
       answer = packed 24;
       left = packLent (0 ∷ 2 ∷ 1 ∷ 4 ∷ 3 ∷ 5 ∷ 6 ∷ 7 ∷ 7 ∷ [])
           (replicate 1024 (place 0 0 0 false) ++ (place 3 1 2 true ∷ place 3 1 2 true ∷ []))
           ((1 ∷ 0 ∷ 8 ∷ 0 ∷ 7 ∷ 0 ∷ 9 ∷ 0 ∷ 9 ∷ 0 ∷ 2 ∷ 2 ∷ 0 ∷ 10 ∷ 224 ∷ 48 ∷ 224 ∷ 5 ∷ 128 ∷ 128 ∷ 97 ∷ 178 ∷ 217 ∷ 96 ∷ [])
-          ++ replicate 36 5);
+          ++ replicate 36 5)
+          (0 ∷ 2 ∷ 7 ∷ 8 ∷ 6 ∷ 5 ∷ 4 ∷ 3 ∷ 1 ∷ 9 ∷ 9 ∷ []);
     }
     ∷
     -- turning about c through more triangles than its number: accepted
@@ -572,12 +606,13 @@ packRows =
       list =
           (6 ∷ 2 ∷ 4 ∷ 0 ∷ 2 ∷ 7 ∷ 6 ∷ 5 ∷ 8 ∷ 0 ∷ 8 ∷ 3 ∷ 4 ∷ 3 ∷ 6 ∷ 6 ∷ 8 ∷ 2 ∷ 1 ∷ 3 ∷ 7 ∷ 0 ∷ 6 ∷ 1 ∷ 0 ∷ 3 ∷ 2 ∷ 6 ∷ 3 ∷ 1 ∷ 7 ∷ 3 ∷ 8
           ∷ 5 ∷ 6 ∷ 7 ∷ 8 ∷ 5 ∷ 7 ∷ 1 ∷ 7 ∷ 2 ∷ 2 ∷ 8 ∷ 1 ∷ 3 ∷ 4 ∷ 2 ∷ 8 ∷ 0 ∷ 1 ∷ []);
-      lent = packLent (replicate 11 7) (replicate 1026 (place 3 1 2 true)) (replicate 60 5);
+      lent = packLent (replicate 11 7) (replicate 1026 (place 3 1 2 true)) (replicate 60 5) (replicate 19 9);
       answer = packed 28;
       left = packLent (6 ∷ 4 ∷ 1 ∷ 7 ∷ 2 ∷ 8 ∷ 0 ∷ 5 ∷ 3 ∷ 7 ∷ 7 ∷ [])
           (replicate 1024 (place 0 0 0 false) ++ (place 3 1 2 true ∷ place 3 1 2 true ∷ []))
           ((1 ∷ 0 ∷ 8 ∷ 0 ∷ 9 ∷ 0 ∷ 17 ∷ 0 ∷ 10 ∷ 0 ∷ 2 ∷ 2 ∷ 0 ∷ 14 ∷ 224 ∷ 0 ∷ 9 ∷ 128 ∷ 22 ∷ 2 ∷ 1 ∷ 177 ∷ 0 ∷ 84 ∷ 220 ∷ 0 ∷ 234 ∷ 160
-          ∷ []) ++ replicate 32 5);
+          ∷ []) ++ replicate 32 5)
+          (0 ∷ 5 ∷ 14 ∷ 13 ∷ 1 ∷ 8 ∷ 15 ∷ 4 ∷ 9 ∷ 7 ∷ 2 ∷ 12 ∷ 11 ∷ 10 ∷ 6 ∷ 3 ∷ 16 ∷ 9 ∷ 9 ∷ []);
     }
     ∷
     -- the last place of a loop has the vertex that is looked for, and its edge leads to another: accepted
@@ -587,12 +622,13 @@ packRows =
       list =
           (0 ∷ 4 ∷ 2 ∷ 3 ∷ 4 ∷ 6 ∷ 6 ∷ 5 ∷ 8 ∷ 7 ∷ 1 ∷ 2 ∷ 8 ∷ 5 ∷ 7 ∷ 4 ∷ 3 ∷ 7 ∷ 8 ∷ 2 ∷ 6 ∷ 0 ∷ 5 ∷ 4 ∷ 3 ∷ 6 ∷ 1 ∷ 5 ∷ 0 ∷ 1 ∷ 2 ∷ 1 ∷ 6
           ∷ 0 ∷ 3 ∷ 1 ∷ 7 ∷ 3 ∷ 8 ∷ 3 ∷ 0 ∷ 8 ∷ 6 ∷ 4 ∷ 5 ∷ 5 ∷ 1 ∷ 7 ∷ 0 ∷ 2 ∷ 8 ∷ []);
-      lent = packLent (replicate 11 7) (replicate 1026 (place 3 1 2 true)) (replicate 60 5);
+      lent = packLent (replicate 11 7) (replicate 1026 (place 3 1 2 true)) (replicate 60 5) (replicate 19 9);
       answer = packed 28;
       left = packLent (0 ∷ 8 ∷ 2 ∷ 5 ∷ 1 ∷ 3 ∷ 4 ∷ 6 ∷ 7 ∷ 7 ∷ 7 ∷ [])
           (replicate 1024 (place 0 0 0 false) ++ (place 3 1 2 true ∷ place 3 1 2 true ∷ []))
           ((1 ∷ 0 ∷ 8 ∷ 0 ∷ 9 ∷ 0 ∷ 17 ∷ 0 ∷ 10 ∷ 0 ∷ 2 ∷ 2 ∷ 0 ∷ 14 ∷ 224 ∷ 0 ∷ 216 ∷ 128 ∷ 24 ∷ 56 ∷ 8 ∷ 5 ∷ 0 ∷ 106 ∷ 84 ∷ 0 ∷ 169 ∷ 96
-          ∷ []) ++ replicate 32 5);
+          ∷ []) ++ replicate 32 5)
+          (0 ∷ 7 ∷ 14 ∷ 1 ∷ 5 ∷ 16 ∷ 13 ∷ 11 ∷ 9 ∷ 15 ∷ 4 ∷ 12 ∷ 2 ∷ 6 ∷ 10 ∷ 8 ∷ 3 ∷ 9 ∷ 9 ∷ []);
     }
     ∷
     -- turning about c through more triangles than the loop has places: accepted
@@ -603,12 +639,26 @@ packRows =
           (0 ∷ 1 ∷ 2 ∷ 1 ∷ 0 ∷ 3 ∷ 1 ∷ 3 ∷ 2 ∷ 2 ∷ 3 ∷ 4 ∷ 2 ∷ 4 ∷ 5 ∷ 0 ∷ 2 ∷ 6 ∷ 0 ∷ 6 ∷ 4 ∷ 0 ∷ 4 ∷ 7 ∷ 0 ∷ 7 ∷ 8 ∷ 0 ∷ 8 ∷ 9 ∷ 7 ∷ 4 ∷ 9
           ∷ 7 ∷ 9 ∷ 10 ∷ 9 ∷ 8 ∷ 10 ∷ 9 ∷ 4 ∷ 11 ∷ 4 ∷ 6 ∷ 12 ∷ 4 ∷ 12 ∷ 13 ∷ 4 ∷ 13 ∷ 14 ∷ 4 ∷ 14 ∷ 15 ∷ 4 ∷ 15 ∷ 16 ∷ 4 ∷ 16 ∷ 5 ∷ 12 ∷ 6
           ∷ 13 ∷ 13 ∷ 6 ∷ 14 ∷ 15 ∷ 14 ∷ 16 ∷ []);
-      lent = packLent (replicate 19 7) (replicate 1026 (place 3 1 2 true)) (replicate 60 5);
+      lent = packLent (replicate 19 7) (replicate 1026 (place 3 1 2 true)) (replicate 60 5) (replicate 25 9);
       answer = packed 30;
       left = packLent (0 ∷ 1 ∷ 2 ∷ 3 ∷ 4 ∷ 5 ∷ 6 ∷ 7 ∷ 8 ∷ 9 ∷ 11 ∷ 10 ∷ 12 ∷ 13 ∷ 14 ∷ 15 ∷ 16 ∷ 7 ∷ 7 ∷ [])
           (replicate 1024 (place 0 0 0 false) ++ (place 3 1 2 true ∷ place 3 1 2 true ∷ []))
           ((1 ∷ 0 ∷ 8 ∷ 0 ∷ 17 ∷ 0 ∷ 23 ∷ 0 ∷ 10 ∷ 0 ∷ 3 ∷ 2 ∷ 0 ∷ 16 ∷ 224 ∷ 128 ∷ 196 ∷ 0 ∷ 128 ∷ 13 ∷ 184 ∷ 1 ∷ 6 ∷ 195 ∷ 101 ∷ 128 ∷ 0
-          ∷ 45 ∷ 146 ∷ 203 ∷ []) ++ replicate 30 5);
+          ∷ 45 ∷ 146 ∷ 203 ∷ []) ++ replicate 30 5)
+          (0 ∷ 1 ∷ 2 ∷ 3 ∷ 4 ∷ 5 ∷ 6 ∷ 7 ∷ 8 ∷ 9 ∷ 10 ∷ 13 ∷ 11 ∷ 12 ∷ 14 ∷ 15 ∷ 16 ∷ 17 ∷ 18 ∷ 19 ∷ 20 ∷ 21 ∷ 22 ∷ 9 ∷ 9 ∷ []);
+    }
+    ∷
+    -- two pieces listed in turn: the order is 0 2 1 3: accepted
+    record {
+      limits = most;
+      vertices = 8;
+      list = (0 ∷ 1 ∷ 2 ∷ 3 ∷ 4 ∷ 5 ∷ 1 ∷ 0 ∷ 6 ∷ 4 ∷ 3 ∷ 7 ∷ []);
+      lent = packLent (replicate 10 7) (replicate 1026 (place 3 1 2 true)) (replicate 60 5) (9 ∷ 9 ∷ 9 ∷ 9 ∷ 9 ∷ 9 ∷ []);
+      answer = packed 19;
+      left = packLent (0 ∷ 1 ∷ 2 ∷ 4 ∷ 5 ∷ 6 ∷ 3 ∷ 7 ∷ 7 ∷ 7 ∷ [])
+          (replicate 1024 (place 0 0 0 false) ++ (place 3 1 2 true ∷ place 3 1 2 true ∷ []))
+          ((1 ∷ 0 ∷ 8 ∷ 0 ∷ 8 ∷ 0 ∷ 4 ∷ 0 ∷ 4 ∷ 0 ∷ 1 ∷ 2 ∷ 0 ∷ 5 ∷ 225 ∷ 182 ∷ 248 ∷ 109 ∷ 176 ∷ []) ++ replicate 41 5)
+          (0 ∷ 2 ∷ 1 ∷ 3 ∷ 9 ∷ 9 ∷ []);
     }
     ∷
     -- union from a loop with a link; the peak of places is reached by it: accepted
@@ -616,12 +666,13 @@ packRows =
       limits = most;
       vertices = 7;
       list = (0 ∷ 1 ∷ 2 ∷ 3 ∷ 1 ∷ 4 ∷ 1 ∷ 5 ∷ 6 ∷ 5 ∷ 1 ∷ 3 ∷ 5 ∷ 0 ∷ 2 ∷ 4 ∷ 5 ∷ 2 ∷ 1 ∷ 0 ∷ 4 ∷ 6 ∷ 5 ∷ 4 ∷ 0 ∷ 6 ∷ 4 ∷ []);
-      lent = packLent (replicate 9 7) (replicate 1026 (place 3 1 2 true)) (replicate 60 5);
+      lent = packLent (replicate 9 7) (replicate 1026 (place 3 1 2 true)) (replicate 60 5) (replicate 11 9);
       answer = packed 24;
       left = packLent (0 ∷ 1 ∷ 2 ∷ 4 ∷ 3 ∷ 5 ∷ 6 ∷ 7 ∷ 7 ∷ [])
           (replicate 1024 (place 0 0 0 false) ++ (place 3 1 2 true ∷ place 3 1 2 true ∷ []))
           ((1 ∷ 0 ∷ 8 ∷ 0 ∷ 7 ∷ 0 ∷ 9 ∷ 0 ∷ 8 ∷ 0 ∷ 2 ∷ 2 ∷ 0 ∷ 10 ∷ 224 ∷ 0 ∷ 220 ∷ 0 ∷ 240 ∷ 16 ∷ 8 ∷ 166 ∷ 219 ∷ 96 ∷ [])
-          ++ replicate 36 5);
+          ++ replicate 36 5)
+          (0 ∷ 6 ∷ 1 ∷ 3 ∷ 2 ∷ 4 ∷ 5 ∷ 7 ∷ 8 ∷ 9 ∷ 9 ∷ []);
     }
     ∷
     -- 1: four numbers: refusal 1
@@ -629,9 +680,9 @@ packRows =
       limits = most;
       vertices = 4;
       list = (0 ∷ 1 ∷ 2 ∷ 3 ∷ []);
-      lent = packLent (7 ∷ 7 ∷ 7 ∷ 7 ∷ 7 ∷ 7 ∷ []) (replicate 1026 (place 3 1 2 true)) (replicate 60 5);
+      lent = packLent (7 ∷ 7 ∷ 7 ∷ 7 ∷ 7 ∷ 7 ∷ []) (replicate 1026 (place 3 1 2 true)) (replicate 60 5) (9 ∷ 9 ∷ 9 ∷ []);
       answer = refusal 1;
-      left = packLent (7 ∷ 7 ∷ 7 ∷ 7 ∷ 7 ∷ 7 ∷ []) (replicate 1026 (place 3 1 2 true)) (replicate 60 5);
+      left = packLent (7 ∷ 7 ∷ 7 ∷ 7 ∷ 7 ∷ 7 ∷ []) (replicate 1026 (place 3 1 2 true)) (replicate 60 5) (9 ∷ 9 ∷ 9 ∷ []);
     }
     ∷
     -- 1 before 2: refusal 1
@@ -639,9 +690,9 @@ packRows =
       limits = most;
       vertices = 2;
       list = [];
-      lent = packLent (7 ∷ 7 ∷ 7 ∷ 7 ∷ []) (replicate 1026 (place 3 1 2 true)) (replicate 60 5);
+      lent = packLent (7 ∷ 7 ∷ 7 ∷ 7 ∷ []) (replicate 1026 (place 3 1 2 true)) (replicate 60 5) (9 ∷ 9 ∷ []);
       answer = refusal 1;
-      left = packLent (7 ∷ 7 ∷ 7 ∷ 7 ∷ []) (replicate 1026 (place 3 1 2 true)) (replicate 60 5);
+      left = packLent (7 ∷ 7 ∷ 7 ∷ 7 ∷ []) (replicate 1026 (place 3 1 2 true)) (replicate 60 5) (9 ∷ 9 ∷ []);
     }
     ∷
     -- 2: V 2: refusal 2
@@ -649,9 +700,9 @@ packRows =
       limits = most;
       vertices = 2;
       list = (0 ∷ 1 ∷ 0 ∷ []);
-      lent = packLent (7 ∷ 7 ∷ 7 ∷ 7 ∷ []) (replicate 1026 (place 3 1 2 true)) (replicate 60 5);
+      lent = packLent (7 ∷ 7 ∷ 7 ∷ 7 ∷ []) (replicate 1026 (place 3 1 2 true)) (replicate 60 5) (9 ∷ 9 ∷ 9 ∷ []);
       answer = refusal 2;
-      left = packLent (7 ∷ 7 ∷ 7 ∷ 7 ∷ []) (replicate 1026 (place 3 1 2 true)) (replicate 60 5);
+      left = packLent (7 ∷ 7 ∷ 7 ∷ 7 ∷ []) (replicate 1026 (place 3 1 2 true)) (replicate 60 5) (9 ∷ 9 ∷ 9 ∷ []);
     }
     ∷
     -- 2: V 4,097: refusal 2
@@ -659,9 +710,9 @@ packRows =
       limits = most;
       vertices = 4097;
       list = (0 ∷ 1 ∷ 2 ∷ []);
-      lent = packLent (replicate 4099 7) (replicate 1026 (place 3 1 2 true)) (replicate 60 5);
+      lent = packLent (replicate 4099 7) (replicate 1026 (place 3 1 2 true)) (replicate 60 5) (9 ∷ 9 ∷ 9 ∷ []);
       answer = refusal 2;
-      left = packLent (replicate 4099 7) (replicate 1026 (place 3 1 2 true)) (replicate 60 5);
+      left = packLent (replicate 4099 7) (replicate 1026 (place 3 1 2 true)) (replicate 60 5) (9 ∷ 9 ∷ 9 ∷ []);
     }
     ∷
     -- V 4,096: refusal 6
@@ -669,9 +720,9 @@ packRows =
       limits = most;
       vertices = 4096;
       list = (0 ∷ 1 ∷ 2 ∷ []);
-      lent = packLent (replicate 4098 7) (replicate 1026 (place 3 1 2 true)) (replicate 60 5);
+      lent = packLent (replicate 4098 7) (replicate 1026 (place 3 1 2 true)) (replicate 60 5) (9 ∷ 9 ∷ 9 ∷ []);
       answer = refusal 6;
-      left = packLent (replicate 4098 7) (replicate 1026 (place 3 1 2 true)) (replicate 60 5);
+      left = packLent (replicate 4098 7) (replicate 1026 (place 3 1 2 true)) (replicate 60 5) (9 ∷ 9 ∷ 9 ∷ []);
     }
     ∷
     -- 2 before 3: refusal 2
@@ -679,9 +730,9 @@ packRows =
       limits = most;
       vertices = 2;
       list = (0 ∷ 1 ∷ 2 ∷ []);
-      lent = packLent (7 ∷ 7 ∷ 7 ∷ 7 ∷ []) (replicate 1026 (place 3 1 2 true)) (replicate 60 5);
+      lent = packLent (7 ∷ 7 ∷ 7 ∷ 7 ∷ []) (replicate 1026 (place 3 1 2 true)) (replicate 60 5) (9 ∷ 9 ∷ 9 ∷ []);
       answer = refusal 2;
-      left = packLent (7 ∷ 7 ∷ 7 ∷ 7 ∷ []) (replicate 1026 (place 3 1 2 true)) (replicate 60 5);
+      left = packLent (7 ∷ 7 ∷ 7 ∷ 7 ∷ []) (replicate 1026 (place 3 1 2 true)) (replicate 60 5) (9 ∷ 9 ∷ 9 ∷ []);
     }
     ∷
     -- 3: a number is V: refusal 3
@@ -689,9 +740,9 @@ packRows =
       limits = most;
       vertices = 3;
       list = (0 ∷ 1 ∷ 3 ∷ []);
-      lent = packLent (7 ∷ 7 ∷ 7 ∷ 7 ∷ 7 ∷ []) (replicate 1026 (place 3 1 2 true)) (replicate 60 5);
+      lent = packLent (7 ∷ 7 ∷ 7 ∷ 7 ∷ 7 ∷ []) (replicate 1026 (place 3 1 2 true)) (replicate 60 5) (9 ∷ 9 ∷ 9 ∷ []);
       answer = refusal 3;
-      left = packLent (7 ∷ 7 ∷ 7 ∷ 7 ∷ 7 ∷ []) (replicate 1026 (place 3 1 2 true)) (replicate 60 5);
+      left = packLent (7 ∷ 7 ∷ 7 ∷ 7 ∷ 7 ∷ []) (replicate 1026 (place 3 1 2 true)) (replicate 60 5) (9 ∷ 9 ∷ 9 ∷ []);
     }
     ∷
     -- 3 before 4: refusal 3
@@ -699,9 +750,9 @@ packRows =
       limits = most;
       vertices = 3;
       list = (0 ∷ 3 ∷ 3 ∷ []);
-      lent = packLent (7 ∷ 7 ∷ 7 ∷ 7 ∷ 7 ∷ []) (replicate 1026 (place 3 1 2 true)) (replicate 60 5);
+      lent = packLent (7 ∷ 7 ∷ 7 ∷ 7 ∷ 7 ∷ []) (replicate 1026 (place 3 1 2 true)) (replicate 60 5) (9 ∷ 9 ∷ 9 ∷ []);
       answer = refusal 3;
-      left = packLent (7 ∷ 7 ∷ 7 ∷ 7 ∷ 7 ∷ []) (replicate 1026 (place 3 1 2 true)) (replicate 60 5);
+      left = packLent (7 ∷ 7 ∷ 7 ∷ 7 ∷ 7 ∷ []) (replicate 1026 (place 3 1 2 true)) (replicate 60 5) (9 ∷ 9 ∷ 9 ∷ []);
     }
     ∷
     -- 4: first and second corner: refusal 4
@@ -709,9 +760,9 @@ packRows =
       limits = most;
       vertices = 3;
       list = (0 ∷ 0 ∷ 1 ∷ 0 ∷ 1 ∷ 2 ∷ []);
-      lent = packLent (7 ∷ 7 ∷ 7 ∷ 7 ∷ 7 ∷ []) (replicate 1026 (place 3 1 2 true)) (replicate 60 5);
+      lent = packLent (7 ∷ 7 ∷ 7 ∷ 7 ∷ 7 ∷ []) (replicate 1026 (place 3 1 2 true)) (replicate 60 5) (9 ∷ 9 ∷ 9 ∷ 9 ∷ []);
       answer = refusal 4;
-      left = packLent (7 ∷ 7 ∷ 7 ∷ 7 ∷ 7 ∷ []) (replicate 1026 (place 3 1 2 true)) (replicate 60 5);
+      left = packLent (7 ∷ 7 ∷ 7 ∷ 7 ∷ 7 ∷ []) (replicate 1026 (place 3 1 2 true)) (replicate 60 5) (9 ∷ 9 ∷ 9 ∷ 9 ∷ []);
     }
     ∷
     -- 4: second and third corner: refusal 4
@@ -719,9 +770,9 @@ packRows =
       limits = most;
       vertices = 3;
       list = (0 ∷ 1 ∷ 2 ∷ 0 ∷ 1 ∷ 1 ∷ []);
-      lent = packLent (7 ∷ 7 ∷ 7 ∷ 7 ∷ 7 ∷ []) (replicate 1026 (place 3 1 2 true)) (replicate 60 5);
+      lent = packLent (7 ∷ 7 ∷ 7 ∷ 7 ∷ 7 ∷ []) (replicate 1026 (place 3 1 2 true)) (replicate 60 5) (9 ∷ 9 ∷ 9 ∷ 9 ∷ []);
       answer = refusal 4;
-      left = packLent (7 ∷ 7 ∷ 7 ∷ 7 ∷ 7 ∷ []) (replicate 1026 (place 3 1 2 true)) (replicate 60 5);
+      left = packLent (7 ∷ 7 ∷ 7 ∷ 7 ∷ 7 ∷ []) (replicate 1026 (place 3 1 2 true)) (replicate 60 5) (9 ∷ 9 ∷ 9 ∷ 9 ∷ []);
     }
     ∷
     -- 4: third and first corner: refusal 4
@@ -729,9 +780,9 @@ packRows =
       limits = most;
       vertices = 3;
       list = (0 ∷ 1 ∷ 2 ∷ 2 ∷ 0 ∷ 2 ∷ []);
-      lent = packLent (7 ∷ 7 ∷ 7 ∷ 7 ∷ 7 ∷ []) (replicate 1026 (place 3 1 2 true)) (replicate 60 5);
+      lent = packLent (7 ∷ 7 ∷ 7 ∷ 7 ∷ 7 ∷ []) (replicate 1026 (place 3 1 2 true)) (replicate 60 5) (9 ∷ 9 ∷ 9 ∷ 9 ∷ []);
       answer = refusal 4;
-      left = packLent (7 ∷ 7 ∷ 7 ∷ 7 ∷ 7 ∷ []) (replicate 1026 (place 3 1 2 true)) (replicate 60 5);
+      left = packLent (7 ∷ 7 ∷ 7 ∷ 7 ∷ 7 ∷ []) (replicate 1026 (place 3 1 2 true)) (replicate 60 5) (9 ∷ 9 ∷ 9 ∷ 9 ∷ []);
     }
     ∷
     -- 4 before 5: refusal 4
@@ -739,9 +790,9 @@ packRows =
       limits = most;
       vertices = 4;
       list = (0 ∷ 1 ∷ 2 ∷ 0 ∷ 1 ∷ 3 ∷ 3 ∷ 3 ∷ 0 ∷ []);
-      lent = packLent (7 ∷ 7 ∷ 7 ∷ 7 ∷ 7 ∷ 7 ∷ []) (replicate 1026 (place 3 1 2 true)) (replicate 60 5);
+      lent = packLent (7 ∷ 7 ∷ 7 ∷ 7 ∷ 7 ∷ 7 ∷ []) (replicate 1026 (place 3 1 2 true)) (replicate 60 5) (9 ∷ 9 ∷ 9 ∷ 9 ∷ 9 ∷ []);
       answer = refusal 4;
-      left = packLent (7 ∷ 7 ∷ 7 ∷ 7 ∷ 7 ∷ 7 ∷ []) (replicate 1026 (place 3 1 2 true)) (replicate 60 5);
+      left = packLent (7 ∷ 7 ∷ 7 ∷ 7 ∷ 7 ∷ 7 ∷ []) (replicate 1026 (place 3 1 2 true)) (replicate 60 5) (9 ∷ 9 ∷ 9 ∷ 9 ∷ 9 ∷ []);
     }
     ∷
     -- 5: second edges: refusal 5
@@ -749,9 +800,9 @@ packRows =
       limits = most;
       vertices = 5;
       list = (0 ∷ 1 ∷ 2 ∷ 3 ∷ 1 ∷ 2 ∷ 0 ∷ 4 ∷ 3 ∷ []);
-      lent = packLent (7 ∷ 7 ∷ 7 ∷ 7 ∷ 7 ∷ 7 ∷ 7 ∷ []) (replicate 1026 (place 3 1 2 true)) (replicate 60 5);
+      lent = packLent (7 ∷ 7 ∷ 7 ∷ 7 ∷ 7 ∷ 7 ∷ 7 ∷ []) (replicate 1026 (place 3 1 2 true)) (replicate 60 5) (9 ∷ 9 ∷ 9 ∷ 9 ∷ 9 ∷ []);
       answer = refusal 5;
-      left = packLent (7 ∷ 7 ∷ 7 ∷ 7 ∷ 7 ∷ 7 ∷ 7 ∷ []) (replicate 1026 (place 3 1 2 true)) (replicate 60 5);
+      left = packLent (7 ∷ 7 ∷ 7 ∷ 7 ∷ 7 ∷ 7 ∷ 7 ∷ []) (replicate 1026 (place 3 1 2 true)) (replicate 60 5) (9 ∷ 9 ∷ 9 ∷ 9 ∷ 9 ∷ []);
     }
     ∷
     -- 5: a first and a third edge: refusal 5
@@ -759,9 +810,9 @@ packRows =
       limits = most;
       vertices = 4;
       list = (0 ∷ 1 ∷ 2 ∷ 1 ∷ 3 ∷ 0 ∷ 2 ∷ 3 ∷ 1 ∷ []);
-      lent = packLent (7 ∷ 7 ∷ 7 ∷ 7 ∷ 7 ∷ 7 ∷ []) (replicate 1026 (place 3 1 2 true)) (replicate 60 5);
+      lent = packLent (7 ∷ 7 ∷ 7 ∷ 7 ∷ 7 ∷ 7 ∷ []) (replicate 1026 (place 3 1 2 true)) (replicate 60 5) (9 ∷ 9 ∷ 9 ∷ 9 ∷ 9 ∷ []);
       answer = refusal 5;
-      left = packLent (7 ∷ 7 ∷ 7 ∷ 7 ∷ 7 ∷ 7 ∷ []) (replicate 1026 (place 3 1 2 true)) (replicate 60 5);
+      left = packLent (7 ∷ 7 ∷ 7 ∷ 7 ∷ 7 ∷ 7 ∷ []) (replicate 1026 (place 3 1 2 true)) (replicate 60 5) (9 ∷ 9 ∷ 9 ∷ 9 ∷ 9 ∷ []);
     }
     ∷
     -- 5 before 6: refusal 5
@@ -769,9 +820,9 @@ packRows =
       limits = most;
       vertices = 5;
       list = (0 ∷ 1 ∷ 2 ∷ 0 ∷ 1 ∷ 3 ∷ []);
-      lent = packLent (7 ∷ 7 ∷ 7 ∷ 7 ∷ 7 ∷ 7 ∷ 7 ∷ []) (replicate 1026 (place 3 1 2 true)) (replicate 60 5);
+      lent = packLent (7 ∷ 7 ∷ 7 ∷ 7 ∷ 7 ∷ 7 ∷ 7 ∷ []) (replicate 1026 (place 3 1 2 true)) (replicate 60 5) (9 ∷ 9 ∷ 9 ∷ 9 ∷ []);
       answer = refusal 5;
-      left = packLent (7 ∷ 7 ∷ 7 ∷ 7 ∷ 7 ∷ 7 ∷ 7 ∷ []) (replicate 1026 (place 3 1 2 true)) (replicate 60 5);
+      left = packLent (7 ∷ 7 ∷ 7 ∷ 7 ∷ 7 ∷ 7 ∷ 7 ∷ []) (replicate 1026 (place 3 1 2 true)) (replicate 60 5) (9 ∷ 9 ∷ 9 ∷ 9 ∷ []);
     }
     ∷
     -- 6 before 7: refusal 6
@@ -779,9 +830,9 @@ packRows =
       limits = most;
       vertices = 6;
       list = (0 ∷ 1 ∷ 2 ∷ 0 ∷ 3 ∷ 4 ∷ []);
-      lent = packLent (replicate 8 7) (replicate 1026 (place 3 1 2 true)) (replicate 60 5);
+      lent = packLent (replicate 8 7) (replicate 1026 (place 3 1 2 true)) (replicate 60 5) (9 ∷ 9 ∷ 9 ∷ 9 ∷ []);
       answer = refusal 6;
-      left = packLent (replicate 8 7) (replicate 1026 (place 3 1 2 true)) (replicate 60 5);
+      left = packLent (replicate 8 7) (replicate 1026 (place 3 1 2 true)) (replicate 60 5) (9 ∷ 9 ∷ 9 ∷ 9 ∷ []);
     }
     ∷
     -- 6: vertex 0: refusal 6
@@ -789,9 +840,9 @@ packRows =
       limits = most;
       vertices = 4;
       list = (1 ∷ 2 ∷ 3 ∷ []);
-      lent = packLent (7 ∷ 7 ∷ 7 ∷ 7 ∷ 7 ∷ 7 ∷ []) (replicate 1026 (place 3 1 2 true)) (replicate 60 5);
+      lent = packLent (7 ∷ 7 ∷ 7 ∷ 7 ∷ 7 ∷ 7 ∷ []) (replicate 1026 (place 3 1 2 true)) (replicate 60 5) (9 ∷ 9 ∷ 9 ∷ []);
       answer = refusal 6;
-      left = packLent (7 ∷ 7 ∷ 7 ∷ 7 ∷ 7 ∷ 7 ∷ []) (replicate 1026 (place 3 1 2 true)) (replicate 60 5);
+      left = packLent (7 ∷ 7 ∷ 7 ∷ 7 ∷ 7 ∷ 7 ∷ []) (replicate 1026 (place 3 1 2 true)) (replicate 60 5) (9 ∷ 9 ∷ 9 ∷ []);
     }
     ∷
     -- 7: a closed fan and an open one: refusal 7
@@ -799,9 +850,9 @@ packRows =
       limits = most;
       vertices = 6;
       list = (0 ∷ 1 ∷ 2 ∷ 0 ∷ 2 ∷ 3 ∷ 0 ∷ 3 ∷ 1 ∷ 0 ∷ 4 ∷ 5 ∷ []);
-      lent = packLent (replicate 8 7) (replicate 1026 (place 3 1 2 true)) (replicate 60 5);
+      lent = packLent (replicate 8 7) (replicate 1026 (place 3 1 2 true)) (replicate 60 5) (9 ∷ 9 ∷ 9 ∷ 9 ∷ 9 ∷ 9 ∷ []);
       answer = refusal 7;
-      left = packLent (replicate 8 7) (replicate 1026 (place 3 1 2 true)) (replicate 60 5);
+      left = packLent (replicate 8 7) (replicate 1026 (place 3 1 2 true)) (replicate 60 5) (9 ∷ 9 ∷ 9 ∷ 9 ∷ 9 ∷ 9 ∷ []);
     }
     ∷
     -- 7: two closed fans: refusal 7
@@ -809,9 +860,9 @@ packRows =
       limits = most;
       vertices = 7;
       list = (0 ∷ 1 ∷ 2 ∷ 0 ∷ 2 ∷ 3 ∷ 0 ∷ 3 ∷ 1 ∷ 0 ∷ 4 ∷ 5 ∷ 0 ∷ 5 ∷ 6 ∷ 0 ∷ 6 ∷ 4 ∷ []);
-      lent = packLent (replicate 9 7) (replicate 1026 (place 3 1 2 true)) (replicate 60 5);
+      lent = packLent (replicate 9 7) (replicate 1026 (place 3 1 2 true)) (replicate 60 5) (replicate 8 9);
       answer = refusal 7;
-      left = packLent (replicate 9 7) (replicate 1026 (place 3 1 2 true)) (replicate 60 5);
+      left = packLent (replicate 9 7) (replicate 1026 (place 3 1 2 true)) (replicate 60 5) (replicate 8 9);
     }
     ∷
     -- 7: vertex 1: refusal 7
@@ -819,9 +870,9 @@ packRows =
       limits = most;
       vertices = 5;
       list = (1 ∷ 0 ∷ 2 ∷ 1 ∷ 3 ∷ 4 ∷ []);
-      lent = packLent (7 ∷ 7 ∷ 7 ∷ 7 ∷ 7 ∷ 7 ∷ 7 ∷ []) (replicate 1026 (place 3 1 2 true)) (replicate 60 5);
+      lent = packLent (7 ∷ 7 ∷ 7 ∷ 7 ∷ 7 ∷ 7 ∷ 7 ∷ []) (replicate 1026 (place 3 1 2 true)) (replicate 60 5) (9 ∷ 9 ∷ 9 ∷ 9 ∷ []);
       answer = refusal 7;
-      left = packLent (7 ∷ 7 ∷ 7 ∷ 7 ∷ 7 ∷ 7 ∷ 7 ∷ []) (replicate 1026 (place 3 1 2 true)) (replicate 60 5);
+      left = packLent (7 ∷ 7 ∷ 7 ∷ 7 ∷ 7 ∷ 7 ∷ 7 ∷ []) (replicate 1026 (place 3 1 2 true)) (replicate 60 5) (9 ∷ 9 ∷ 9 ∷ 9 ∷ []);
     }
     ∷
     -- 7: the last vertex: refusal 7
@@ -829,9 +880,9 @@ packRows =
       limits = most;
       vertices = 5;
       list = (4 ∷ 0 ∷ 1 ∷ 4 ∷ 2 ∷ 3 ∷ []);
-      lent = packLent (7 ∷ 7 ∷ 7 ∷ 7 ∷ 7 ∷ 7 ∷ 7 ∷ []) (replicate 1026 (place 3 1 2 true)) (replicate 60 5);
+      lent = packLent (7 ∷ 7 ∷ 7 ∷ 7 ∷ 7 ∷ 7 ∷ 7 ∷ []) (replicate 1026 (place 3 1 2 true)) (replicate 60 5) (9 ∷ 9 ∷ 9 ∷ 9 ∷ []);
       answer = refusal 7;
-      left = packLent (7 ∷ 7 ∷ 7 ∷ 7 ∷ 7 ∷ 7 ∷ 7 ∷ []) (replicate 1026 (place 3 1 2 true)) (replicate 60 5);
+      left = packLent (7 ∷ 7 ∷ 7 ∷ 7 ∷ 7 ∷ 7 ∷ 7 ∷ []) (replicate 1026 (place 3 1 2 true)) (replicate 60 5) (9 ∷ 9 ∷ 9 ∷ 9 ∷ []);
     }
     ∷
     -- one fan, listed from its middle: accepted
@@ -839,10 +890,10 @@ packRows =
       limits = most;
       vertices = 5;
       list = (0 ∷ 2 ∷ 3 ∷ 0 ∷ 1 ∷ 2 ∷ 0 ∷ 3 ∷ 4 ∷ []);
-      lent = packLent (7 ∷ 7 ∷ 7 ∷ 7 ∷ 7 ∷ 7 ∷ 7 ∷ []) (replicate 1026 (place 3 1 2 true)) (replicate 60 5);
+      lent = packLent (7 ∷ 7 ∷ 7 ∷ 7 ∷ 7 ∷ 7 ∷ 7 ∷ []) (replicate 1026 (place 3 1 2 true)) (replicate 60 5) (9 ∷ 9 ∷ 9 ∷ 9 ∷ 9 ∷ []);
       answer = packed 17;
       left = packLent (0 ∷ 3 ∷ 1 ∷ 2 ∷ 4 ∷ 7 ∷ 7 ∷ []) (replicate 1024 (place 0 0 0 false) ++ (place 3 1 2 true ∷ place 3 1 2 true ∷ []))
-          ((1 ∷ 0 ∷ 8 ∷ 0 ∷ 5 ∷ 0 ∷ 3 ∷ 0 ∷ 4 ∷ 0 ∷ 1 ∷ 2 ∷ 0 ∷ 3 ∷ 225 ∷ 176 ∷ 219 ∷ []) ++ replicate 43 5);
+          ((1 ∷ 0 ∷ 8 ∷ 0 ∷ 5 ∷ 0 ∷ 3 ∷ 0 ∷ 4 ∷ 0 ∷ 1 ∷ 2 ∷ 0 ∷ 3 ∷ 225 ∷ 176 ∷ 219 ∷ []) ++ replicate 43 5) (0 ∷ 1 ∷ 2 ∷ 9 ∷ 9 ∷ []);
     }
     ∷
     -- 24,576 numbers: refusal 4
@@ -850,9 +901,9 @@ packRows =
       limits = most;
       vertices = 3;
       list = (replicate 24576 0);
-      lent = packLent (7 ∷ 7 ∷ 7 ∷ 7 ∷ 7 ∷ []) (replicate 1026 (place 3 1 2 true)) (replicate 60 5);
+      lent = packLent (7 ∷ 7 ∷ 7 ∷ 7 ∷ 7 ∷ []) (replicate 1026 (place 3 1 2 true)) (replicate 60 5) (replicate 8194 9);
       answer = refusal 4;
-      left = packLent (7 ∷ 7 ∷ 7 ∷ 7 ∷ 7 ∷ []) (replicate 1026 (place 3 1 2 true)) (replicate 60 5);
+      left = packLent (7 ∷ 7 ∷ 7 ∷ 7 ∷ 7 ∷ []) (replicate 1026 (place 3 1 2 true)) (replicate 60 5) (replicate 8194 9);
     }
     ∷
     -- 1: 24,579 numbers: refusal 1
@@ -860,9 +911,9 @@ packRows =
       limits = most;
       vertices = 3;
       list = (replicate 24579 0);
-      lent = packLent (7 ∷ 7 ∷ 7 ∷ 7 ∷ 7 ∷ []) (replicate 1026 (place 3 1 2 true)) (replicate 60 5);
+      lent = packLent (7 ∷ 7 ∷ 7 ∷ 7 ∷ 7 ∷ []) (replicate 1026 (place 3 1 2 true)) (replicate 60 5) (replicate 8195 9);
       answer = refusal 1;
-      left = packLent (7 ∷ 7 ∷ 7 ∷ 7 ∷ 7 ∷ []) (replicate 1026 (place 3 1 2 true)) (replicate 60 5);
+      left = packLent (7 ∷ 7 ∷ 7 ∷ 7 ∷ 7 ∷ []) (replicate 1026 (place 3 1 2 true)) (replicate 60 5) (replicate 8195 9);
     }
     ∷
     -- 7 before 8: refusal 7
@@ -870,9 +921,9 @@ packRows =
       limits = most;
       vertices = 5;
       list = (0 ∷ 1 ∷ 2 ∷ 0 ∷ 3 ∷ 4 ∷ []);
-      lent = packLent [] (replicate 1026 (place 3 1 2 true)) (replicate 60 5);
+      lent = packLent [] (replicate 1026 (place 3 1 2 true)) (replicate 60 5) (9 ∷ 9 ∷ 9 ∷ 9 ∷ []);
       answer = refusal 7;
-      left = packLent [] (replicate 1026 (place 3 1 2 true)) (replicate 60 5);
+      left = packLent [] (replicate 1026 (place 3 1 2 true)) (replicate 60 5) (9 ∷ 9 ∷ 9 ∷ 9 ∷ []);
     }
     ∷
     -- 8: numbering: refusal 8
@@ -880,9 +931,9 @@ packRows =
       limits = most;
       vertices = 3;
       list = (0 ∷ 1 ∷ 2 ∷ []);
-      lent = packLent (7 ∷ 7 ∷ []) (replicate 1026 (place 3 1 2 true)) (replicate 60 5);
+      lent = packLent (7 ∷ 7 ∷ []) (replicate 1026 (place 3 1 2 true)) (replicate 60 5) (9 ∷ 9 ∷ 9 ∷ []);
       answer = refusal 8;
-      left = packLent (7 ∷ 7 ∷ []) (replicate 1026 (place 3 1 2 true)) (replicate 60 5);
+      left = packLent (7 ∷ 7 ∷ []) (replicate 1026 (place 3 1 2 true)) (replicate 60 5) (9 ∷ 9 ∷ 9 ∷ []);
     }
     ∷
     -- 8: places: refusal 8
@@ -890,9 +941,9 @@ packRows =
       limits = most;
       vertices = 3;
       list = (0 ∷ 1 ∷ 2 ∷ []);
-      lent = packLent (7 ∷ 7 ∷ 7 ∷ 7 ∷ 7 ∷ []) (replicate 1023 (place 3 1 2 true)) (replicate 60 5);
+      lent = packLent (7 ∷ 7 ∷ 7 ∷ 7 ∷ 7 ∷ []) (replicate 1023 (place 3 1 2 true)) (replicate 60 5) (9 ∷ 9 ∷ 9 ∷ []);
       answer = refusal 8;
-      left = packLent (7 ∷ 7 ∷ 7 ∷ 7 ∷ 7 ∷ []) (replicate 1023 (place 3 1 2 true)) (replicate 60 5);
+      left = packLent (7 ∷ 7 ∷ 7 ∷ 7 ∷ 7 ∷ []) (replicate 1023 (place 3 1 2 true)) (replicate 60 5) (9 ∷ 9 ∷ 9 ∷ []);
     }
     ∷
     -- 8 before 9: refusal 8
@@ -900,9 +951,9 @@ packRows =
       limits = record { places = 3; loops = 1 };
       vertices = 4;
       list = (0 ∷ 1 ∷ 2 ∷ 1 ∷ 0 ∷ 3 ∷ []);
-      lent = packLent [] (replicate 1026 (place 3 1 2 true)) (replicate 60 5);
+      lent = packLent [] (replicate 1026 (place 3 1 2 true)) (replicate 60 5) (9 ∷ 9 ∷ 9 ∷ 9 ∷ []);
       answer = refusal 8;
-      left = packLent [] (replicate 1026 (place 3 1 2 true)) (replicate 60 5);
+      left = packLent [] (replicate 1026 (place 3 1 2 true)) (replicate 60 5) (9 ∷ 9 ∷ 9 ∷ 9 ∷ []);
     }
     ∷
     -- buffers just long enough: accepted
@@ -910,10 +961,90 @@ packRows =
       limits = most;
       vertices = 3;
       list = (0 ∷ 1 ∷ 2 ∷ []);
-      lent = packLent (7 ∷ 7 ∷ 7 ∷ []) (replicate 1024 (place 3 1 2 true)) (replicate 16 5);
+      lent = packLent (7 ∷ 7 ∷ 7 ∷ []) (replicate 1024 (place 3 1 2 true)) (replicate 16 5) (9 ∷ []);
       answer = packed 16;
       left = packLent (0 ∷ 1 ∷ 2 ∷ []) (replicate 1024 (place 0 0 0 false))
-          (1 ∷ 0 ∷ 8 ∷ 0 ∷ 3 ∷ 0 ∷ 1 ∷ 0 ∷ 3 ∷ 0 ∷ 1 ∷ 2 ∷ 0 ∷ 2 ∷ 237 ∷ 176 ∷ []);
+          (1 ∷ 0 ∷ 8 ∷ 0 ∷ 3 ∷ 0 ∷ 1 ∷ 0 ∷ 3 ∷ 0 ∷ 1 ∷ 2 ∷ 0 ∷ 2 ∷ 237 ∷ 176 ∷ []) (0 ∷ []);
+    }
+    ∷
+    -- 22: no order entry: refusal 22
+    record {
+      limits = most;
+      vertices = 3;
+      list = (0 ∷ 1 ∷ 2 ∷ []);
+      lent = packLent (7 ∷ 7 ∷ 7 ∷ 7 ∷ 7 ∷ []) (replicate 1026 (place 3 1 2 true)) (replicate 60 5) [];
+      answer = refusal 22;
+      left = packLent (7 ∷ 7 ∷ 7 ∷ 7 ∷ 7 ∷ []) (replicate 1026 (place 3 1 2 true)) (replicate 60 5) [];
+    }
+    ∷
+    -- 22: an order entry for each triangle but one: refusal 22
+    record {
+      limits = most;
+      vertices = 4;
+      list = (0 ∷ 1 ∷ 2 ∷ 1 ∷ 0 ∷ 3 ∷ []);
+      lent = packLent (7 ∷ 7 ∷ 7 ∷ 7 ∷ 7 ∷ 7 ∷ []) (replicate 1026 (place 3 1 2 true)) (replicate 60 5) (9 ∷ []);
+      answer = refusal 22;
+      left = packLent (7 ∷ 7 ∷ 7 ∷ 7 ∷ 7 ∷ 7 ∷ []) (replicate 1026 (place 3 1 2 true)) (replicate 60 5) (9 ∷ []);
+    }
+    ∷
+    -- 8 before 22: numbering: refusal 8
+    record {
+      limits = most;
+      vertices = 3;
+      list = (0 ∷ 1 ∷ 2 ∷ []);
+      lent = packLent (7 ∷ 7 ∷ []) (replicate 1026 (place 3 1 2 true)) (replicate 60 5) [];
+      answer = refusal 8;
+      left = packLent (7 ∷ 7 ∷ []) (replicate 1026 (place 3 1 2 true)) (replicate 60 5) [];
+    }
+    ∷
+    -- 8 before 22: places: refusal 8
+    record {
+      limits = most;
+      vertices = 3;
+      list = (0 ∷ 1 ∷ 2 ∷ []);
+      lent = packLent (7 ∷ 7 ∷ 7 ∷ 7 ∷ 7 ∷ []) (replicate 1023 (place 3 1 2 true)) (replicate 60 5) [];
+      answer = refusal 8;
+      left = packLent (7 ∷ 7 ∷ 7 ∷ 7 ∷ 7 ∷ []) (replicate 1023 (place 3 1 2 true)) (replicate 60 5) [];
+    }
+    ∷
+    -- 7 before 22: refusal 7
+    record {
+      limits = most;
+      vertices = 5;
+      list = (0 ∷ 1 ∷ 2 ∷ 0 ∷ 3 ∷ 4 ∷ []);
+      lent = packLent (7 ∷ 7 ∷ 7 ∷ 7 ∷ 7 ∷ 7 ∷ 7 ∷ []) (replicate 1026 (place 3 1 2 true)) (replicate 60 5) [];
+      answer = refusal 7;
+      left = packLent (7 ∷ 7 ∷ 7 ∷ 7 ∷ 7 ∷ 7 ∷ 7 ∷ []) (replicate 1026 (place 3 1 2 true)) (replicate 60 5) [];
+    }
+    ∷
+    -- 22 before 9: refusal 22
+    record {
+      limits = record { places = 3; loops = 1 };
+      vertices = 4;
+      list = (0 ∷ 1 ∷ 2 ∷ 1 ∷ 0 ∷ 3 ∷ []);
+      lent = packLent (7 ∷ 7 ∷ 7 ∷ 7 ∷ 7 ∷ 7 ∷ []) (replicate 1026 (place 3 1 2 true)) (replicate 60 5) (9 ∷ []);
+      answer = refusal 22;
+      left = packLent (7 ∷ 7 ∷ 7 ∷ 7 ∷ 7 ∷ 7 ∷ []) (replicate 1026 (place 3 1 2 true)) (replicate 60 5) (9 ∷ []);
+    }
+    ∷
+    -- 22 before 10: refusal 22
+    record {
+      limits = record { places = 1024; loops = 1 };
+      vertices = 6;
+      list = (1 ∷ 3 ∷ 2 ∷ 2 ∷ 4 ∷ 5 ∷ 2 ∷ 3 ∷ 4 ∷ 1 ∷ 0 ∷ 3 ∷ 2 ∷ 5 ∷ 0 ∷ 0 ∷ 1 ∷ 2 ∷ []);
+      lent = packLent (replicate 8 7) (replicate 1026 (place 3 1 2 true)) (replicate 60 5) (9 ∷ 9 ∷ 9 ∷ 9 ∷ 9 ∷ []);
+      answer = refusal 22;
+      left = packLent (replicate 8 7) (replicate 1026 (place 3 1 2 true)) (replicate 60 5) (9 ∷ 9 ∷ 9 ∷ 9 ∷ 9 ∷ []);
+    }
+    ∷
+    -- 22 before 11: refusal 22
+    record {
+      limits = most;
+      vertices = 3;
+      list = (0 ∷ 1 ∷ 2 ∷ []);
+      lent = packLent (7 ∷ 7 ∷ 7 ∷ 7 ∷ 7 ∷ []) (replicate 1026 (place 3 1 2 true)) (replicate 15 5) [];
+      answer = refusal 22;
+      left = packLent (7 ∷ 7 ∷ 7 ∷ 7 ∷ 7 ∷ []) (replicate 1026 (place 3 1 2 true)) (replicate 15 5) [];
     }
     ∷
     -- 9: refusal 9
@@ -921,10 +1052,10 @@ packRows =
       limits = record { places = 3; loops = 1 };
       vertices = 4;
       list = (0 ∷ 1 ∷ 2 ∷ 1 ∷ 0 ∷ 3 ∷ []);
-      lent = packLent (7 ∷ 7 ∷ 7 ∷ 7 ∷ 7 ∷ 7 ∷ []) (replicate 1026 (place 3 1 2 true)) (replicate 60 5);
+      lent = packLent (7 ∷ 7 ∷ 7 ∷ 7 ∷ 7 ∷ 7 ∷ []) (replicate 1026 (place 3 1 2 true)) (replicate 60 5) (9 ∷ 9 ∷ 9 ∷ 9 ∷ []);
       answer = refusal 9;
       left = packLent (0 ∷ 0 ∷ 0 ∷ 0 ∷ 7 ∷ 7 ∷ []) (replicate 1024 (place 0 0 0 false) ++ (place 3 1 2 true ∷ place 3 1 2 true ∷ []))
-          (replicate 60 0);
+          (replicate 60 0) (0 ∷ 0 ∷ 9 ∷ 9 ∷ []);
     }
     ∷
     -- 10: refusal 10
@@ -932,10 +1063,11 @@ packRows =
       limits = record { places = 1024; loops = 1 };
       vertices = 6;
       list = (1 ∷ 3 ∷ 2 ∷ 2 ∷ 4 ∷ 5 ∷ 2 ∷ 3 ∷ 4 ∷ 1 ∷ 0 ∷ 3 ∷ 2 ∷ 5 ∷ 0 ∷ 0 ∷ 1 ∷ 2 ∷ []);
-      lent = packLent (replicate 8 7) (replicate 1026 (place 3 1 2 true)) (replicate 60 5);
+      lent = packLent (replicate 8 7) (replicate 1026 (place 3 1 2 true)) (replicate 60 5) (replicate 8 9);
       answer = refusal 10;
       left = packLent (0 ∷ 0 ∷ 0 ∷ 0 ∷ 0 ∷ 0 ∷ 7 ∷ 7 ∷ [])
-          (replicate 1024 (place 0 0 0 false) ++ (place 3 1 2 true ∷ place 3 1 2 true ∷ [])) (replicate 60 0);
+          (replicate 1024 (place 0 0 0 false) ++ (place 3 1 2 true ∷ place 3 1 2 true ∷ [])) (replicate 60 0)
+          (0 ∷ 0 ∷ 0 ∷ 0 ∷ 0 ∷ 0 ∷ 9 ∷ 9 ∷ []);
     }
     ∷
     -- 9 before 10 at one operation: refusal 9
@@ -943,10 +1075,11 @@ packRows =
       limits = record { places = 6; loops = 1 };
       vertices = 6;
       list = (1 ∷ 3 ∷ 2 ∷ 2 ∷ 4 ∷ 5 ∷ 2 ∷ 3 ∷ 4 ∷ 1 ∷ 0 ∷ 3 ∷ 2 ∷ 5 ∷ 0 ∷ 0 ∷ 1 ∷ 2 ∷ []);
-      lent = packLent (replicate 8 7) (replicate 1026 (place 3 1 2 true)) (replicate 60 5);
+      lent = packLent (replicate 8 7) (replicate 1026 (place 3 1 2 true)) (replicate 60 5) (replicate 8 9);
       answer = refusal 9;
       left = packLent (0 ∷ 0 ∷ 0 ∷ 0 ∷ 0 ∷ 0 ∷ 7 ∷ 7 ∷ [])
-          (replicate 1024 (place 0 0 0 false) ++ (place 3 1 2 true ∷ place 3 1 2 true ∷ [])) (replicate 60 0);
+          (replicate 1024 (place 0 0 0 false) ++ (place 3 1 2 true ∷ place 3 1 2 true ∷ [])) (replicate 60 0)
+          (0 ∷ 0 ∷ 0 ∷ 0 ∷ 0 ∷ 0 ∷ 9 ∷ 9 ∷ []);
     }
     ∷
     -- 10 at an operation before that of 9: refusal 10
@@ -954,10 +1087,11 @@ packRows =
       limits = record { places = 6; loops = 1 };
       vertices = 6;
       list = (0 ∷ 1 ∷ 2 ∷ 0 ∷ 2 ∷ 3 ∷ 1 ∷ 4 ∷ 5 ∷ 1 ∷ 5 ∷ 2 ∷ 4 ∷ 0 ∷ 5 ∷ 0 ∷ 3 ∷ 5 ∷ []);
-      lent = packLent (replicate 8 7) (replicate 1026 (place 3 1 2 true)) (replicate 60 5);
+      lent = packLent (replicate 8 7) (replicate 1026 (place 3 1 2 true)) (replicate 60 5) (replicate 8 9);
       answer = refusal 10;
       left = packLent (0 ∷ 0 ∷ 0 ∷ 0 ∷ 0 ∷ 0 ∷ 7 ∷ 7 ∷ [])
-          (replicate 1024 (place 0 0 0 false) ++ (place 3 1 2 true ∷ place 3 1 2 true ∷ [])) (replicate 60 0);
+          (replicate 1024 (place 0 0 0 false) ++ (place 3 1 2 true ∷ place 3 1 2 true ∷ [])) (replicate 60 0)
+          (0 ∷ 0 ∷ 0 ∷ 0 ∷ 0 ∷ 0 ∷ 9 ∷ 9 ∷ []);
     }
     ∷
     -- 9 alone, later: refusal 9
@@ -965,10 +1099,11 @@ packRows =
       limits = record { places = 6; loops = 100 };
       vertices = 6;
       list = (0 ∷ 1 ∷ 2 ∷ 0 ∷ 2 ∷ 3 ∷ 1 ∷ 4 ∷ 5 ∷ 1 ∷ 5 ∷ 2 ∷ 4 ∷ 0 ∷ 5 ∷ 0 ∷ 3 ∷ 5 ∷ []);
-      lent = packLent (replicate 8 7) (replicate 1026 (place 3 1 2 true)) (replicate 60 5);
+      lent = packLent (replicate 8 7) (replicate 1026 (place 3 1 2 true)) (replicate 60 5) (replicate 8 9);
       answer = refusal 9;
       left = packLent (0 ∷ 0 ∷ 0 ∷ 0 ∷ 0 ∷ 0 ∷ 7 ∷ 7 ∷ [])
-          (replicate 1024 (place 0 0 0 false) ++ (place 3 1 2 true ∷ place 3 1 2 true ∷ [])) (replicate 60 0);
+          (replicate 1024 (place 0 0 0 false) ++ (place 3 1 2 true ∷ place 3 1 2 true ∷ [])) (replicate 60 0)
+          (0 ∷ 0 ∷ 0 ∷ 0 ∷ 0 ∷ 0 ∷ 9 ∷ 9 ∷ []);
     }
     ∷
     -- no 9: places are counted in shortened loops: accepted
@@ -976,10 +1111,10 @@ packRows =
       limits = record { places = 3; loops = 1 };
       vertices = 4;
       list = (0 ∷ 2 ∷ 1 ∷ 1 ∷ 3 ∷ 0 ∷ []);
-      lent = packLent (7 ∷ 7 ∷ 7 ∷ 7 ∷ 7 ∷ 7 ∷ []) (replicate 1026 (place 3 1 2 true)) (replicate 60 5);
+      lent = packLent (7 ∷ 7 ∷ 7 ∷ 7 ∷ 7 ∷ 7 ∷ []) (replicate 1026 (place 3 1 2 true)) (replicate 60 5) (9 ∷ 9 ∷ 9 ∷ 9 ∷ []);
       answer = packed 17;
       left = packLent (0 ∷ 2 ∷ 1 ∷ 3 ∷ 7 ∷ 7 ∷ []) (replicate 1024 (place 0 0 0 false) ++ (place 3 1 2 true ∷ place 3 1 2 true ∷ []))
-          ((1 ∷ 0 ∷ 8 ∷ 0 ∷ 4 ∷ 0 ∷ 2 ∷ 0 ∷ 3 ∷ 0 ∷ 1 ∷ 2 ∷ 0 ∷ 3 ∷ 237 ∷ 134 ∷ 192 ∷ []) ++ replicate 43 5);
+          ((1 ∷ 0 ∷ 8 ∷ 0 ∷ 4 ∷ 0 ∷ 2 ∷ 0 ∷ 3 ∷ 0 ∷ 1 ∷ 2 ∷ 0 ∷ 3 ∷ 237 ∷ 134 ∷ 192 ∷ []) ++ replicate 43 5) (0 ∷ 1 ∷ 9 ∷ 9 ∷ []);
     }
     ∷
     -- 9: one place less: refusal 9
@@ -987,10 +1122,10 @@ packRows =
       limits = record { places = 2; loops = 1 };
       vertices = 4;
       list = (0 ∷ 2 ∷ 1 ∷ 1 ∷ 3 ∷ 0 ∷ []);
-      lent = packLent (7 ∷ 7 ∷ 7 ∷ 7 ∷ 7 ∷ 7 ∷ []) (replicate 1026 (place 3 1 2 true)) (replicate 60 5);
+      lent = packLent (7 ∷ 7 ∷ 7 ∷ 7 ∷ 7 ∷ 7 ∷ []) (replicate 1026 (place 3 1 2 true)) (replicate 60 5) (9 ∷ 9 ∷ 9 ∷ 9 ∷ []);
       answer = refusal 9;
       left = packLent (0 ∷ 0 ∷ 0 ∷ 0 ∷ 7 ∷ 7 ∷ []) (replicate 1024 (place 0 0 0 false) ++ (place 3 1 2 true ∷ place 3 1 2 true ∷ []))
-          (replicate 60 0);
+          (replicate 60 0) (0 ∷ 0 ∷ 9 ∷ 9 ∷ []);
     }
     ∷
     -- 9 before 11: refusal 9
@@ -998,9 +1133,10 @@ packRows =
       limits = record { places = 3; loops = 1 };
       vertices = 4;
       list = (0 ∷ 1 ∷ 2 ∷ 1 ∷ 0 ∷ 3 ∷ []);
-      lent = packLent (7 ∷ 7 ∷ 7 ∷ 7 ∷ 7 ∷ 7 ∷ []) (replicate 1026 (place 3 1 2 true)) [];
+      lent = packLent (7 ∷ 7 ∷ 7 ∷ 7 ∷ 7 ∷ 7 ∷ []) (replicate 1026 (place 3 1 2 true)) [] (9 ∷ 9 ∷ 9 ∷ 9 ∷ []);
       answer = refusal 9;
-      left = packLent (0 ∷ 0 ∷ 0 ∷ 0 ∷ 7 ∷ 7 ∷ []) (replicate 1024 (place 0 0 0 false) ++ (place 3 1 2 true ∷ place 3 1 2 true ∷ [])) [];
+      left = packLent (0 ∷ 0 ∷ 0 ∷ 0 ∷ 7 ∷ 7 ∷ []) (replicate 1024 (place 0 0 0 false) ++ (place 3 1 2 true ∷ place 3 1 2 true ∷ [])) []
+          (0 ∷ 0 ∷ 9 ∷ 9 ∷ []);
     }
     ∷
     -- 10 before 11: refusal 10
@@ -1008,10 +1144,10 @@ packRows =
       limits = record { places = 1024; loops = 1 };
       vertices = 6;
       list = (1 ∷ 3 ∷ 2 ∷ 2 ∷ 4 ∷ 5 ∷ 2 ∷ 3 ∷ 4 ∷ 1 ∷ 0 ∷ 3 ∷ 2 ∷ 5 ∷ 0 ∷ 0 ∷ 1 ∷ 2 ∷ []);
-      lent = packLent (replicate 8 7) (replicate 1026 (place 3 1 2 true)) [];
+      lent = packLent (replicate 8 7) (replicate 1026 (place 3 1 2 true)) [] (replicate 8 9);
       answer = refusal 10;
       left = packLent (0 ∷ 0 ∷ 0 ∷ 0 ∷ 0 ∷ 0 ∷ 7 ∷ 7 ∷ [])
-          (replicate 1024 (place 0 0 0 false) ++ (place 3 1 2 true ∷ place 3 1 2 true ∷ [])) [];
+          (replicate 1024 (place 0 0 0 false) ++ (place 3 1 2 true ∷ place 3 1 2 true ∷ [])) [] (0 ∷ 0 ∷ 0 ∷ 0 ∷ 0 ∷ 0 ∷ 9 ∷ 9 ∷ []);
     }
     ∷
     -- 11: refusal 11
@@ -1019,10 +1155,10 @@ packRows =
       limits = most;
       vertices = 3;
       list = (0 ∷ 1 ∷ 2 ∷ []);
-      lent = packLent (7 ∷ 7 ∷ 7 ∷ 7 ∷ 7 ∷ []) (replicate 1026 (place 3 1 2 true)) (replicate 15 5);
+      lent = packLent (7 ∷ 7 ∷ 7 ∷ 7 ∷ 7 ∷ []) (replicate 1026 (place 3 1 2 true)) (replicate 15 5) (9 ∷ 9 ∷ 9 ∷ []);
       answer = refusal 11;
       left = packLent (0 ∷ 0 ∷ 0 ∷ 7 ∷ 7 ∷ []) (replicate 1024 (place 0 0 0 false) ++ (place 3 1 2 true ∷ place 3 1 2 true ∷ []))
-          (replicate 15 0);
+          (replicate 15 0) (0 ∷ 9 ∷ 9 ∷ []);
     }
     ∷
     []
@@ -1759,6 +1895,14 @@ unpackRows =
           ∷ 9 ∷ 4 ∷ 10 ∷ 7 ∷ 9 ∷ 11 ∷ 9 ∷ 8 ∷ 11 ∷ 4 ∷ 6 ∷ 12 ∷ 4 ∷ 12 ∷ 13 ∷ 4 ∷ 13 ∷ 14 ∷ 4 ∷ 14 ∷ 15 ∷ 4 ∷ 15 ∷ 16 ∷ 4 ∷ 16 ∷ 5 ∷ 12 ∷ 6
           ∷ 13 ∷ 13 ∷ 6 ∷ 14 ∷ 15 ∷ 14 ∷ 16 ∷ 6 ∷ [])
           (replicate 1024 (place 0 0 0 false));
+    }
+    ∷
+    -- two pieces listed in turn: the order is 0 2 1 3: accepted
+    record {
+      bytes = (1 ∷ 0 ∷ 8 ∷ 0 ∷ 8 ∷ 0 ∷ 4 ∷ 0 ∷ 4 ∷ 0 ∷ 1 ∷ 2 ∷ 0 ∷ 5 ∷ 225 ∷ 182 ∷ 248 ∷ 109 ∷ 176 ∷ []);
+      lent = unpackLent (replicate 13 6) (replicate 1024 (place 3 1 2 true));
+      answer = modelOf 8 4 (totalsOf 10 2 0 (pos 2));
+      left = unpackLent (0 ∷ 1 ∷ 2 ∷ 1 ∷ 0 ∷ 3 ∷ 4 ∷ 5 ∷ 6 ∷ 5 ∷ 4 ∷ 7 ∷ 6 ∷ []) (replicate 1024 (place 0 0 0 false));
     }
     ∷
     -- buffers just long enough: accepted
@@ -2584,6 +2728,18 @@ callRows =
       borders = (14 ∷ 16 ∷ 6 ∷ 14 ∷ 2 ∷ 6 ∷ 16 ∷ 5 ∷ 8 ∷ 11 ∷ 7 ∷ 8 ∷ 11 ∷ 7 ∷ 4 ∷ 10 ∷ 10 ∷ 9 ∷ 3 ∷ 4 ∷ 0 ∷ 3 ∷ 9 ∷ 0 ∷ 5 ∷ 2 ∷ []);
     }
     ∷
+    -- two pieces listed in turn: the order is 0 2 1 3
+    record {
+      lengths = lengths 12 1024;
+      calls = begin (counts 8 4 4 1) ∷ operate Start ∷ operate New ∷ operate Border ∷ operate Border ∷ operate Border ∷ operate Border
+          ∷ operate Start ∷ operate New ∷ operate Border ∷ operate Border ∷ operate Border ∷ operate Border ∷ finish ∷ [];
+      told = accepted ∷ triangle (tri 0 1 2) ∷ triangle (tri 1 0 3) ∷ no-triangle ∷ no-triangle ∷ no-triangle ∷ no-triangle
+          ∷ triangle (tri 4 5 6) ∷ triangle (tri 5 4 7) ∷ no-triangle ∷ no-triangle ∷ no-triangle ∷ no-triangle
+          ∷ numbers (totalsOf 10 2 0 (pos 2)) ∷ [];
+      machine = (8 ∷ 10 ∷ 4 ∷ 1 ∷ 2 ∷ 0 ∷ 2 ∷ 0 ∷ 1 ∷ 2 ∷ 1 ∷ 0 ∷ 3 ∷ 4 ∷ 5 ∷ 6 ∷ 5 ∷ 4 ∷ 7 ∷ []);
+      borders = (4 ∷ 7 ∷ 6 ∷ 4 ∷ 5 ∷ 6 ∷ 7 ∷ 5 ∷ 0 ∷ 3 ∷ 2 ∷ 0 ∷ 1 ∷ 2 ∷ 3 ∷ 1 ∷ []);
+    }
+    ∷
     -- M10
     record {
       lengths = lengths 24576 1024;
@@ -3092,7 +3248,7 @@ unfolding equal equalPlaces equalAnswers packRight unpackRight writtenRing writt
     inTriangle across allBelow allDistinct noneTwice allUsed passes checkTriangles check allOpen vertexAt lastOpen lastVertex front onward
     reached places loopAt without allowed inOrder atEdge atRest effect placesAt ringsAfter cleared test done beginning finishing answers
     afterAll logAll bits valueOf bitsOfBytes bytesWithin readNumber allZero operationBits operationsBits kindIn readOperation packBytes
-    takeField fieldsOf has dropTriangle turnIn turnOut edgeIn spotOf choosePlace limited taking chooseAt chooseIn chooseAll indexOf
+    takeField fieldsOf has dropTriangle turnIn turnOut edgeIn spotOf choosePlace limited taking chooseAt chooseIn orderBy chooseAll indexOf
     newNumbers packChosen packChecked runAll numbersOf unpackRun unpackFields follow followed nodes placesOf openAmong loopsOf placeNodes
     placeRings trianglesBuilt view sizesOf apart placesFit loopsFit linksFit soundElse sound packRows unpackRows callRows fieldsRows
     lookRows

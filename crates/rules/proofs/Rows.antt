@@ -83,7 +83,7 @@ pub record PackRow : Type 0 where
 abbrev pub samePacking : PackResult → Answer → PackBuffers → Bool
 samePacking r a b =
     sameAnswer (r .answer) a && equal (r .buffers .numbering) (b .numbering) && equal (r .buffers .pack) (b .pack)
-    && equalPlaces (r .buffers .places) (b .places)
+    && equalPlaces (r .buffers .places) (b .places) && equal (r .buffers .order) (b .order)
 
 unfoldable pub packRight : PackRow → Bool
 packRight x = samePacking (packWithin (x .limits) (x .vertices) (x .list) (x .lent)) (x .answer) (x .left)
@@ -177,8 +177,8 @@ totalsOf e r u x = record { edges = e; rims = r; unions = u; euler = x }
 abbrev pub modelOf : ℕ → ℕ → Totals → Answer
 modelOf v t x = unpacked (record { vertices = v; triangles = t; totals = x })
 
-abbrev pub packLent : List ℕ → List Place → List ℕ → PackBuffers
-packLent ns ps bs = record { numbering = ns; places = ps; pack = bs }
+abbrev pub packLent : List ℕ → List Place → List ℕ → List ℕ → PackBuffers
+packLent ns ps bs qs = record { numbering = ns; places = ps; pack = bs; order = qs }
 
 abbrev pub unpackLent : List ℕ → List Place → Buffers
 unpackLent ts ps = record { triangles = ts; places = ps }

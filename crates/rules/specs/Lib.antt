@@ -57,6 +57,8 @@
 -- How the packer chooses
 --   "Start with the lowest-numbered triangle not yet built" | Choice: chooseIn, Packing | "M5"
 --   "find the triangle that has b→a" | Across: across | "M2"
+--   C-11: "tells, besides c, the number of the input triangle and the corner" | Across: inTriangle, across | "a first edge" to "none"
+--   C-11: "Everything that looks across an edge takes this answer" | Choice: chooseAt, turnIn, turnOut | (the code of corners::across)
 --   "If there is none, border. If its c has no new .., new" | Choice: chooseAt, has | "M3"
 --   "The right one is that from whose open edges .." | Right: RightPlace | right-place
 --   what finds it | Choice: choosePlace, turnIn, turnOut | "split to c that has an earlier place in the loop: .."
@@ -85,7 +87,8 @@
 --   8, "The numbering room has fewer than V entries or .." | Pack: packLongEnough | "8: numbering", "8: places"
 --   9, 10, "would exceed 1,024 places", "100 live loops" | Choice: limited | "9", "10", "9 before 10 at one operation"
 --   11, "The pack room is shorter than the pack" | Pack: packStored | "11"
---   1 to 11 | Pack: pack, packWithin | "7 before 8" to "10 before 11"
+--   C-11: 22, "that room has fewer than T entries, straight after 8" | Pack: orderLongEnough, packChecked | "22: no order entry"
+--   1 to 8, 22, 9 to 11 | Pack: pack, packWithin | "7 before 8", "8 before 22: numbering", "22 before 9" to "10 before 11"
 --   12, "not the two fields above, whole and in order" | Fields: fieldsOf, firstField | "12: nothing, wrong tag, .."
 --   13, "V is not 3 to 4,096, T not 1 to 8,192, .." | Limits: inRange | "13: V 2, V 4097, .."
 --   14, "fewer than 3T entries or .. 1,024 records" | Machine: longEnough | "14: triangles", "14: places"
@@ -104,7 +107,9 @@
 --   "its finish 21, then 15, .. 19's .., then 20" | Build: finishes; Machine: finishing | calls, "15 before 19", "refused by 20"
 --   "A refusal returns its number only" | Answer: Answer | all rows
 --   "After 1 to 8 and 12 to 14 no room has changed" | Pack: turnedDown; Unpack: turnedDown | all rows of packing and unpacking
---   "After 9 to 11 .. zero" | Pack: packRefused; Buffer: zeroed | "9", "11"
+--   C-11: after 22 "no room has changed" | Pack: turnedDown | "22: an order entry for each triangle but one"
+--   C-11: "past 8" means past every check before 9 | Pack: turnedDown, packRefused, packDone | "22: no order entry", "9"
+--   "After 9 to 11 .. zero"; C-11: the order's first T entries | Pack: packRefused; Buffer: zeroed | "9", "11"
 --   "after 15 to 20 .., the first 3T triangle entries" | Unpack: unpackRefused | "18: M10"
 --   "leaves the first 1,024 place records zero, .." | Buffer: cleared, freePlace | all rows of packing and unpacking
 --   "A refused building call changes nothing" | Build: BegunBy, OperatedBy | (the contracts of crates/service)
@@ -112,6 +117,8 @@
 --   "Acceptance writes the results and nothing beyond them" | Buffer: over; Pack: packDone; Unpack: unpackDone | "buffers just long enough"
 --   .. of a building operation | Build: Leaves; Sound: soundElse | rings, (the contract of service::operation)
 --   "For each old vertex .. the new number" | Pack: newNumbers, indexOf | "M5"
+--   C-11: "for each built triangle, in building order, its input number" | Order: nextNumber, orderBy | "two pieces listed in turn: .."
+--   C-11: "each is there once" | EachOnce in crates/roundtrip/specs/Claims | (`each-triangle-once`)
 --   "packing answers the pack's length, unpacking V, T .." | Answer: packedAnswer, unpackedAnswer | "M1" to "M5"
 --   "a building operation the triangle .. also written .." | Build: withTriangle, Leaves | calls
 --   "It changes nothing; a complete model holds no place" | Machine: complete; Finishing in crates/promises/specs/Promises | "M1" to "M5"
@@ -158,6 +165,7 @@ pub mod Code
 pub mod Fields
 pub mod Choice
 pub mod Right
+pub mod Order
 pub mod Pack
 pub mod Unpack
 pub mod View

@@ -1,4 +1,4 @@
--- The pack of a list: 1 to 11, and what each buffer holds afterwards.
+-- The pack of a list: 1 to 8, 22, 9 to 11, and what each buffer holds afterwards.
 -- Assumes nothing.
 use Prim.Native.Nat.{ℕ, zero, suc, _+_, _*_}
 use mathlib.Core.Bool.{Bool, true, false, _&&_}
@@ -18,6 +18,7 @@ use Rattle.rules.specs.Bits.{bytesOf}
 use Rattle.rules.specs.Code.{operationsBits}
 use Rattle.rules.specs.Fields.{packBytes}
 use Rattle.rules.specs.Choice.{Packing, ended, refuses, takes, choose}
+use Rattle.rules.specs.Order.{orderBy}
 use Rattle.rules.specs.Buffer.{over, zeroed, cleared}
 
 -- a whole list's operations with the packing after the last of them, or 9 or 10
@@ -54,9 +55,16 @@ nothingBuilt h ts = record {
   limitLoops = h .loops;
 }
 
--- each operation builds a triangle or declares one of its three edges border
+-- so many operations: each builds a triangle or declares one of its three edges border
+abbrev pub enough : List Triangle → ℕ
+enough ts = 4 * length ts + 1
+
 abbrev pub chosenFor : Most → List Triangle → Chosen
-chosenFor h ts = chooseAll (4 * length ts + 1) (nothingBuilt h ts)
+chosenFor h ts = chooseAll (enough ts) (nothingBuilt h ts)
+
+-- for each built triangle, in building order, its number in the list
+abbrev pub orderFor : Most → List Triangle → List ℕ
+orderFor h ts = orderBy (enough ts) (nothingBuilt h ts)
 
 abbrev pub packOf : ℕ → List Triangle → List Operation → Packing → List ℕ
 packOf v ts os s =
@@ -77,44 +85,75 @@ pub record PackBuffers : Type 0 where
   pub numbering : List ℕ
   pub places : List Place
   pub pack : List ℕ
+  pub order : List ℕ
 
 pub record PackResult : Type 0 where
   pub answer : Answer
   pub buffers : PackBuffers
 
--- after 1 to 8 no buffer has changed
+-- after 1 to 8 and 22 no buffer has changed
 abbrev pub turnedDown : ℕ → PackBuffers → PackResult
 turnedDown n r = record { answer = refusal n; buffers = r }
 
--- after 9 to 11 the first v numbering entries and the whole pack buffer are zero
-abbrev pub packRefused : ℕ → ℕ → PackBuffers → PackResult
-packRefused n v r = record {
+-- after 9 to 11 the first v numbering entries, the first T order entries and the whole pack buffer are zero
+abbrev pub packRefused : ℕ → ℕ → List Triangle → PackBuffers → PackResult
+packRefused n v ts r = record {
   answer = refusal n;
-  buffers =
-      record { numbering = zeroed v (r .numbering); places = cleared (r .places); pack = zeroed (length (r .pack)) (r .pack) };
+  buffers = record {
+    numbering = zeroed v (r .numbering);
+    places = cleared (r .places);
+    pack = zeroed (length (r .pack)) (r .pack);
+    order = zeroed (length ts) (r .order);
+  };
 }
 
-abbrev pub packDone : List ℕ → List ℕ → PackBuffers → PackResult
-packDone ns bytes r = record {
-  answer = packed (length bytes);
-  buffers = record { numbering = over ns (r .numbering); places = cleared (r .places); pack = over bytes (r .pack) };
+-- what an accepted packing fills the buffers with
+pub record PackContents : Type 0 where
+  pub numbering : List ℕ
+  pub pack : List ℕ
+  pub order : List ℕ
+
+abbrev pub packDone : PackContents → PackBuffers → PackResult
+packDone w r = record {
+  answer = packed (length (w .pack));
+  buffers = record {
+    numbering = over (w .numbering) (r .numbering);
+    places = cleared (r .places);
+    pack = over (w .pack) (r .pack);
+    order = over (w .order) (r .order);
+  };
 }
 
 -- 11
-abbrev pub packStored : ℕ → List ℕ → List ℕ → PackBuffers → PackResult
-packStored v ns bytes r = elim (leb (length bytes) (length (r .pack))) [ true ↦ packDone ns bytes r | false ↦ packRefused 11 v r ]
+abbrev pub packStored : ℕ → List Triangle → PackContents → PackBuffers → PackResult
+packStored v ts w r = elim (leb (length (w .pack)) (length (r .pack))) [ true ↦ packDone w r | false ↦ packRefused 11 v ts r ]
 
-unfoldable pub packChosen : ℕ → List Triangle → PackBuffers → Chosen → PackResult
-packChosen v ts r (stopped n) = packRefused n v r
-packChosen v ts r (chosen os s) = packStored v (newNumbers v (s .numbered)) (packOf v ts os s) r
+abbrev pub contentsOf : ℕ → List Triangle → List ℕ → List Operation → Packing → PackContents
+contentsOf v ts qs os s = record { numbering = newNumbers v (s .numbered); pack = packOf v ts os s; order = qs }
+
+-- what comes of a run; qs are the numbers of the triangles that it has built
+unfoldable pub packChosen : ℕ → List Triangle → PackBuffers → List ℕ → Chosen → PackResult
+packChosen v ts r qs (stopped n) = packRefused n v ts r
+packChosen v ts r qs (chosen os s) = packStored v ts (contentsOf v ts qs os s) r
 
 -- 8
 abbrev pub packLongEnough : ℕ → PackBuffers → Bool
 packLongEnough v r = leb v (length (r .numbering)) && leb maxPlaces (length (r .places))
 
+-- 22
+abbrev pub orderLongEnough : List Triangle → PackBuffers → Bool
+orderLongEnough ts r = leb (length ts) (length (r .order))
+
 unfoldable pub packChecked : Most → ℕ → List Triangle → PackBuffers → Checked → PackResult
 packChecked h v ts r (Refused n) = turnedDown n r
-packChecked h v ts r Accepted = elim (packLongEnough v r) [ true ↦ packChosen v ts r (chosenFor h ts) | false ↦ turnedDown 8 r ]
+packChecked h v ts r Accepted =
+    elim (packLongEnough v r) [
+      | true ↦ elim (orderLongEnough ts r) [
+        | true ↦ packChosen v ts r (orderFor h ts) (chosenFor h ts)
+        | false ↦ turnedDown 22 r
+      ]
+      | false ↦ turnedDown 8 r
+    ]
 
 -- packing a list of numbers for a model of v vertices, with some limits and with those of the rules
 abbrev pub packWithin : Most → ℕ → List ℕ → PackBuffers → PackResult

@@ -41,21 +41,23 @@ pub fn unpack(pack: &[u8], triangles: &mut [u16], places: &mut [Place]) -> Unpac
     r
 }
 
-// Packs any list of a model of v vertices: refusals 1 to 11, or the pack's length. Then the pack stands in the first bytes of the pack
-// buffer, and for each old vertex the numbering buffer holds the new number. After 9 to 11 the first v numbering entries and the
-// whole pack buffer are zero. Past 8 the first 1,024 place records are left zero; after 1 to 8 nothing has changed.
+// Packs any list of a model of v vertices: refusals 1 to 8, 22, 9 to 11, or the pack's length. Then the pack stands in the first bytes of
+// the pack buffer, the numbering buffer holds the new number of each old vertex, and the order buffer for each built triangle, in
+// building order, its number in the list. After 9 to 11 the first v numbering entries, the first T order entries and the whole pack
+// buffer are zero. Past 22 the first 1,024 place records are left zero; after 1 to 8 and 22 nothing has changed.
 pub fn pack(
     v: usize,
     list: &[u16],
     numbering: &mut [u16],
     buffer: &mut [u8],
+    order: &mut [u16],
     places: &mut [Place],
 ) -> Packed
-    ensures { λ r. ⌜ Packs v (now (list .entry)) (now (numbering .entry)) (now (buffer .entry)) (now (places .entry)) r
-        (now (numbering .exit)) (now (buffer .exit)) (now (places .exit)) ⌝ }
+    ensures { λ r. ⌜ Packs v (now (list .entry)) (now (numbering .entry)) (now (buffer .entry)) (now (order .entry)) (now (places .entry)) r
+        (now (numbering .exit)) (now (buffer .exit)) (now (order .exit)) (now (places .exit)) ⌝ }
 {
     let n = count(places.len());
-    let r = packer::pack_on(v, list, numbering, buffer, n);
+    let r = packer::pack_on(v, list, numbering, buffer, order, n);
     clear(places, packer::cleared(r));
     r
 }

@@ -2,19 +2,22 @@
 use crate::streams::Output;
 use rules::Model;
 use rules::Unpacked;
+ghost use Prim.Native.Nat.{_<_};
 
 // Prints a refusal by its number.
 pub fn print_refusal(out: Output, n: u8) -> Output {
     out.bytes(b"refused ").number(n as u16, b'\n')
 }
 
-// Writes the triangles of a buffer, a line for each.
-fn print_triangles(start: Output, triangles: &[u16]) -> Output {
+// Writes numbers, so many to a line.
+pub fn print_rows(start: Output, numbers: &[u16], row: usize) -> Output
+    requires { ⌜ 0 < row ⌝ }
+{
     let mut out = start;
     let mut i = 0;
-    while i < triangles.len() {
-        let end = if i % 3 == 2 { b'\n' } else { b' ' };
-        out = out.number(triangles[i], end);
+    while i < numbers.len() {
+        let end = if i % row == row - 1 { b'\n' } else { b' ' };
+        out = out.number(numbers[i], end);
         i += 1;
     }
     out
@@ -40,7 +43,7 @@ pub fn print_unpacked(out: Output, r: Unpacked, triangles: &[u16]) -> Output {
     if triangles.len() < n {
         return out;
     }
-    print_triangles(print_counts(out, m), &triangles[..n])
+    print_rows(print_counts(out, m), &triangles[..n], 3)
 }
 
 fn print_refused(out: Output, r: Unpacked) -> Output {

@@ -5,7 +5,11 @@ ghost use Prim.Native.Nat.{_≤_};
 ghost use lib.ListN.{length};
 ghost use Rattle.text.specs.Reads.{Fills};
 
-// Up to where a buffer is filled; or a read failed, which is not the end of the input.
+// The longest name of a file that the system opens.
+pub const MOST_NAME: usize = 4095;
+
+// Up to where a buffer is filled; or it holds nothing of use: a read failed, which is not the end of the input, or an argument is none
+// that the program takes.
 pub enum Read {
     To(usize),
     Failed,
@@ -50,6 +54,13 @@ pub fn say_failed(program: &[u8], what: &[u8]) {
     os::fail(what);
 }
 
+// The same of a file that a program cannot write.
+pub fn say_unwritten(program: &[u8], name: &[u8]) {
+    io::write_all(STDERR_FILENO, program);
+    io::write_all(STDERR_FILENO, b": cannot write ");
+    os::fail(name);
+}
+
 // Says on standard error why a program stops, or what it leaves out.
 pub fn say(program: &[u8], line: &[u8]) {
     io::write_all(STDERR_FILENO, program);
@@ -58,22 +69,32 @@ pub fn say(program: &[u8], line: &[u8]) {
     io::write_all(STDERR_FILENO, b"\n");
 }
 
-// Standard output: whether a write has failed, after which nothing more is written.
+// A file that is open for writing: whether a write has failed, after which nothing more is written.
 pub struct Output {
+    fd: i32,
     pub failed: bool,
 }
 
 impl Output {
+    // A file that was just opened.
+    pub fn to(fd: i32) -> Output {
+        Output { fd, failed: false }
+    }
+
+    // Standard output, before any write.
     pub fn fresh() -> Output {
-        Output { failed: false }
+        Output::to(STDOUT_FILENO)
     }
 
     pub fn bytes(self, text: &[u8]) -> Output {
         if self.failed {
             return self;
         }
-        let written = io::write_all(STDOUT_FILENO, text);
-        Output { failed: !written }
+        let written = io::write_all(self.fd, text);
+        Output {
+            fd: self.fd,
+            failed: !written,
+        }
     }
 
     // Writes a number in decimal.
@@ -90,10 +111,27 @@ impl Output {
         self.decimal(n as u64).bytes(&text)
     }
 
-    // Says so if a write failed. No other call may stand between, for the system's reason is that of the last call that failed.
+    // Ends standard output: says so if a write failed. No other call may stand between, for the system's reason is that of the last
+    // call that failed.
     pub fn end(self, program: &[u8]) {
         if self.failed {
-            say_failed(program, b"cannot write standard output");
+            say_unwritten(program, b"standard output");
         }
+    }
+
+    // Ends a file of this name and closes it: whether all was written. If not, it says so and leaves the file empty, where that can be
+    // done, so that no part is taken for the whole. No other call may stand between, as above.
+    pub fn close(self, program: &[u8], name: &[u8]) -> bool {
+        if self.failed {
+            say_unwritten(program, name);
+            libc::ftruncate(self.fd, 0);
+            libc::close(self.fd);
+            return false;
+        }
+        if libc::close(self.fd) < 0 {
+            say_unwritten(program, name);
+            return false;
+        }
+        true
     }
 }

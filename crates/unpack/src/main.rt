@@ -7,16 +7,15 @@ use rules::Builder;
 use rules::CORNERS;
 use text::show::print_refusal;
 use text::show::print_unpacked;
+use text::streams::MOST_NAME;
 use text::streams::Output;
 use text::streams::Read;
 use text::streams::read_full;
 use text::streams::say_failed;
+use text::words::is_same;
 
 // The longest input that is unpacked, and one byte more to tell a longer one.
 const MOST_BYTES: usize = 65536;
-
-// The longest name of a file that is taken from an argument; Linux opens none that is longer.
-const MOST_NAME: usize = 4096;
 
 // Unpacks what was read; more than the most bytes counts as 12.
 fn unpack_bytes(out: Output, pack: &[u8], triangles: &mut [u16]) -> Output {
@@ -54,11 +53,6 @@ fn unpack_file(out: Output, name: &[u8], pack: &mut [u8], triangles: &mut [u16])
     unpack_bytes(out, &pack[..n], triangles)
 }
 
-// Whether a name stands for standard input.
-fn is_standard(name: &[u8]) -> bool {
-    name.len() == 1 && name[0] == b'-'
-}
-
 // Unpacks what argument i names.
 fn unpack_named(out: Output, i: usize, pack: &mut [u8], triangles: &mut [u16]) -> Output {
     let mut name = [0u8; MOST_NAME];
@@ -67,7 +61,7 @@ fn unpack_named(out: Output, i: usize, pack: &mut [u8], triangles: &mut [u16]) -
         say_failed(b"unpack", b"argument");
         return out;
     }
-    if is_standard(&name[..n]) {
+    if is_same(&name[..n], b"-") {
         return unpack_standard(out, pack, triangles);
     }
     unpack_file(out, &name[..n], pack, triangles)

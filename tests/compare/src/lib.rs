@@ -6,6 +6,7 @@ pub mod kinds;
 
 use cutborder::book::{Finish, Spot};
 use cutborder::ops::{Counts, Op};
+use cutborder::plain::PackRooms;
 use cutborder::{Answer, Place, Refusal, MAX_INPUT};
 
 /// A builder as it lies in memory, 213 numbers: the four counts stated, vertices, triangles, both peaks, edges, starts, unions, rims,
@@ -54,6 +55,8 @@ extern "C" {
         numbering_len: usize,
         buffer: *mut u8,
         buffer_len: usize,
+        order: *mut u16,
+        order_len: usize,
         places: *mut Place,
         places_len: usize,
         size: *mut u32,
@@ -98,13 +101,32 @@ pub fn unpack(pack: &[u8], triangles: &mut [u16], places: &mut [Place]) -> Resul
     Ok(Answer { v, t, edges, rims, unions, euler })
 }
 
+/// The buffers of a packing.
+#[derive(Clone)]
+pub struct Buffers {
+    pub numbering: Vec<u16>,
+    pub pack: Vec<u8>,
+    pub order: Vec<u16>,
+    pub places: Vec<Place>,
+}
+
+impl Buffers {
+    /// Ample ones for a model of v vertices and t triangles.
+    pub fn ample(v: usize, t: usize) -> Buffers {
+        Buffers { numbering: vec![0; v], pack: vec![0; MAX_INPUT], order: vec![0; t], places: vec![Place::default(); 1_024] }
+    }
+
+    pub fn lend(&mut self) -> PackRooms<'_> {
+        PackRooms { numbering: &mut self.numbering, places: &mut self.places, out: &mut self.pack, order: &mut self.order }
+    }
+}
+
 /// A packing: the pack's length.
-pub fn pack(v: usize, list: &[u16], numbering: &mut [u16], buffer: &mut [u8], places: &mut [Place]) -> Result<usize, Refusal> {
+pub fn pack(v: usize, list: &[u16], lent: PackRooms) -> Result<usize, Refusal> {
     let mut size = u32::from(BEFORE.0);
-    let (ns, bs) = ((numbering.as_mut_ptr(), numbering.len()), (buffer.as_mut_ptr(), buffer.len()));
-    let n = unsafe {
-        cutborder_pack(v, list.as_ptr(), list.len(), ns.0, ns.1, bs.0, bs.1, places.as_mut_ptr(), places.len(), &mut size)
-    };
+    let (ns, bs) = ((lent.numbering.as_mut_ptr(), lent.numbering.len()), (lent.out.as_mut_ptr(), lent.out.len()));
+    let (os, ps) = ((lent.order.as_mut_ptr(), lent.order.len()), (lent.places.as_mut_ptr(), lent.places.len()));
+    let n = unsafe { cutborder_pack(v, list.as_ptr(), list.len(), ns.0, ns.1, bs.0, bs.1, os.0, os.1, ps.0, ps.1, &mut size) };
     verdict(n, size == u32::from(BEFORE.0))?;
     Ok(size as usize)
 }
@@ -197,11 +219,12 @@ pub fn printed(input: &[u8]) -> String {
     }
 }
 
-/// All that the program `pack` must write for a model: the pack, or the line of a refusal.
-pub fn written(v: u64, list: &[u16]) -> Vec<u8> {
-    let (mut numbering, mut places, mut buffer) = (vec![0; v.min(4_096) as usize], vec![Place::default(); 1_024], vec![0; 65_536]);
-    match expected::pack(v, list, &mut numbering, &mut places, &mut buffer) {
-        Ok(n) => buffer[..n].to_vec(),
-        Err(n) => format!("refused {n}\n").into_bytes(),
+/// All that the program `pack` must write for a model: the pack, or the line of a refusal; and its order, if it has one.
+pub fn written(v: u64, list: &[u16]) -> (Vec<u8>, Option<String>) {
+    let t = list.len() / 3;
+    let mut lent = Buffers::ample(v.min(4_096) as usize, t);
+    match expected::pack(v, list, lent.lend()) {
+        Ok(n) => (lent.pack[..n].to_vec(), Some(lent.order[..t].iter().map(|k| format!("{k}\n")).collect())),
+        Err(n) => (format!("refused {n}\n").into_bytes(), None),
     }
 }

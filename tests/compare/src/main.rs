@@ -3,11 +3,12 @@
 //! Prints a line for each part; stops at the first difference with the input that shows it.
 
 mod building;
+mod packings;
 
-use compare::expected::{self, LEVEL, LIMITS};
+use compare::expected::{self, LEVEL};
 use compare::kinds::{self, Kinds};
-use compare::{check, pack, unpack};
-use cutborder::fast::{Packer, Unpacker};
+use compare::{check, unpack};
+use cutborder::fast::Unpacker;
 use cutborder::gen::{self, Model};
 use cutborder::proto::unhex;
 use cutborder::rng::Rng;
@@ -203,90 +204,17 @@ fn unpacks(rng: &mut Rng, rounds: usize, kinds: &mut Kinds) -> (usize, Tally) {
     (rounds + packs.len(), tally)
 }
 
-/// A flat model with a long rim or many of them, which full loops would hardly hold.
-fn filigree(rng: &mut Rng) -> Model {
-    let m = match rng.below(3) {
-        0 => Model::of(&gen::grid(rng.range(200, 1_000), 1, false, false, || true)),
-        1 => {
-            let w = rng.range(300, 1_000);
-            Model::of(&gen::grid(w, rng.range(1, (4_096 / (w + 1)).max(2) - 1), false, false, || true))
-        }
-        _ => {
-            let w = rng.range(30, 50);
-            let share = rng.range(5, 45);
-            let mut t = gen::grid(w, w, false, false, || true);
-            t.retain(|_| rng.below(100) >= share);
-            gen::fan_split(&t)
-        }
-    };
-    if rng.chance(1, 2) { gen::relist(rng, &m) } else { m }
-}
-
-/// Models of all kinds, good and bad, packed in buffers of all lengths: the answer and every buffer afterwards.
-fn packings(rng: &mut Rng, rounds: usize, kinds: &mut Kinds) -> (usize, Tally) {
-    let mut tally = Tally::new();
-    let mut fast = Packer::new();
-    let known = models();
-    for m in &known {
-        packing(rng, m, &mut fast, &mut tally, kinds);
-    }
-    for i in 0..rounds {
-        let max_t = [6, 20, 60, 200, 600][rng.below(5)];
-        let m = match i {
-            0 => gen::fan(1_024),
-            1 => gen::fan(1_025),
-            _ if i % 400 == 2 => gen::limit(rng),
-            _ if i % 1_000 == 3 => gen::branches(rng, 101).unwrap_or_else(|| gen::sound(rng, max_t)),
-            _ if i % 100 == 4 => filigree(rng),
-            _ => match i % 6 {
-                0 => gen::model(rng, max_t),
-                1 => gen::damaged(rng, max_t),
-                2 => gen::pinched(rng, max_t),
-                _ => gen::sound(rng, max_t),
-            },
-        };
-        packing(rng, &m, &mut fast, &mut tally, kinds);
-    }
-    met(&tally, &[0, 1, 2, 3, 4, 5, 6, 7, 8, 9, 10, 11]);
-    (rounds + known.len(), tally)
-}
-
-/// One packing of a model, and the same by the second program's fast engine.
-fn packing(rng: &mut Rng, m: &Model, fast: &mut Packer, tally: &mut Tally, kinds: &mut Kinds) {
-    let v = (m.v as usize).min(5_000);
-    let numbering = if rng.chance(1, 20) { rng.below(v + 1) } else { v + rng.below(3) };
-    let records = records(rng);
-    let long = expected::packed(m).map_or(20, |p| p.len());
-    let size = match rng.below(8) {
-        0 => rng.below(long + 1),
-        1 => long,
-        _ => long + rng.below(9),
-    };
-    let (mut ns, mut expected_ns) = (vec![7u16; numbering], vec![7u16; numbering]);
-    let (mut bs, mut expected_bs) = (vec![5u8; size], vec![5u8; size]);
-    let (mut places, mut expected_places) = (used_places(records), used_places(records));
-    let (mut fast_ns, mut fast_bs, mut fast_places) = (ns.clone(), bs.clone(), places.clone());
-    let expected = expected::pack(m.v, &m.list, &mut expected_ns, &mut expected_places, &mut expected_bs);
-    let answer = pack(m.v as usize, &m.list, &mut ns, &mut bs, &mut places);
-    assert_eq!(answer, expected, "model {}", m.line());
-    assert_eq!(ns, expected_ns, "numbering of model {}", m.line());
-    assert_eq!(bs, expected_bs, "pack of model {}", m.line());
-    assert_eq!(places, expected_places, "places after model {}", m.line());
-    let answer = fast.pack_at(LEVEL, m.v, &m.list, &mut fast_ns, &mut fast_places, &mut fast_bs);
-    assert_eq!(answer, expected, "fast engine, model {}", m.line());
-    let same = fast_ns == expected_ns && fast_bs == expected_bs && fast_places == expected_places;
-    assert!(same, "fast engine, buffers of model {}", m.line());
-    count(tally, &answer);
-    if matches!(expected, Ok(_) | Err(11)) {
-        let (ops, chosen) = expected::choose(m.v, &m.list, LIMITS).expect("a packing");
-        kinds::note_all(kinds, expected::begin(chosen.book.counts, m.list.len(), 1_024).expect("counts"), &ops);
-    }
-}
-
 /// What happened in shortened loops: all that can.
 fn shortened(kinds: &Kinds) {
     println!("    shortened loops: {kinds:?}");
     kinds::met(kinds);
+}
+
+/// Runs a part and prints its line.
+fn part(name: &str, run: impl FnOnce() -> (usize, Tally)) {
+    let t = Instant::now();
+    let (n, tally) = run();
+    println!("{name}: {n} alike, answers {tally:?}, {:.1} s", t.elapsed().as_secs_f64());
 }
 
 fn main() {
@@ -298,22 +226,15 @@ fn main() {
     let mut rng = Rng::new(seed);
     let scale = scale as usize;
     println!("models of the paper: {} right", paper());
-    let t = Instant::now();
-    let (n, tally) = lists(&mut rng, 2_000 * scale);
-    println!("lists: {n} alike, answers {tally:?}, {:.1} s", t.elapsed().as_secs_f64());
-    let t = Instant::now();
-    let (n, tally) = strings(&mut rng, 5_000 * scale);
-    println!("byte strings: {n} alike, answers {tally:?}, {:.1} s", t.elapsed().as_secs_f64());
-    let t = Instant::now();
+    part("lists", || lists(&mut rng, 2_000 * scale));
+    part("byte strings", || strings(&mut rng, 5_000 * scale));
     let mut kinds = Kinds::new();
-    let (n, tally) = unpacks(&mut rng, 4_000 * scale, &mut kinds);
-    println!("unpacks: {n} alike, answers {tally:?}, {:.1} s", t.elapsed().as_secs_f64());
+    part("unpacks", || unpacks(&mut rng, 4_000 * scale, &mut kinds));
     shortened(&kinds);
-    let t = Instant::now();
     let mut kinds = Kinds::new();
-    let (n, tally) = packings(&mut rng, 2_000 * scale, &mut kinds);
-    println!("packings: {n} alike, answers {tally:?}, {:.1} s", t.elapsed().as_secs_f64());
+    part("packings", || packings::random(&mut rng, 2_000 * scale, &mut kinds));
     shortened(&kinds);
+    part("several refusals at once", || packings::faults_together(&mut rng));
     let t = Instant::now();
     let mut kinds = Kinds::new();
     let (n, lists, tally) = building::lists(&mut rng, 1_000 * scale, &mut kinds);

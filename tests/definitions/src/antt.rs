@@ -54,7 +54,7 @@ fn places(ps: &[Place]) -> String {
 }
 
 fn pack_buffers(r: &PackBuffers) -> String {
-    format!("packLent {} {} {}", numbers(&r.numbering), places(&r.places), numbers(&r.pack))
+    format!("packLent {} {} {} {}", numbers(&r.numbering), places(&r.places), numbers(&r.pack), numbers(&r.order))
 }
 
 fn unpack_buffers(r: &UnpackBuffers) -> String {

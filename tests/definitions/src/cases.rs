@@ -41,6 +41,7 @@ pub fn packing(rng: &mut Rng, max_t: usize) -> Packing {
         numbering: vec![7; length(rng, m.v.min(5_000) as usize)],
         places: places(rng),
         pack: vec![5; length(rng, size)],
+        order: vec![9; length(rng, m.list.len() / 3)],
     };
     Packing::new(limits, m.v, &m.list, lent)
 }

@@ -3,13 +3,15 @@
 use crate::expected::{self, Calls, LIMITS};
 use cutborder::book::Book;
 use cutborder::ops::{encode_ops, pack_bytes, Counts};
-use cutborder::{plain, Answer, Place, Refusal};
+use cutborder::plain::{self, PackRooms};
+use cutborder::{Answer, Place, Refusal};
 
 #[derive(Clone)]
 pub struct PackBuffers {
     pub numbering: Vec<u16>,
     pub places: Vec<Place>,
     pub pack: Vec<u8>,
+    pub order: Vec<u16>,
 }
 
 pub struct Packing {
@@ -25,7 +27,8 @@ impl Packing {
     pub fn new(limits: (u32, u32), v: u64, list: &[u16], lent: PackBuffers) -> Packing {
         let mut left = lent.clone();
         let answer = if limits == LIMITS {
-            expected::pack(v, list, &mut left.numbering, &mut left.places, &mut left.pack)
+            let PackBuffers { numbering, places, pack, order } = &mut left;
+            expected::pack(v, list, PackRooms { numbering, places, out: pack, order })
         } else {
             pack_within(limits, v, list, &mut left)
         };
@@ -33,34 +36,41 @@ impl Packing {
     }
 }
 
-/// Packing with other limits on places and loops.
+/// Packing with other limits on places and loops: the second program's choice, with 8, 22, 11 and the buffers by our hand. At the
+/// rules' own limits tests/compare has them all from the second program.
 fn pack_within(limits: (u32, u32), v: u64, list: &[u16], r: &mut PackBuffers) -> Result<usize, Refusal> {
     plain::check(v, list)?;
     let n = v as usize;
     if r.numbering.len() < n || r.places.len() < 1_024 {
         return Err(8);
     }
+    let t = list.len() / 3;
+    if r.order.len() < t {
+        return Err(22);
+    }
     let chosen = expected::choose(v, list, limits);
     r.places[..1_024].fill(Place::default());
     let result = chosen.and_then(|(ops, chosen)| {
         let book = &chosen.book;
-        let c = Counts { v: v as u32, t: (list.len() / 3) as u32, places: book.peak_places, loops: book.peak_loops };
+        let c = Counts { v: v as u32, t: t as u32, places: book.peak_places, loops: book.peak_loops };
         let bytes = pack_bytes(c, &encode_ops(&ops));
         if bytes.len() > r.pack.len() {
             Err(11)
         } else {
-            Ok((bytes, chosen.number))
+            Ok((bytes, chosen))
         }
     });
     match result {
-        Ok((bytes, number)) => {
+        Ok((bytes, chosen)) => {
             r.pack[..bytes.len()].copy_from_slice(&bytes);
-            r.numbering[..n].copy_from_slice(&number);
+            r.numbering[..n].copy_from_slice(&chosen.number);
+            r.order[..t].copy_from_slice(&chosen.order);
             Ok(bytes.len())
         }
         Err(e) => {
             r.pack.fill(0);
             r.numbering[..n].fill(0);
+            r.order[..t].fill(0);
             Err(e)
         }
     }

@@ -63,8 +63,8 @@ fn models() -> Vec<(String, String)> {
 const USED: Place = Place { vertex: 3, before: 1, after: 2, open: true };
 
 /// Buffers with some entries more than are needed.
-fn ample(v: usize) -> PackBuffers {
-    PackBuffers { numbering: vec![7; v + 2], places: vec![USED; 1_026], pack: vec![5; 60] }
+fn ample(v: usize, t: usize) -> PackBuffers {
+    PackBuffers { numbering: vec![7; v + 2], places: vec![USED; 1_026], pack: vec![5; 60], order: vec![9; t + 2] }
 }
 
 fn model(line: &str) -> (u64, Vec<u16>) {
@@ -74,7 +74,7 @@ fn model(line: &str) -> (u64, Vec<u16>) {
 
 fn pack_row(name: &str, limits: (u32, u32), line: &str, change: impl Fn(&mut PackBuffers)) -> (String, String) {
     let (v, list) = model(line);
-    let mut buffers = ample(v as usize);
+    let mut buffers = ample(v as usize, list.len() / 3);
     change(&mut buffers);
     let x = Packing::new(limits, v, &list, buffers);
     let told = match x.answer {
@@ -120,6 +120,29 @@ const LISTS: [(&str, &str); 23] = [
     ("one fan, listed from its middle", "5 0 2 3 0 1 2 0 3 4"),
 ];
 
+/// 22, and its place among 7 to 11.
+fn order_rows() -> Vec<(String, String)> {
+    vec![
+        pack_row("22: no order entry", LIMITS, "3 0 1 2", |r| r.order.clear()),
+        pack_row("22: an order entry for each triangle but one", LIMITS, "4 0 1 2 1 0 3", |r| r.order.truncate(1)),
+        pack_row("8 before 22: numbering", LIMITS, "3 0 1 2", |r| {
+            r.numbering.truncate(2);
+            r.order.clear();
+        }),
+        pack_row("8 before 22: places", LIMITS, "3 0 1 2", |r| {
+            r.places.truncate(1_023);
+            r.order.clear();
+        }),
+        pack_row("7 before 22", LIMITS, "5 0 1 2 0 3 4", |r| r.order.clear()),
+        pack_row("22 before 9", (3, 1), "4 0 1 2 1 0 3", |r| r.order.truncate(1)),
+        pack_row("22 before 10", (1_024, 1), SPLIT, |r| r.order.truncate(5)),
+        pack_row("22 before 11", LIMITS, "3 0 1 2", |r| {
+            r.pack.truncate(15);
+            r.order.clear();
+        }),
+    ]
+}
+
 fn packings() -> Vec<(String, String)> {
     let same = |_: &mut PackBuffers| ();
     let mut rows: Vec<_> = models().iter().map(|(name, line)| pack_row(name, LIMITS, line, same)).collect();
@@ -135,7 +158,9 @@ fn packings() -> Vec<(String, String)> {
         r.numbering.truncate(3);
         r.places.truncate(1_024);
         r.pack.truncate(16);
+        r.order.truncate(1);
     }));
+    rows.extend(order_rows());
     rows.push(pack_row("9", (3, 1), "4 0 1 2 1 0 3", same));
     rows.push(pack_row("10", (1_024, 1), SPLIT, same));
     rows.push(pack_row("9 before 10 at one operation", (6, 1), SPLIT, same));
@@ -200,7 +225,7 @@ fn unpackings() -> Vec<(String, String)> {
     // The packs of the models.
     for (name, line) in models() {
         let (v, list) = model(&line);
-        let x = Packing::new(LIMITS, v, &list, ample(v as usize));
+        let x = Packing::new(LIMITS, v, &list, ample(v as usize, list.len() / 3));
         if let Ok(n) = x.answer {
             let hex: String = x.left.pack[..n].iter().map(|b| format!("{b:02x}")).collect();
             rows.push(unpack_row(&name, &hex, list.len() + 1, 1_024));

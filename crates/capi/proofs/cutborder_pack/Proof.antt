@@ -78,7 +78,7 @@ abbrev ty : ℕ → Ty
 ty i = tyAt (code.function .locals) i
 
 abbrev Arg : Type 0
-Arg = ℕ × (RefT (List ℕ) × (RefT (List ℕ) × (RefT (List ℕ) × (RefT (List Place) × (RefT (ℕ) × (Unit {0}))))))
+Arg = ℕ × (RefT (List ℕ) × (RefT (List ℕ) × (RefT (List ℕ) × (RefT (List ℕ) × (RefT (List Place) × (RefT (ℕ) × (Unit {0})))))))
 
 abbrev stayed : Stays (public.ended .signature .params) (public.ended .kept)
 stayed = (
@@ -89,7 +89,10 @@ stayed = (
       gave-slice (1 ∷ []) tt (plain (λ _. u16)),
       (
         gave-slice (2 ∷ []) tt (plain (λ _. u8)),
-        (gave-slice (3 ∷ []) tt (plain (λ _. R)), (gave-ref (4 ∷ []) tt (plain (λ _. u32)), tt)),
+        (
+          gave-slice (3 ∷ []) tt (plain (λ _. u16)),
+          (gave-slice (4 ∷ []) tt (plain (λ _. R)), (gave-ref (5 ∷ []) tt (plain (λ _. u32)), tt)),
+        ),
       ),
     ),
   ),
@@ -104,10 +107,11 @@ module _ {M : Type 1} (𝓤 : URA M) (H : Heap 𝓤) (A : Atoms 𝓤) (at-mem : 
   F1 = tripleOf 𝓤 H A f1′.signature (f1′.spec 𝓤 H A at-mem run)
 
 module _ {M : Type 1} (𝓤 : URA M) (H : Heap 𝓤) (A : Atoms 𝓤) (W : Given 𝓤 H A) (at-mem : Memory → SProp 𝓤) (run : Routine → Fun 𝓤)
-    (κ₀ κ₁ κ₂ κ₃ κ₄ : Lft) (q₀ q₁ q₂ q₃ q₄ : Share)
+    (κ₀ κ₁ κ₂ κ₃ κ₄ κ₅ : Lft) (q₀ q₁ q₂ q₃ q₄ q₅ : Share)
     (a₁ : ℕ) (g₁ : a₁ < 2 ^ 64) (b₂ o₂ : ℕ) (γ₂ : GName) (xs₂ : List ℕ) (g₂ : Room u16 (length xs₂)) (b₃ o₃ : ℕ) (γ₃ : GName) (xs₃ : List ℕ)
     (g₃ : Room u16 (length xs₃)) (b₄ o₄ : ℕ) (γ₄ : GName) (xs₄ : List ℕ) (g₄ : Room u8 (length xs₄)) (b₅ o₅ : ℕ) (γ₅ : GName)
-    (xs₅ : List Place) (g₅ : Room R (length xs₅)) (b₆ o₆ : ℕ) (γ₆ : GName) (h₆ : ℕ) where
+    (xs₅ : List ℕ) (g₅ : Room u16 (length xs₅)) (b₆ o₆ : ℕ) (γ₆ : GName) (xs₆ : List Place) (g₆ : Room R (length xs₆)) (b₇ o₇ : ℕ)
+    (γ₇ : GName) (h₇ : ℕ) where
   abbrev x₂ : RefT (List ℕ)
   x₂ = record { ptr = (b₂, o₂); name = γ₂; now = xs₂ }
 
@@ -117,16 +121,19 @@ module _ {M : Type 1} (𝓤 : URA M) (H : Heap 𝓤) (A : Atoms 𝓤) (W : Given
   abbrev x₄ : RefT (List ℕ)
   x₄ = record { ptr = (b₄, o₄); name = γ₄; now = xs₄ }
 
-  abbrev x₅ : RefT (List Place)
+  abbrev x₅ : RefT (List ℕ)
   x₅ = record { ptr = (b₅, o₅); name = γ₅; now = xs₅ }
 
-  abbrev x₆ : RefT (ℕ)
-  x₆ = record { ptr = (b₆, o₆); name = γ₆; now = h₆ }
+  abbrev x₆ : RefT (List Place)
+  x₆ = record { ptr = (b₆, o₆); name = γ₆; now = xs₆ }
+
+  abbrev x₇ : RefT (ℕ)
+  x₇ = record { ptr = (b₇, o₇); name = γ₇; now = h₇ }
 
   abbrev x : Arg
-  x = (a₁, (x₂, (x₃, (x₄, (x₅, (x₆, tt))))))
+  x = (a₁, (x₂, (x₃, (x₄, (x₅, (x₆, (x₇, tt)))))))
 
-  abbrev at : Vals public.signature (κ₀, (κ₁, (κ₂, (κ₃, (κ₄, tt)))))
+  abbrev at : Vals public.signature (κ₀, (κ₁, (κ₂, (κ₃, (κ₄, (κ₅, tt))))))
   at = (
     vint w64 a₁ ∷ [],
     (
@@ -135,175 +142,243 @@ module _ {M : Type 1} (𝓤 : URA M) (H : Heap 𝓤) (A : Atoms 𝓤) (W : Given
       (
         sliceVal (b₃, o₃) (length xs₃)
             ∷ [],
-        (sliceVal (b₄, o₄) (length xs₄) ∷ [], (sliceVal (b₅, o₅) (length xs₅) ∷ [], (vptr b₆ o₆ ∷ [], tt))),
+        (
+          sliceVal (b₄, o₄) (length xs₄)
+              ∷ [],
+          (sliceVal (b₅, o₅) (length xs₅) ∷ [], (sliceVal (b₆, o₆) (length xs₆) ∷ [], (vptr b₇ o₇ ∷ [], tt))),
+        ),
       ),
     ),
   )
 
   abbrev Post : Val → SProp 𝓤
   Post = walkOf 𝓤 H A public.ended stayed (public.clauses 𝓤 H A at-mem run) .post
-      (((κ₀, (κ₁, (κ₂, (κ₃, (κ₄, tt))))), (q₀, (q₁, (q₂, (q₃, (q₄, tt))))), tt, x, at), tt)
+      (((κ₀, (κ₁, (κ₂, (κ₃, (κ₄, (κ₅, tt)))))), (q₀, (q₁, (q₂, (q₃, (q₄, (q₅, tt)))))), tt, x, at), tt)
 
-  exits : (r0 : Packed) (u0 : Val) (is0 : Is XPacked r0 (u0 ∷ [])) (ys₃ : List ℕ) (ys₄ : List ℕ) (ys₅ : List Place)
+  exits : (r0 : Packed) (u0 : Val) (is0 : Is XPacked r0 (u0 ∷ [])) (ys₃ : List ℕ) (ys₄ : List ℕ) (ys₅ : List ℕ) (ys₆ : List Place)
       (same₃ : length ys₃ ≡ length xs₃) (same₄ : length ys₄ ≡ length xs₄) (same₅ : length ys₅ ≡ length xs₅)
-      (e0 : Packs a₁ xs₂ xs₃ xs₄ xs₅ r0 ys₃ ys₄ ys₅) (r1 : ℕ) (u1 : Val) (is1 : Is u32 r1 (u1 ∷ [])) (ys₆ : ℕ)
-      (e1 : (r1 ≡ numberOf (packedAnswer r0)) × (ys₆ ≡ sizeAfter h₆ (packedAnswer r0)))
-      → ent 𝓤 (⋆ 𝓤 H A (‵ (flft κ₀ q₀) ∷ ‵ (flft κ₁ q₁) ∷ ‵ (flft κ₂ q₂) ∷ ‵ (flft κ₃ q₃) ∷ ‵ (flft κ₄ q₄)
+      (same₆ : length ys₆ ≡ length xs₆) (e0 : Packs a₁ xs₂ xs₃ xs₄ xs₅ xs₆ r0 ys₃ ys₄ ys₅ ys₆) (r1 : ℕ) (u1 : Val)
+      (is1 : Is u32 r1 (u1 ∷ [])) (ys₇ : ℕ) (e1 : (r1 ≡ numberOf (packedAnswer r0)) × (ys₇ ≡ sizeAfter h₇ (packedAnswer r0)))
+      → ent 𝓤 (⋆ 𝓤 H A (‵ (flft κ₀ q₀) ∷ ‵ (flft κ₁ q₁) ∷ ‵ (flft κ₂ q₂) ∷ ‵ (flft κ₃ q₃) ∷ ‵ (flft κ₄ q₄) ∷ ‵ (flft κ₅ q₅)
       ∷ ‵ (ShrSlice (named 0) κ₀ u16 .own x₂ (sliceVal (b₂, o₂) (length xs₂) ∷ [])) ∷ ‵ (finally u16 γ₃ ys₃) ∷ ‵ (finally u8 γ₄ ys₄)
-      ∷ ‵ (finally R γ₅ ys₅) ∷ ‵ (fres γ₆ (u32 .coded .code ys₆)) ∷ ‵ (u32 .own r1 (u1 ∷ [])) ∷ [])) (Post u1)
-  exits r0 u0 is0 ys₃ ys₄ ys₅ same₃ same₄ same₅ e0 r1 u1 is1 ys₆ e1 =
-      qed W (‵ (flft κ₀ q₀) ∷ ‵ (flft κ₁ q₁) ∷ ‵ (flft κ₂ q₂) ∷ ‵ (flft κ₃ q₃) ∷ ‵ (flft κ₄ q₄)
+      ∷ ‵ (finally u16 γ₅ ys₅) ∷ ‵ (finally R γ₆ ys₆) ∷ ‵ (fres γ₇ (u32 .coded .code ys₇)) ∷ ‵ (u32 .own r1 (u1 ∷ [])) ∷ []))
+      (Post u1)
+  exits r0 u0 is0 ys₃ ys₄ ys₅ ys₆ same₃ same₄ same₅ same₆ e0 r1 u1 is1 ys₇ e1 =
+      qed W (‵ (flft κ₀ q₀) ∷ ‵ (flft κ₁ q₁) ∷ ‵ (flft κ₂ q₂) ∷ ‵ (flft κ₃ q₃) ∷ ‵ (flft κ₄ q₄) ∷ ‵ (flft κ₅ q₅)
       ∷ ‵ (ShrSlice (named 0) κ₀ u16 .own x₂ (sliceVal (b₂, o₂) (length xs₂) ∷ [])) ∷ ‵ (finally u16 γ₃ ys₃) ∷ ‵ (finally u8 γ₄ ys₄)
-      ∷ ‵ (finally R γ₅ ys₅) ∷ ‵ (fres γ₆ (u32 .coded .code ys₆)) ∷ ‵ (u32 .own r1 (u1 ∷ [])) ∷ []) ∵
+      ∷ ‵ (finally u16 γ₅ ys₅) ∷ ‵ (finally R γ₆ ys₆) ∷ ‵ (fres γ₇ (u32 .coded .code ys₇)) ∷ ‵ (u32 .own r1 (u1 ∷ [])) ∷ []) ∵
       suffices ! _ (ends-at 𝓤 H A public.ended stayed (public.clauses 𝓤 H A at-mem run) W
-      (((κ₀, (κ₁, (κ₂, (κ₃, (κ₄, tt))))), (q₀, (q₁, (q₂, (q₃, (q₄, tt))))), tt, x, at), tt) u1 r1
-      (tt, (tt, (ys₃, (ys₄, (ys₅, (ys₆, tt)))))) (tt, (tt, (same₃, (same₄, (same₅, (tt, tt)))))))
-      $ says ! (packs-for a₁ xs₂ xs₃ xs₄ xs₅ h₆ r0 r1 ys₃ ys₄ ys₅ ys₆ e0 e1) $
-      nothing ! $ move ! (5 ∷ 0 ∷ []) $ join ! $ move ! (4 ∷ 0 ∷ []) $ join ! $ move ! (3 ∷ 0 ∷ []) $ join ! $ move ! (2 ∷ 0 ∷ []) $ join !
-      $ move ! (1 ∷ 0 ∷ []) $ join ! $ frame ! $ nothing ! $ move ! (5 ∷ 0 ∷ []) $ fjoin ! $ move ! (4 ∷ 0 ∷ []) $ fjoin !
-      $ move ! (3 ∷ 0 ∷ []) $ fjoin ! $ move ! (2 ∷ 0 ∷ []) $ fjoin ! $ move ! (1 ∷ 0 ∷ []) $ fjoin !
-      $ owned ! usize (Is usize) (uint-makes 𝓤 H A W w64) a₁ _ (refl, g₁) $ fjoin ! $ done !
+      (((κ₀, (κ₁, (κ₂, (κ₃, (κ₄, (κ₅, tt)))))), (q₀, (q₁, (q₂, (q₃, (q₄, (q₅, tt)))))), tt, x, at), tt) u1 r1
+      (tt, (tt, (ys₃, (ys₄, (ys₅, (ys₆, (ys₇, tt))))))) (tt, (tt, (same₃, (same₄, (same₅, (same₆, (tt, tt))))))))
+      $ says ! (packs-for a₁ xs₂ xs₃ xs₄ xs₅ xs₆ h₇ r0 r1 ys₃ ys₄ ys₅ ys₆ ys₇ e0 e1) $
+      nothing ! $ move ! (6 ∷ 0 ∷ []) $ join ! $ move ! (5 ∷ 0 ∷ []) $ join ! $ move ! (4 ∷ 0 ∷ []) $ join ! $ move ! (3 ∷ 0 ∷ []) $ join !
+      $ move ! (2 ∷ 0 ∷ []) $ join ! $ move ! (1 ∷ 0 ∷ []) $ join ! $ frame ! $ nothing ! $ move ! (6 ∷ 0 ∷ []) $ fjoin !
+      $ move ! (5 ∷ 0 ∷ []) $ fjoin ! $ move ! (4 ∷ 0 ∷ []) $ fjoin ! $ move ! (3 ∷ 0 ∷ []) $ fjoin ! $ move ! (2 ∷ 0 ∷ [])
+      $ fjoin ! $ move ! (1 ∷ 0 ∷ []) $ fjoin ! $ owned ! usize (Is usize) (uint-makes 𝓤 H A W w64) a₁ _ (refl, g₁) $ fjoin !
+      $ done !
 
   abbrev to-0 : F0 𝓤 H A at-mem run .Ghost
   to-0 = (
     (
-      (κ₀, (κ₁, (κ₂, (κ₃, tt)))),
-      (q₀, (q₁, (q₂, (q₃, tt)))),
+      (κ₀, (κ₁, (κ₂, (κ₃, (κ₄, tt))))),
+      (q₀, (q₁, (q₂, (q₃, (q₄, tt))))),
       tt,
-      (a₁, (x₂, (x₃, (x₄, (x₅, tt))))),
+      (a₁, (x₂, (x₃, (x₄, (x₅, (x₆, tt)))))),
       (
         vint w64 a₁ ∷ [],
         (
           sliceVal (b₂, o₂) (length xs₂)
               ∷ [],
-          (sliceVal (b₃, o₃) (length xs₃) ∷ [], (sliceVal (b₄, o₄) (length xs₄) ∷ [], (sliceVal (b₅, o₅) (length xs₅) ∷ [], tt))),
+          (
+            sliceVal (b₃, o₃) (length xs₃)
+                ∷ [],
+            (
+              sliceVal (b₄, o₄) (length xs₄)
+                  ∷ [],
+              (sliceVal (b₅, o₅) (length xs₅) ∷ [], (sliceVal (b₆, o₆) (length xs₆) ∷ [], tt)),
+            ),
+          ),
         ),
       ),
     ),
     tt,
   )
 
-  goes-0 : ent 𝓤 (⋆ 𝓤 H A (‵ (flft κ₀ q₀) ∷ ‵ (flft κ₁ q₁) ∷ ‵ (flft κ₂ q₂) ∷ ‵ (flft κ₃ q₃)
+  goes-0 : ent 𝓤 (⋆ 𝓤 H A (‵ (flft κ₀ q₀) ∷ ‵ (flft κ₁ q₁) ∷ ‵ (flft κ₂ q₂) ∷ ‵ (flft κ₃ q₃) ∷ ‵ (flft κ₄ q₄)
       ∷ ‵ (ShrSlice (named 0) κ₀ u16 .own x₂ (sliceVal (b₂, o₂) (length xs₂) ∷ []))
       ∷ ‵ (MutSlice (named 1) κ₁ u16 .own x₃ (sliceVal (b₃, o₃) (length xs₃) ∷ []))
       ∷ ‵ (MutSlice (named 2) κ₂ u8 .own x₄ (sliceVal (b₄, o₄) (length xs₄) ∷ []))
-      ∷ ‵ (MutSlice (named 3) κ₃ R .own x₅ (sliceVal (b₅, o₅) (length xs₅) ∷ [])) ∷ [])) (F0 𝓤 H A at-mem run .pre (to-0))
-  goes-0 = qed W (‵ (flft κ₀ q₀) ∷ ‵ (flft κ₁ q₁) ∷ ‵ (flft κ₂ q₂) ∷ ‵ (flft κ₃ q₃)
+      ∷ ‵ (MutSlice (named 3) κ₃ u16 .own x₅ (sliceVal (b₅, o₅) (length xs₅) ∷ []))
+      ∷ ‵ (MutSlice (named 4) κ₄ R .own x₆ (sliceVal (b₆, o₆) (length xs₆) ∷ [])) ∷ [])) (F0 𝓤 H A at-mem run .pre (to-0))
+  goes-0 = qed W (‵ (flft κ₀ q₀) ∷ ‵ (flft κ₁ q₁) ∷ ‵ (flft κ₂ q₂) ∷ ‵ (flft κ₃ q₃) ∷ ‵ (flft κ₄ q₄)
       ∷ ‵ (ShrSlice (named 0) κ₀ u16 .own x₂ (sliceVal (b₂, o₂) (length xs₂) ∷ []))
       ∷ ‵ (MutSlice (named 1) κ₁ u16 .own x₃ (sliceVal (b₃, o₃) (length xs₃) ∷ []))
       ∷ ‵ (MutSlice (named 2) κ₂ u8 .own x₄ (sliceVal (b₄, o₄) (length xs₄) ∷ []))
-      ∷ ‵ (MutSlice (named 3) κ₃ R .own x₅ (sliceVal (b₅, o₅) (length xs₅) ∷ [])) ∷ []) ∵ nothing ! $ move ! (4 ∷ 0 ∷ [])
-      $ join ! $ move ! (3 ∷ 0 ∷ []) $ join ! $ move ! (2 ∷ 0 ∷ []) $ join ! $ move ! (1 ∷ 0 ∷ []) $ join ! $ nothing !
-      $ move ! (5 ∷ 0 ∷ []) $ fjoin ! $ move ! (4 ∷ 0 ∷ []) $ fjoin ! $ move ! (3 ∷ 0 ∷ []) $ fjoin !
-      $ move ! (2 ∷ 0 ∷ []) $ fjoin ! $ owned ! usize (Is usize) (uint-makes 𝓤 H A W w64) a₁ _ (refl, g₁) $ fjoin !
-      $ move ! (1 ∷ 0 ∷ []) $ join ! $ nothing ! $ move ! (1 ∷ []) $ frame ! $ done !
+      ∷ ‵ (MutSlice (named 3) κ₃ u16 .own x₅ (sliceVal (b₅, o₅) (length xs₅) ∷ []))
+      ∷ ‵ (MutSlice (named 4) κ₄ R .own x₆ (sliceVal (b₆, o₆) (length xs₆) ∷ [])) ∷ []) ∵ nothing ! $ move ! (5 ∷ 0 ∷ [])
+      $ join ! $ move ! (4 ∷ 0 ∷ []) $ join ! $ move ! (3 ∷ 0 ∷ []) $ join ! $ move ! (2 ∷ 0 ∷ []) $ join !
+      $ move ! (1 ∷ 0 ∷ []) $ join ! $ nothing ! $ move ! (6 ∷ 0 ∷ []) $ fjoin ! $ move ! (5 ∷ 0 ∷ []) $ fjoin !
+      $ move ! (4 ∷ 0 ∷ []) $ fjoin ! $ move ! (3 ∷ 0 ∷ []) $ fjoin ! $ move ! (2 ∷ 0 ∷ []) $ fjoin !
+      $ owned ! usize (Is usize) (uint-makes 𝓤 H A W w64) a₁ _ (refl, g₁) $ fjoin ! $ move ! (1 ∷ 0 ∷ [])
+      $ join ! $ nothing ! $ move ! (1 ∷ []) $ frame ! $ done !
 
-  abbrev to-1 : (r0 : Packed) (u0 : Val) (is0 : Is XPacked r0 (u0 ∷ [])) (ys₃ : List ℕ) (ys₄ : List ℕ) (ys₅ : List Place)
+  abbrev to-1 : (r0 : Packed) (u0 : Val) (is0 : Is XPacked r0 (u0 ∷ [])) (ys₃ : List ℕ) (ys₄ : List ℕ) (ys₅ : List ℕ) (ys₆ : List Place)
       (same₃ : length ys₃ ≡ length xs₃) (same₄ : length ys₄ ≡ length xs₄) (same₅ : length ys₅ ≡ length xs₅)
-      (e0 : Packs a₁ xs₂ xs₃ xs₄ xs₅ r0 ys₃ ys₄ ys₅) → F1 𝓤 H A at-mem run .Ghost
-  to-1 r0 u0 is0 ys₃ ys₄ ys₅ same₃ same₄ same₅ e0 = (((κ₄, tt), (q₄, tt), tt, (r0, (x₆, tt)), (u0 ∷ [], (vptr b₆ o₆ ∷ [], tt))), tt)
+      (same₆ : length ys₆ ≡ length xs₆) (e0 : Packs a₁ xs₂ xs₃ xs₄ xs₅ xs₆ r0 ys₃ ys₄ ys₅ ys₆) → F1 𝓤 H A at-mem run .Ghost
+  to-1 r0 u0 is0 ys₃ ys₄ ys₅ ys₆ same₃ same₄ same₅ same₆ e0 =
+      (((κ₅, tt), (q₅, tt), tt, (r0, (x₇, tt)), (u0 ∷ [], (vptr b₇ o₇ ∷ [], tt))), tt)
 
-  goes-1 : (r0 : Packed) (u0 : Val) (is0 : Is XPacked r0 (u0 ∷ [])) (ys₃ : List ℕ) (ys₄ : List ℕ) (ys₅ : List Place)
+  goes-1 : (r0 : Packed) (u0 : Val) (is0 : Is XPacked r0 (u0 ∷ [])) (ys₃ : List ℕ) (ys₄ : List ℕ) (ys₅ : List ℕ) (ys₆ : List Place)
       (same₃ : length ys₃ ≡ length xs₃) (same₄ : length ys₄ ≡ length xs₄) (same₅ : length ys₅ ≡ length xs₅)
-      (e0 : Packs a₁ xs₂ xs₃ xs₄ xs₅ r0 ys₃ ys₄ ys₅)
-      → ent 𝓤 (⋆ 𝓤 H A (‵ (flft κ₄ q₄) ∷ ‵ (MutRef (named 4) κ₄ u32 .own x₆ (vptr b₆ o₆ ∷ [])) ∷ []))
-      (F1 𝓤 H A at-mem run .pre (to-1 r0 u0 is0 ys₃ ys₄ ys₅ same₃ same₄ same₅ e0))
-  goes-1 r0 u0 is0 ys₃ ys₄ ys₅ same₃ same₄ same₅ e0 =
-      qed W (‵ (flft κ₄ q₄) ∷ ‵ (MutRef (named 4) κ₄ u32 .own x₆ (vptr b₆ o₆ ∷ [])) ∷ []) ∵ nothing ! $ move ! (1 ∷ 0 ∷ []) $ join !
+      (same₆ : length ys₆ ≡ length xs₆) (e0 : Packs a₁ xs₂ xs₃ xs₄ xs₅ xs₆ r0 ys₃ ys₄ ys₅ ys₆)
+      → ent 𝓤 (⋆ 𝓤 H A (‵ (flft κ₅ q₅) ∷ ‵ (MutRef (named 5) κ₅ u32 .own x₇ (vptr b₇ o₇ ∷ [])) ∷ []))
+      (F1 𝓤 H A at-mem run .pre (to-1 r0 u0 is0 ys₃ ys₄ ys₅ ys₆ same₃ same₄ same₅ same₆ e0))
+  goes-1 r0 u0 is0 ys₃ ys₄ ys₅ ys₆ same₃ same₄ same₅ same₆ e0 =
+      qed W (‵ (flft κ₅ q₅) ∷ ‵ (MutRef (named 5) κ₅ u32 .own x₇ (vptr b₇ o₇ ∷ [])) ∷ []) ∵ nothing ! $ move ! (1 ∷ 0 ∷ []) $ join !
       $ nothing ! $ move ! (2 ∷ 0 ∷ []) $ fjoin !
       $ owned ! XPacked (Is XPacked) (EL.makes MPacked.the-type MPacked′.the-plain 𝓤 H A) r0 _ is0 $ fjoin ! $ move ! (1 ∷ 0 ∷ [])
       $ join ! $ nothing ! $ move ! (1 ∷ []) $ frame ! $ done !
 
   module _ (C : Calls 𝓤 H) (Λ : Loops 𝓤 H) (fm : FmC 𝓤 H (W .laws) C) (k0 : Triple 𝓤 (C #f0) (F0 𝓤 H A at-mem run))
       (k1 : Triple 𝓤 (C #f1) (F1 𝓤 H A at-mem run))
-      (l₀ l₁ l₂ l₃ l₄ l₅ l₆ l₇ l₈ l₉ l₁₀ l₁₁ l₁₂ l₁₃ l₁₄ : ℕ) where
+      (l₀ l₁ l₂ l₃ l₄ l₅ l₆ l₇ l₈ l₉ l₁₀ l₁₁ l₁₂ l₁₃ l₁₄ l₁₅ l₁₆ l₁₇ : ℕ) where
     abbrev En : Env 𝓤 H
     En = (ty 0, l₀) ∷ (ty 1, l₁) ∷ (ty 2, l₂) ∷ (ty 3, l₃) ∷ (ty 4, l₄) ∷ (ty 5, l₅) ∷ (ty 6, l₆) ∷ (ty 7, l₇) ∷ (ty 8, l₈) ∷ (ty 9, l₉)
-        ∷ (ty 10, l₁₀) ∷ (ty 11, l₁₁) ∷ (ty 12, l₁₂) ∷ (ty 13, l₁₃) ∷ (ty 14, l₁₄) ∷ []
+        ∷ (ty 10, l₁₀) ∷ (ty 11, l₁₁) ∷ (ty 12, l₁₂) ∷ (ty 13, l₁₃) ∷ (ty 14, l₁₄) ∷ (ty 15, l₁₅) ∷ (ty 16, l₁₆) ∷ (ty 17, l₁₇) ∷ []
 
-    step-1 : (r0 : Packed) (u0 : Val) (is0 : Is XPacked r0 (u0 ∷ [])) (ys₃ : List ℕ) (ys₄ : List ℕ) (ys₅ : List Place)
+    step-1 : (r0 : Packed) (u0 : Val) (is0 : Is XPacked r0 (u0 ∷ [])) (ys₃ : List ℕ) (ys₄ : List ℕ) (ys₅ : List ℕ) (ys₆ : List Place)
         (same₃ : length ys₃ ≡ length xs₃) (same₄ : length ys₄ ≡ length xs₄) (same₅ : length ys₅ ≡ length xs₅)
-        (e0 : Packs a₁ xs₂ xs₃ xs₄ xs₅ r0 ys₃ ys₄ ys₅)
+        (same₆ : length ys₆ ≡ length xs₆) (e0 : Packs a₁ xs₂ xs₃ xs₄ xs₅ xs₆ r0 ys₃ ys₄ ys₅ ys₆)
         → ent 𝓤 (⋆ 𝓤 H A (‵ (froom (ty 0) l₀ 0) ∷ ‵ (fat fullShare (ty 1) l₁ 0 (vint w64 a₁))
         ∷ ‵ (fat fullShare (ty 2) l₂ 0 (sliceVal (b₂, o₂) (length xs₂)))
         ∷ ‵ (fat fullShare (ty 3) l₃ 0 (sliceVal (b₃, o₃) (length xs₃)))
         ∷ ‵ (fat fullShare (ty 4) l₄ 0 (sliceVal (b₄, o₄) (length xs₄)))
         ∷ ‵ (fat fullShare (ty 5) l₅ 0 (sliceVal (b₅, o₅) (length xs₅)))
-        ∷ ‵ (fat fullShare (ty 6) l₆ 0 (vptr b₆ o₆)) ∷ ‵ (fat fullShare (ty 7) l₇ 0 (u0))
-        ∷ ‵ (fat fullShare (ty 8) l₈ 0 (vptr b₃ o₃))
-        ∷ ‵ (fat fullShare (ty 9) l₉ 0 (sliceVal (b₃, o₃) (length xs₃)))
-        ∷ ‵ (fat fullShare (ty 10) l₁₀ 0 (vptr b₄ o₄))
-        ∷ ‵ (fat fullShare (ty 11) l₁₁ 0 (sliceVal (b₄, o₄) (length xs₄)))
-        ∷ ‵ (fat fullShare (ty 12) l₁₂ 0 (vptr b₅ o₅))
-        ∷ ‵ (fat fullShare (ty 13) l₁₃ 0 (sliceVal (b₅, o₅) (length xs₅)))
-        ∷ ‵ (froom (ty 14) l₁₄ 0) ∷ ‵ (fdies (ty 0) l₀) ∷ ‵ (fdies (ty 1) l₁)
+        ∷ ‵ (fat fullShare (ty 6) l₆ 0 (sliceVal (b₆, o₆) (length xs₆)))
+        ∷ ‵ (fat fullShare (ty 7) l₇ 0 (vptr b₇ o₇)) ∷ ‵ (fat fullShare (ty 8) l₈ 0 (u0))
+        ∷ ‵ (fat fullShare (ty 9) l₉ 0 (vptr b₃ o₃))
+        ∷ ‵ (fat fullShare (ty 10) l₁₀ 0 (sliceVal (b₃, o₃) (length xs₃)))
+        ∷ ‵ (fat fullShare (ty 11) l₁₁ 0 (vptr b₄ o₄))
+        ∷ ‵ (fat fullShare (ty 12) l₁₂ 0 (sliceVal (b₄, o₄) (length xs₄)))
+        ∷ ‵ (fat fullShare (ty 13) l₁₃ 0 (vptr b₅ o₅))
+        ∷ ‵ (fat fullShare (ty 14) l₁₄ 0 (sliceVal (b₅, o₅) (length xs₅)))
+        ∷ ‵ (fat fullShare (ty 15) l₁₅ 0 (vptr b₆ o₆))
+        ∷ ‵ (fat fullShare (ty 16) l₁₆ 0 (sliceVal (b₆, o₆) (length xs₆)))
+        ∷ ‵ (froom (ty 17) l₁₇ 0) ∷ ‵ (fdies (ty 0) l₀)
+        ∷ ‵ (fdies (ty 1) l₁) ∷ ‵ (fdies (ty 2) l₂)
+        ∷ ‵ (fdies (ty 3) l₃) ∷ ‵ (fdies (ty 4) l₄)
+        ∷ ‵ (fdies (ty 5) l₅) ∷ ‵ (fdies (ty 6) l₆)
+        ∷ ‵ (fdies (ty 7) l₇) ∷ ‵ (fdies (ty 8) l₈)
+        ∷ ‵ (fdies (ty 9) l₉) ∷ ‵
+        (fdies (ty 10) l₁₀) ∷ ‵ (fdies (ty 11)
+        l₁₁) ∷ ‵ (fdies (ty 12) l₁₂)
+        ∷ ‵ (fdies (ty 13) l₁₃) ∷ ‵
+        (fdies (ty
+        14) l₁₄) ∷
+        ‵ (fdies (ty
+        15) l₁₅) ∷
+        ‵ (fdies (ty
+        16) l₁₆) ∷
+        ‵ (fdies (ty
+        17) l₁₇) ∷
+        ‵ (flft κ₀
+        q₀) ∷ ‵ (flft
+        κ₁ q₁) ∷ ‵
+        (flft κ₂ q₂)
+        ∷ ‵ (flft
+        κ₃ q₃) ∷ ‵
+        (flft κ₄ q₄)
+        ∷ ‵ (flft
+        κ₅ q₅) ∷ ‵
+        (ShrSlice
+        (named 0)
+        κ₀ u16 .own
+        x₂ (sliceVal
+        (b₂, o₂) (length
+        xs₂) ∷ []))
+        ∷ ‵ (finally
+        u16 γ₃ ys₃)
+        ∷ ‵ (finally
+        u8 γ₄ ys₄)
+        ∷ ‵ (finally
+        u16 γ₅ ys₅)
+        ∷ ‵ (finally
+        R γ₆ ys₆)
+        ∷ ‵ (MutRef
+        (named 5)
+        κ₅ u32 .own
+        x₇ (vptr b₇
+        o₇ ∷ []))
+        ∷ [])) (Wp
+        𝓤 H C Λ En
+        pieces.t-10
+        (atReturn
+        𝓤 H En Post))
+    step-1 r0 u0 is0 ys₃ ys₄ ys₅ ys₆ same₃ same₄ same₅ same₆ e0 =
+        qed W (‵ (froom (ty 0) l₀ 0) ∷ ‵ (fat fullShare (ty 1) l₁ 0 (vint w64 a₁))
+        ∷ ‵ (fat fullShare (ty 2) l₂ 0 (sliceVal (b₂, o₂) (length xs₂)))
+        ∷ ‵ (fat fullShare (ty 3) l₃ 0 (sliceVal (b₃, o₃) (length xs₃)))
+        ∷ ‵ (fat fullShare (ty 4) l₄ 0 (sliceVal (b₄, o₄) (length xs₄)))
+        ∷ ‵ (fat fullShare (ty 5) l₅ 0 (sliceVal (b₅, o₅) (length xs₅)))
+        ∷ ‵ (fat fullShare (ty 6) l₆ 0 (sliceVal (b₆, o₆) (length xs₆))) ∷ ‵ (fat fullShare (ty 7) l₇ 0 (vptr b₇ o₇))
+        ∷ ‵ (fat fullShare (ty 8) l₈ 0 (u0)) ∷ ‵ (fat fullShare (ty 9) l₉ 0 (vptr b₃ o₃))
+        ∷ ‵ (fat fullShare (ty 10) l₁₀ 0 (sliceVal (b₃, o₃) (length xs₃)))
+        ∷ ‵ (fat fullShare (ty 11) l₁₁ 0 (vptr b₄ o₄))
+        ∷ ‵ (fat fullShare (ty 12) l₁₂ 0 (sliceVal (b₄, o₄) (length xs₄)))
+        ∷ ‵ (fat fullShare (ty 13) l₁₃ 0 (vptr b₅ o₅))
+        ∷ ‵ (fat fullShare (ty 14) l₁₄ 0 (sliceVal (b₅, o₅) (length xs₅)))
+        ∷ ‵ (fat fullShare (ty 15) l₁₅ 0 (vptr b₆ o₆))
+        ∷ ‵ (fat fullShare (ty 16) l₁₆ 0 (sliceVal (b₆, o₆) (length xs₆)))
+        ∷ ‵ (froom (ty 17) l₁₇ 0) ∷ ‵ (fdies (ty 0) l₀) ∷ ‵ (fdies (ty 1) l₁)
         ∷ ‵ (fdies (ty 2) l₂) ∷ ‵ (fdies (ty 3) l₃) ∷ ‵ (fdies (ty 4) l₄)
         ∷ ‵ (fdies (ty 5) l₅) ∷ ‵ (fdies (ty 6) l₆) ∷ ‵ (fdies (ty 7) l₇)
         ∷ ‵ (fdies (ty 8) l₈) ∷ ‵ (fdies (ty 9) l₉)
         ∷ ‵ (fdies (ty 10) l₁₀) ∷ ‵ (fdies (ty 11) l₁₁)
         ∷ ‵ (fdies (ty 12) l₁₂) ∷ ‵ (fdies (ty 13) l₁₃)
-        ∷ ‵ (fdies (ty 14) l₁₄) ∷ ‵ (flft κ₀ q₀)
-        ∷ ‵ (flft κ₁ q₁) ∷ ‵ (flft κ₂ q₂)
-        ∷ ‵ (flft κ₃ q₃) ∷ ‵ (flft κ₄ q₄)
-        ∷ ‵ (ShrSlice (named 0) κ₀ u16 .own x₂
-        (sliceVal (b₂, o₂) (length xs₂)
-        ∷ [])) ∷ ‵ (finally u16 γ₃ ys₃)
-        ∷ ‵ (finally u8 γ₄ ys₄) ∷ ‵
-        (finally R
-        γ₅ ys₅) ∷
-        ‵ (MutRef
-        (named 4)
-        κ₄ u32 .own
-        x₆ (vptr b₆
-        o₆ ∷ []))
-        ∷ [])) (Wp
-        𝓤 H C Λ En
-        pieces.t-8
-        (atReturn
-        𝓤 H En Post))
-    step-1 r0 u0 is0 ys₃ ys₄ ys₅ same₃ same₄ same₅ e0 =
-        qed W (‵ (froom (ty 0) l₀ 0) ∷ ‵ (fat fullShare (ty 1) l₁ 0 (vint w64 a₁))
-        ∷ ‵ (fat fullShare (ty 2) l₂ 0 (sliceVal (b₂, o₂) (length xs₂)))
-        ∷ ‵ (fat fullShare (ty 3) l₃ 0 (sliceVal (b₃, o₃) (length xs₃)))
-        ∷ ‵ (fat fullShare (ty 4) l₄ 0 (sliceVal (b₄, o₄) (length xs₄)))
-        ∷ ‵ (fat fullShare (ty 5) l₅ 0 (sliceVal (b₅, o₅) (length xs₅))) ∷ ‵ (fat fullShare (ty 6) l₆ 0 (vptr b₆ o₆))
-        ∷ ‵ (fat fullShare (ty 7) l₇ 0 (u0)) ∷ ‵ (fat fullShare (ty 8) l₈ 0 (vptr b₃ o₃))
-        ∷ ‵ (fat fullShare (ty 9) l₉ 0 (sliceVal (b₃, o₃) (length xs₃)))
-        ∷ ‵ (fat fullShare (ty 10) l₁₀ 0 (vptr b₄ o₄))
-        ∷ ‵ (fat fullShare (ty 11) l₁₁ 0 (sliceVal (b₄, o₄) (length xs₄)))
-        ∷ ‵ (fat fullShare (ty 12) l₁₂ 0 (vptr b₅ o₅))
-        ∷ ‵ (fat fullShare (ty 13) l₁₃ 0 (sliceVal (b₅, o₅) (length xs₅))) ∷ ‵ (froom (ty 14) l₁₄ 0)
-        ∷ ‵ (fdies (ty 0) l₀) ∷ ‵ (fdies (ty 1) l₁) ∷ ‵ (fdies (ty 2) l₂) ∷ ‵ (fdies (ty 3) l₃)
-        ∷ ‵ (fdies (ty 4) l₄) ∷ ‵ (fdies (ty 5) l₅) ∷ ‵ (fdies (ty 6) l₆)
-        ∷ ‵ (fdies (ty 7) l₇) ∷ ‵ (fdies (ty 8) l₈) ∷ ‵ (fdies (ty 9) l₉)
-        ∷ ‵ (fdies (ty 10) l₁₀) ∷ ‵ (fdies (ty 11) l₁₁) ∷ ‵ (fdies (ty 12) l₁₂)
-        ∷ ‵ (fdies (ty 13) l₁₃) ∷ ‵ (fdies (ty 14) l₁₄) ∷ ‵ (flft κ₀ q₀)
-        ∷ ‵ (flft κ₁ q₁) ∷ ‵ (flft κ₂ q₂) ∷ ‵ (flft κ₃ q₃) ∷ ‵ (flft κ₄ q₄)
-        ∷ ‵ (ShrSlice (named 0) κ₀ u16 .own x₂
-        (sliceVal (b₂, o₂) (length xs₂) ∷ []))
-        ∷ ‵ (finally u16 γ₃ ys₃) ∷ ‵ (finally u8 γ₄ ys₄)
-        ∷ ‵ (finally R γ₅ ys₅) ∷ ‵
-        (MutRef (named 4) κ₄ u32 .own x₆
-        (vptr b₆ o₆ ∷ [])) ∷ []) ∵ exec ! C Λ En
-        pieces.t-8 (atRet En Post) $
-        assigns ! (addr ! (from ! (hop ! (look ! 6 refl) (stop !)))) (from ! (stop !)) (init ! 14 refl (tt, tt)) $
-        move ! (34 ∷ 39 ∷ []) $ join !
-        $ use1 W (raw (F1 𝓤 H A at-mem run .pre (to-1 r0 u0 is0 ys₃ ys₄ ys₅ same₃ same₄ same₅ e0)))
-        (goes-1 r0 u0 is0 ys₃ ys₄ ys₅ same₃ same₄ same₅ e0) $
-        calls-at ! fm (F1 𝓤 H A at-mem run) k1 (to-1 r0 u0 is0 ys₃ ys₄ ys₅ same₃ same₄ same₅ e0)
-        (and-then ! (load ! (from ! (stop !)) (look ! 8 refl)) (and-then ! (load ! (from ! (stop !)) (look ! 15 refl)) (no-more !)))
+        ∷ ‵ (fdies (ty 14) l₁₄) ∷ ‵ (fdies (ty 15) l₁₅)
+        ∷ ‵ (fdies (ty 16) l₁₆) ∷ ‵ (fdies (ty 17) l₁₇)
+        ∷ ‵ (flft κ₀ q₀) ∷ ‵ (flft κ₁ q₁)
+        ∷ ‵ (flft κ₂ q₂) ∷ ‵ (flft κ₃ q₃)
+        ∷ ‵ (flft κ₄ q₄) ∷ ‵ (flft κ₅ q₅)
+        ∷ ‵ (ShrSlice (named 0) κ₀ u16
+        .own x₂ (sliceVal (b₂, o₂)
+        (length xs₂)
+        ∷ [])) ∷ ‵
+        (finally u16
+        γ₃ ys₃) ∷
+        ‵ (finally
+        u8 γ₄ ys₄)
+        ∷ ‵ (finally
+        u16 γ₅ ys₅)
+        ∷ ‵ (finally
+        R γ₆ ys₆)
+        ∷ ‵ (MutRef
+        (named 5)
+        κ₅ u32 .own
+        x₇ (vptr b₇
+        o₇ ∷ []))
+        ∷ []) ∵ exec
+        ! C Λ En pieces.t-10
+        (atRet En
+        Post) $
+        assigns ! (addr ! (from ! (hop ! (look ! 7 refl) (stop !)))) (from ! (stop !)) (init ! 17 refl (tt, tt)) $
+        move ! (41 ∷ 47 ∷ []) $ join !
+        $ use1 W (raw (F1 𝓤 H A at-mem run .pre (to-1 r0 u0 is0 ys₃ ys₄ ys₅ ys₆ same₃ same₄ same₅ same₆ e0)))
+        (goes-1 r0 u0 is0 ys₃ ys₄ ys₅ ys₆ same₃ same₄ same₅ same₆ e0) $
+        calls-at ! fm (F1 𝓤 H A at-mem run) k1 (to-1 r0 u0 is0 ys₃ ys₄ ys₅ ys₆ same₃ same₄ same₅ same₆ e0)
+        (and-then ! (load ! (from ! (stop !)) (look ! 9 refl)) (and-then ! (load ! (from ! (stop !)) (look ! 18 refl)) (no-more !)))
         (λ u1.
         use1 W (later (some (λ (r1 : ℕ).
-        ((‵ (flft κ₄ q₄) ⊛ (‵ ftrue)) ⊛ ‵ (u32 .own r1 (u1 ∷ []))) ⊛ raw
-        (ensured 𝓤 H A f1′.ended (f1′.clauses 𝓤 H A at-mem run) (κ₄, tt) (r0, (x₆, tt)) tt r1)))) (id⊢ 𝓤 _) $ await ! tt
+        ((‵ (flft κ₅ q₅) ⊛ (‵ ftrue)) ⊛ ‵ (u32 .own r1 (u1 ∷ []))) ⊛ raw
+        (ensured 𝓤 H A f1′.ended (f1′.clauses 𝓤 H A at-mem run) (κ₅, tt) (r0, (x₇, tt)) tt r1)))) (id⊢ 𝓤 _) $ await ! tt
         $ pick ! (λ r1.
         split ! $ move ! (1 ∷ [])
         $ use1 W (some (λ (zs1 : Unit {0} × (ℕ × (Unit {0}))).
-        ‵ (lasts f1′.ended (κ₄, tt) (r0, (x₆, tt)) zs1) ⊛ raw
-        (fact 𝓤 ((r1 ≡ numberOf (packedAnswer r0)) × ((zs1 .1 .0) ≡ sizeAfter h₆ (packedAnswer r0)))))) (id⊢ 𝓤 _)
+        ‵ (lasts f1′.ended (κ₅, tt) (r0, (x₇, tt)) zs1) ⊛ raw
+        (fact 𝓤 ((r1 ≡ numberOf (packedAnswer r0)) × ((zs1 .1 .0) ≡ sizeAfter h₇ (packedAnswer r0)))))) (id⊢ 𝓤 _)
         $ pick ! (λ zs1.
         split ! $ move ! (1 ∷ [])
-        $ heard ! ((r1 ≡ numberOf (packedAnswer r0)) × ((zs1 .1 .0) ≡ sizeAfter h₆ (packedAnswer r0)))
+        $ heard ! ((r1 ≡ numberOf (packedAnswer r0)) × ((zs1 .1 .0) ≡ sizeAfter h₇ (packedAnswer r0)))
         (λ e1. fsplit ! $ drop ! $ fsplit ! $
         move ! (2 ∷ []) $ split ! $ move ! (1 ∷ [])
         $ peeks ! u32 (Is u32) (shows 𝓤 H A u32) r1 (u1 ∷ [])
@@ -311,129 +386,154 @@ module _ {M : Type 1} (𝓤 : URA M) (H : Heap 𝓤) (A : Atoms 𝓤) (W : Given
         move ! (1 ∷ []) $ split ! $
         returns ! (look ! 5 refl) $ forget ! 5 refl $ forget ! 6 refl $ forget ! 7 refl $ forget ! 8 refl $ forget ! 9 refl
         $ forget ! 10 refl $ forget ! 11 refl $ forget ! 12 refl $ forget ! 13 refl $ forget ! 14 refl $ forget ! 15 refl
-        $ forget ! 16 refl $ forget ! 17 refl $ forget ! 18 refl $ forget ! 19 refl $
-        move ! (5 ∷ 20 ∷ []) $ free1 ! $ move ! (5 ∷ 19 ∷ []) $ free1 ! $ move ! (5 ∷ 18 ∷ []) $ free1 ! $ move ! (5 ∷ 17 ∷ []) $ free1 !
-        $ move ! (5 ∷ 16 ∷ []) $ free1 ! $ move ! (5 ∷ 15 ∷ []) $ free1 ! $ move ! (5 ∷ 14 ∷ []) $ free1 ! $ move ! (5 ∷ 13 ∷ [])
-        $ free1 ! $ move ! (5 ∷ 12 ∷ []) $ free1 ! $ move ! (5 ∷ 11 ∷ []) $ free1 ! $ move ! (5 ∷ 10 ∷ []) $ free1 !
-        $ move ! (5 ∷ 9 ∷ []) $ free1 ! $ move ! (5 ∷ 8 ∷ []) $ free1 ! $ move ! (5 ∷ 7 ∷ []) $ free1 ! $ move ! (5 ∷ 6 ∷ [])
-        $ free1 ! $ free0 ! $
-        keep ! (5 ∷ 6 ∷ 7 ∷ 8 ∷ 0 ∷ 9 ∷ 10 ∷ 11 ∷ 12 ∷ 3 ∷ 2 ∷ [])
-        $ by ! (exits r0 u0 is0 ys₃ ys₄ ys₅ same₃ same₄ same₅ e0 r1 u1 is1 ((zs1 .1 .0)) e1))))))
+        $ forget ! 16 refl $ forget ! 17 refl $ forget ! 18 refl $ forget ! 19 refl $ forget ! 20 refl $ forget ! 21 refl
+        $ forget ! 22 refl $
+        move ! (5 ∷ 23 ∷ []) $ free1 ! $ move ! (5 ∷ 22 ∷ []) $ free1 ! $ move ! (5 ∷ 21 ∷ []) $ free1 ! $ move ! (5 ∷ 20 ∷ []) $ free1 !
+        $ move ! (5 ∷ 19 ∷ []) $ free1 ! $ move ! (5 ∷ 18 ∷ []) $ free1 ! $ move ! (5 ∷ 17 ∷ []) $ free1 ! $ move ! (5 ∷ 16 ∷ [])
+        $ free1 ! $ move ! (5 ∷ 15 ∷ []) $ free1 ! $ move ! (5 ∷ 14 ∷ []) $ free1 ! $ move ! (5 ∷ 13 ∷ []) $ free1 !
+        $ move ! (5 ∷ 12 ∷ []) $ free1 ! $ move ! (5 ∷ 11 ∷ []) $ free1 ! $ move ! (5 ∷ 10 ∷ []) $ free1 ! $ move ! (5 ∷ 9 ∷ [])
+        $ free1 ! $ move ! (5 ∷ 8 ∷ []) $ free1 ! $ move ! (5 ∷ 7 ∷ []) $ free1 ! $ move ! (5 ∷ 6 ∷ []) $ free1 !
+        $ free0 ! $
+        keep ! (5 ∷ 6 ∷ 7 ∷ 8 ∷ 9 ∷ 0 ∷ 10 ∷ 11 ∷ 12 ∷ 13 ∷ 14 ∷ 3 ∷ 2 ∷ [])
+        $ by ! (exits r0 u0 is0 ys₃ ys₄ ys₅ ys₆ same₃ same₄ same₅ same₆ e0 r1 u1 is1 ((zs1 .1 .0)) e1))))))
 
     step-0 : ent 𝓤 (⋆ 𝓤 H A (‵ (froom (ty 0) l₀ 0) ∷ ‵ (fat fullShare (ty 1) l₁ 0 (vint w64 a₁))
         ∷ ‵ (fat fullShare (ty 2) l₂ 0 (sliceVal (b₂, o₂) (length xs₂))) ∷ ‵ (fat fullShare (ty 3) l₃ 0 (sliceVal (b₃, o₃) (length xs₃)))
         ∷ ‵ (fat fullShare (ty 4) l₄ 0 (sliceVal (b₄, o₄) (length xs₄)))
-        ∷ ‵ (fat fullShare (ty 5) l₅ 0 (sliceVal (b₅, o₅) (length xs₅))) ∷ ‵ (fat fullShare (ty 6) l₆ 0 (vptr b₆ o₆))
-        ∷ ‵ (froom (ty 7) l₇ 0) ∷ ‵ (froom (ty 8) l₈ 0) ∷ ‵ (froom (ty 9) l₉ 0) ∷ ‵ (froom (ty 10) l₁₀ 0)
-        ∷ ‵ (froom (ty 11) l₁₁ 0) ∷ ‵ (froom (ty 12) l₁₂ 0) ∷ ‵ (froom (ty 13) l₁₃ 0) ∷ ‵ (froom (ty 14) l₁₄ 0)
-        ∷ ‵ (fdies (ty 0) l₀) ∷ ‵ (fdies (ty 1) l₁) ∷ ‵ (fdies (ty 2) l₂) ∷ ‵ (fdies (ty 3) l₃) ∷ ‵ (fdies (ty 4) l₄)
-        ∷ ‵ (fdies (ty 5) l₅) ∷ ‵ (fdies (ty 6) l₆) ∷ ‵ (fdies (ty 7) l₇) ∷ ‵ (fdies (ty 8) l₈)
-        ∷ ‵ (fdies (ty 9) l₉) ∷ ‵ (fdies (ty 10) l₁₀) ∷ ‵ (fdies (ty 11) l₁₁) ∷ ‵ (fdies (ty 12) l₁₂)
-        ∷ ‵ (fdies (ty 13) l₁₃) ∷ ‵ (fdies (ty 14) l₁₄)
-        ∷ raw (onEntry 𝓤 H A public.signature (κ₀, (κ₁, (κ₂, (κ₃, (κ₄, tt)))))
-        (q₀, (q₁, (q₂, (q₃, (q₄, tt))))) x at) ∷ []))
+        ∷ ‵ (fat fullShare (ty 5) l₅ 0 (sliceVal (b₅, o₅) (length xs₅)))
+        ∷ ‵ (fat fullShare (ty 6) l₆ 0 (sliceVal (b₆, o₆) (length xs₆))) ∷ ‵ (fat fullShare (ty 7) l₇ 0 (vptr b₇ o₇))
+        ∷ ‵ (froom (ty 8) l₈ 0) ∷ ‵ (froom (ty 9) l₉ 0) ∷ ‵ (froom (ty 10) l₁₀ 0) ∷ ‵ (froom (ty 11) l₁₁ 0)
+        ∷ ‵ (froom (ty 12) l₁₂ 0) ∷ ‵ (froom (ty 13) l₁₃ 0) ∷ ‵ (froom (ty 14) l₁₄ 0) ∷ ‵ (froom (ty 15) l₁₅ 0)
+        ∷ ‵ (froom (ty 16) l₁₆ 0) ∷ ‵ (froom (ty 17) l₁₇ 0) ∷ ‵ (fdies (ty 0) l₀) ∷ ‵ (fdies (ty 1) l₁)
+        ∷ ‵ (fdies (ty 2) l₂) ∷ ‵ (fdies (ty 3) l₃) ∷ ‵ (fdies (ty 4) l₄) ∷ ‵ (fdies (ty 5) l₅)
+        ∷ ‵ (fdies (ty 6) l₆) ∷ ‵ (fdies (ty 7) l₇) ∷ ‵ (fdies (ty 8) l₈) ∷ ‵ (fdies (ty 9) l₉)
+        ∷ ‵ (fdies (ty 10) l₁₀) ∷ ‵ (fdies (ty 11) l₁₁) ∷ ‵ (fdies (ty 12) l₁₂) ∷ ‵ (fdies (ty 13) l₁₃)
+        ∷ ‵ (fdies (ty 14) l₁₄) ∷ ‵ (fdies (ty 15) l₁₅) ∷ ‵ (fdies (ty 16) l₁₆)
+        ∷ ‵ (fdies (ty 17) l₁₇) ∷ raw
+        (onEntry 𝓤 H A public.signature (κ₀, (κ₁, (κ₂, (κ₃, (κ₄, (κ₅, tt))))))
+        (q₀, (q₁, (q₂, (q₃, (q₄, (q₅, tt)))))) x at) ∷ []))
         (Wp 𝓤 H C Λ En (code.function .body) (atReturn 𝓤 H En Post))
     step-0 =
         qed W (‵ (froom (ty 0) l₀ 0) ∷ ‵ (fat fullShare (ty 1) l₁ 0 (vint w64 a₁))
         ∷ ‵ (fat fullShare (ty 2) l₂ 0 (sliceVal (b₂, o₂) (length xs₂)))
         ∷ ‵ (fat fullShare (ty 3) l₃ 0 (sliceVal (b₃, o₃) (length xs₃)))
         ∷ ‵ (fat fullShare (ty 4) l₄ 0 (sliceVal (b₄, o₄) (length xs₄)))
-        ∷ ‵ (fat fullShare (ty 5) l₅ 0 (sliceVal (b₅, o₅) (length xs₅))) ∷ ‵ (fat fullShare (ty 6) l₆ 0 (vptr b₆ o₆))
-        ∷ ‵ (froom (ty 7) l₇ 0) ∷ ‵ (froom (ty 8) l₈ 0) ∷ ‵ (froom (ty 9) l₉ 0) ∷ ‵ (froom (ty 10) l₁₀ 0)
-        ∷ ‵ (froom (ty 11) l₁₁ 0) ∷ ‵ (froom (ty 12) l₁₂ 0) ∷ ‵ (froom (ty 13) l₁₃ 0) ∷ ‵ (froom (ty 14) l₁₄ 0)
-        ∷ ‵ (fdies (ty 0) l₀) ∷ ‵ (fdies (ty 1) l₁) ∷ ‵ (fdies (ty 2) l₂) ∷ ‵ (fdies (ty 3) l₃)
-        ∷ ‵ (fdies (ty 4) l₄) ∷ ‵ (fdies (ty 5) l₅) ∷ ‵ (fdies (ty 6) l₆) ∷ ‵ (fdies (ty 7) l₇)
-        ∷ ‵ (fdies (ty 8) l₈) ∷ ‵ (fdies (ty 9) l₉) ∷ ‵ (fdies (ty 10) l₁₀) ∷ ‵ (fdies (ty 11) l₁₁)
-        ∷ ‵ (fdies (ty 12) l₁₂) ∷ ‵ (fdies (ty 13) l₁₃) ∷ ‵ (fdies (ty 14) l₁₄)
-        ∷ raw (onEntry 𝓤 H A public.signature (κ₀, (κ₁, (κ₂, (κ₃, (κ₄, tt)))))
-        (q₀, (q₁, (q₂, (q₃, (q₄, tt))))) x at) ∷ []) ∵ exec ! C Λ En (code.function .body)
-        (atRet En Post) $
-        move ! (30 ∷ []) $ use1 W
-        ((‵ (flft κ₀ q₀) ⊛ (‵ (flft κ₁ q₁) ⊛ (‵ (flft κ₂ q₂) ⊛ (‵ (flft κ₃ q₃) ⊛ (‵ (flft κ₄ q₄) ⊛ (‵ ftrue)))))) ⊛ ‵
-        (owns (usize ∷ ShrSlice (named 0) κ₀ u16 ∷ MutSlice (named 1) κ₁ u16 ∷ MutSlice (named 2) κ₂ u8 ∷ MutSlice (named 3) κ₃ R
-        ∷ MutRef (named 4) κ₄ u32 ∷ []) x at)) (id⊢ 𝓤 _) $ split ! $ split ! $ move ! (1 ∷ []) $ split ! $ move ! (1 ∷ [])
-        $ split ! $ move ! (1 ∷ []) $ split ! $ move ! (1 ∷ []) $ split ! $ move ! (1 ∷ []) $ drop ! $
-        move ! (5 ∷ []) $ fsplit ! $ drop ! $ fsplit !
+        ∷ ‵ (fat fullShare (ty 5) l₅ 0 (sliceVal (b₅, o₅) (length xs₅)))
+        ∷ ‵ (fat fullShare (ty 6) l₆ 0 (sliceVal (b₆, o₆) (length xs₆))) ∷ ‵ (fat fullShare (ty 7) l₇ 0 (vptr b₇ o₇))
+        ∷ ‵ (froom (ty 8) l₈ 0) ∷ ‵ (froom (ty 9) l₉ 0) ∷ ‵ (froom (ty 10) l₁₀ 0) ∷ ‵ (froom (ty 11) l₁₁ 0)
+        ∷ ‵ (froom (ty 12) l₁₂ 0) ∷ ‵ (froom (ty 13) l₁₃ 0) ∷ ‵ (froom (ty 14) l₁₄ 0) ∷ ‵ (froom (ty 15) l₁₅ 0)
+        ∷ ‵ (froom (ty 16) l₁₆ 0) ∷ ‵ (froom (ty 17) l₁₇ 0) ∷ ‵ (fdies (ty 0) l₀) ∷ ‵ (fdies (ty 1) l₁)
+        ∷ ‵ (fdies (ty 2) l₂) ∷ ‵ (fdies (ty 3) l₃) ∷ ‵ (fdies (ty 4) l₄) ∷ ‵ (fdies (ty 5) l₅)
+        ∷ ‵ (fdies (ty 6) l₆) ∷ ‵ (fdies (ty 7) l₇) ∷ ‵ (fdies (ty 8) l₈) ∷ ‵ (fdies (ty 9) l₉)
+        ∷ ‵ (fdies (ty 10) l₁₀) ∷ ‵ (fdies (ty 11) l₁₁) ∷ ‵ (fdies (ty 12) l₁₂)
+        ∷ ‵ (fdies (ty 13) l₁₃) ∷ ‵ (fdies (ty 14) l₁₄) ∷ ‵ (fdies (ty 15) l₁₅)
+        ∷ ‵ (fdies (ty 16) l₁₆) ∷ ‵ (fdies (ty 17) l₁₇)
+        ∷ raw (onEntry 𝓤 H A public.signature (κ₀, (κ₁, (κ₂, (κ₃, (κ₄, (κ₅, tt))))))
+        (q₀, (q₁, (q₂, (q₃, (q₄, (q₅, tt)))))) x at) ∷ []) ∵ exec ! C Λ En
+        (code.function .body) (atRet En Post) $
+        move ! (36 ∷ []) $ use1 W
+        ((‵ (flft κ₀ q₀) ⊛ (‵ (flft κ₁ q₁) ⊛ (‵ (flft κ₂ q₂) ⊛ (‵ (flft κ₃ q₃) ⊛ (‵ (flft κ₄ q₄) ⊛ (‵ (flft κ₅ q₅) ⊛ (‵ ftrue))))))) ⊛ ‵
+        (owns (usize ∷ ShrSlice (named 0) κ₀ u16 ∷ MutSlice (named 1) κ₁ u16 ∷ MutSlice (named 2) κ₂ u8 ∷ MutSlice (named 3) κ₃ u16
+        ∷ MutSlice (named 4) κ₄ R ∷ MutRef (named 5) κ₅ u32 ∷ []) x at)) (id⊢ 𝓤 _) $ split ! $ split ! $ move ! (1 ∷ [])
+        $ split ! $ move ! (1 ∷ []) $ split ! $ move ! (1 ∷ []) $ split ! $ move ! (1 ∷ []) $ split ! $ move ! (1 ∷ [])
+        $ split ! $ move ! (1 ∷ []) $ drop ! $
+        move ! (6 ∷ []) $ fsplit ! $ drop ! $ fsplit !
         $ use1 W (‵ (ShrSlice (named 0) κ₀ u16 .own x₂ (sliceVal (b₂, o₂) (length xs₂) ∷ [])) ⊛ ‵
         (ShrSlice (named 0) κ₀ u16 .own x₂ (sliceVal (b₂, o₂) (length xs₂) ∷ [])))
         (shr-slice-copy 𝓤 H A W (named 0) κ₀ u16 .twice x₂ (sliceVal (b₂, o₂) (length xs₂) ∷ [])) $ split ! $ move ! (2 ∷ [])
-        $ fsplit ! $ move ! (1 ∷ []) $ fsplit ! $ move ! (1 ∷ []) $ fsplit ! $ move ! (1 ∷ []) $ fsplit ! $
-        assigns ! (addr ! (from ! (fld ! refl (hop ! (look-in ! 15 (sub ! 0 refl (whole !))) (stop !))))) (from ! (stop !))
-        (init ! 20 refl (tt, tt)) $
-        assigns ! (agg ! (and-then ! (load ! (from ! (stop !)) (look ! 20 refl))
-        (and-then ! (load ! (from ! (fld ! refl (stop !))) (look-in ! 15 (sub ! 1 refl (whole !)))) (no-more !)))) (from ! (stop !))
-        (init ! 21 refl (tt, (tt, (record { fits = g₃ .0 }, tt)))) $
-        assigns ! (addr ! (from ! (fld ! refl (hop ! (look-in ! 16 (sub ! 0 refl (whole !))) (stop !))))) (from ! (stop !))
-        (init ! 22 refl (tt, tt)) $
-        assigns ! (agg ! (and-then ! (load ! (from ! (stop !)) (look ! 22 refl))
-        (and-then ! (load ! (from ! (fld ! refl (stop !))) (look-in ! 16 (sub ! 1 refl (whole !)))) (no-more !)))) (from ! (stop !))
-        (init ! 23 refl (tt, (tt, (record { fits = g₄ .0 }, tt)))) $
+        $ fsplit ! $ move ! (1 ∷ []) $ fsplit ! $ move ! (1 ∷ []) $ fsplit ! $ move ! (1 ∷ []) $ fsplit ! $ move ! (1 ∷ [])
+        $ fsplit ! $
         assigns ! (addr ! (from ! (fld ! refl (hop ! (look-in ! 17 (sub ! 0 refl (whole !))) (stop !))))) (from ! (stop !))
-        (init ! 24 refl (tt, tt)) $
-        assigns ! (agg ! (and-then ! (load ! (from ! (stop !)) (look ! 24 refl))
+        (init ! 23 refl (tt, tt)) $
+        assigns ! (agg ! (and-then ! (load ! (from ! (stop !)) (look ! 23 refl))
         (and-then ! (load ! (from ! (fld ! refl (stop !))) (look-in ! 17 (sub ! 1 refl (whole !)))) (no-more !)))) (from ! (stop !))
-        (init ! 25 refl (tt, (tt, (record { fits = g₅ .0 }, tt)))) $
-        move ! (3 ∷ 2 ∷ []) $ join ! $ move ! (3 ∷ 0 ∷ []) $ join ! $ move ! (3 ∷ 0 ∷ []) $ join ! $ move ! (5 ∷ 0 ∷ []) $ join !
-        $ move ! (5 ∷ 0 ∷ []) $ join ! $ move ! (5 ∷ 0 ∷ []) $ join ! $ move ! (5 ∷ 0 ∷ []) $ join !
-        $ use1 W (raw (F0 𝓤 H A at-mem run .pre to-0)) goes-0 $
+        (init ! 24 refl (tt, (tt, (record { fits = g₃ .0 }, tt)))) $
+        assigns ! (addr ! (from ! (fld ! refl (hop ! (look-in ! 18 (sub ! 0 refl (whole !))) (stop !))))) (from ! (stop !))
+        (init ! 25 refl (tt, tt)) $
+        assigns ! (agg ! (and-then ! (load ! (from ! (stop !)) (look ! 25 refl))
+        (and-then ! (load ! (from ! (fld ! refl (stop !))) (look-in ! 18 (sub ! 1 refl (whole !)))) (no-more !)))) (from ! (stop !))
+        (init ! 26 refl (tt, (tt, (record { fits = g₄ .0 }, tt)))) $
+        assigns ! (addr ! (from ! (fld ! refl (hop ! (look-in ! 19 (sub ! 0 refl (whole !))) (stop !))))) (from ! (stop !))
+        (init ! 27 refl (tt, tt)) $
+        assigns ! (agg ! (and-then ! (load ! (from ! (stop !)) (look ! 27 refl))
+        (and-then ! (load ! (from ! (fld ! refl (stop !))) (look-in ! 19 (sub ! 1 refl (whole !)))) (no-more !)))) (from ! (stop !))
+        (init ! 28 refl (tt, (tt, (record { fits = g₅ .0 }, tt)))) $
+        assigns ! (addr ! (from ! (fld ! refl (hop ! (look-in ! 20 (sub ! 0 refl (whole !))) (stop !))))) (from ! (stop !))
+        (init ! 29 refl (tt, tt)) $
+        assigns ! (agg ! (and-then ! (load ! (from ! (stop !)) (look ! 29 refl))
+        (and-then ! (load ! (from ! (fld ! refl (stop !))) (look-in ! 20 (sub ! 1 refl (whole !)))) (no-more !)))) (from ! (stop !))
+        (init ! 30 refl (tt, (tt, (record { fits = g₆ .0 }, tt)))) $
+        move ! (3 ∷ 2 ∷ []) $ join ! $ move ! (3 ∷ 0 ∷ []) $ join ! $ move ! (3 ∷ 0 ∷ []) $ join ! $ move ! (3 ∷ 0 ∷ []) $ join !
+        $ move ! (5 ∷ 0 ∷ []) $ join ! $ move ! (5 ∷ 0 ∷ []) $ join ! $ move ! (5 ∷ 0 ∷ []) $ join ! $ move ! (5 ∷ 0 ∷ []) $ join !
+        $ move ! (5 ∷ 0 ∷ []) $ join ! $ use1 W (raw (F0 𝓤 H A at-mem run .pre to-0)) goes-0 $
         calls-at ! fm (F0 𝓤 H A at-mem run) k0 to-0
         (and-then ! (load ! (from ! (stop !)) (look ! 6 refl))
         (and-then ! (load ! (from ! (stop !)) (look ! 7 refl))
-        (and-then ! (load ! (from ! (stop !)) (look ! 14 refl))
-        (and-then ! (load ! (from ! (stop !)) (look ! 16 refl))
-        (and-then ! (load ! (from ! (stop !)) (look ! 18 refl)) (no-more !)))))) (λ u0.
+        (and-then ! (load ! (from ! (stop !)) (look ! 15 refl))
+        (and-then ! (load ! (from ! (stop !)) (look ! 17 refl))
+        (and-then ! (load ! (from ! (stop !)) (look ! 19 refl))
+        (and-then ! (load ! (from ! (stop !)) (look ! 21 refl)) (no-more !))))))) (λ u0.
         use1 W (later (some (λ (r0 : Packed).
-        ((‵ (flft κ₀ q₀) ⊛ (‵ (flft κ₁ q₁) ⊛ (‵ (flft κ₂ q₂) ⊛ (‵ (flft κ₃ q₃) ⊛ (‵ ftrue))))) ⊛ ‵ (XPacked .own r0 (u0 ∷ []))) ⊛ raw
-        (ensured 𝓤 H A f0′.ended (f0′.clauses 𝓤 H A at-mem run) (κ₀, (κ₁, (κ₂, (κ₃, tt)))) (a₁, (x₂, (x₃, (x₄, (x₅, tt))))) tt
-        r0)))) (id⊢ 𝓤 _) $ await ! tt $ pick ! (λ r0.
+        ((‵ (flft κ₀ q₀) ⊛ (‵ (flft κ₁ q₁) ⊛ (‵ (flft κ₂ q₂) ⊛ (‵ (flft κ₃ q₃) ⊛ (‵ (flft κ₄ q₄) ⊛ (‵ ftrue)))))) ⊛ ‵
+        (XPacked .own r0 (u0 ∷ []))) ⊛ raw
+        (ensured 𝓤 H A f0′.ended (f0′.clauses 𝓤 H A at-mem run) (κ₀, (κ₁, (κ₂, (κ₃, (κ₄, tt)))))
+        (a₁, (x₂, (x₃, (x₄, (x₅, (x₆, tt)))))) tt r0)))) (id⊢ 𝓤 _) $ await ! tt $ pick ! (λ r0.
         split ! $ move ! (1 ∷ [])
-        $ use1 W (some (λ (zs0 : Unit {0} × (Unit {0} × (List ℕ × (List ℕ × (List Place × (Unit {0})))))).
-        ‵ (lasts f0′.ended (κ₀, (κ₁, (κ₂, (κ₃, tt)))) (a₁, (x₂, (x₃, (x₄, (x₅, tt))))) zs0) ⊛ raw
-        (fact 𝓤 (Packs a₁ xs₂ xs₃ xs₄ xs₅ r0 (zs0 .1 .1 .0) (zs0 .1 .1 .1 .0) (zs0 .1 .1 .1 .1 .0))))) (id⊢ 𝓤 _)
-        $ pick ! (λ zs0.
+        $ use1 W (some (λ (zs0 : Unit {0} × (Unit {0} × (List ℕ × (List ℕ × (List ℕ × (List Place × (Unit {0}))))))).
+        ‵ (lasts f0′.ended (κ₀, (κ₁, (κ₂, (κ₃, (κ₄, tt))))) (a₁, (x₂, (x₃, (x₄, (x₅, (x₆, tt)))))) zs0) ⊛ raw
+        (fact 𝓤 (Packs a₁ xs₂ xs₃ xs₄ xs₅ xs₆ r0 (zs0 .1 .1 .0) (zs0 .1 .1 .1 .0) (zs0 .1 .1 .1 .1 .0)
+        (zs0 .1 .1 .1 .1 .1 .0))))) (id⊢ 𝓤 _) $ pick ! (λ zs0.
         split ! $ move ! (1 ∷ [])
-        $ heard ! (Packs a₁ xs₂ xs₃ xs₄ xs₅ r0 (zs0 .1 .1 .0) (zs0 .1 .1 .1 .0) (zs0 .1 .1 .1 .1 .0))
+        $ heard ! (Packs a₁ xs₂ xs₃ xs₄ xs₅ xs₆ r0 (zs0 .1 .1 .0) (zs0 .1 .1 .1 .0) (zs0 .1 .1 .1 .1 .0) (zs0 .1 .1 .1 .1 .1 .0))
         (λ e0. fsplit ! $ drop ! $ fsplit ! $ drop ! $ fsplit ! $ fsplit ! $ move ! (1 ∷ [])
         $ feqL ! (λ same₃. move ! (1 ∷ []) $ fsplit ! $ fsplit ! $ move ! (1 ∷ [])
-        $ feqL ! (λ same₄. move ! (1 ∷ []) $ fsplit ! $ fsplit ! $ move ! (1 ∷ []) $ feqL ! (λ same₅.
-        move ! (4 ∷ []) $ split ! $ move ! (1 ∷ [])
+        $ feqL ! (λ same₄. move ! (1 ∷ []) $ fsplit ! $ fsplit ! $ move ! (1 ∷ [])
+        $ feqL ! (λ same₅. move ! (1 ∷ []) $ fsplit ! $ fsplit ! $ move ! (1 ∷ []) $ feqL ! (λ same₆.
+        move ! (5 ∷ []) $ split ! $ move ! (1 ∷ [])
         $ peeks ! XPacked (Is XPacked) (shows 𝓤 H A XPacked) r0 (u0 ∷ [])
         (λ is0. land ! (from ! (stop !))
-        (init ! 17 refl (EL.lawful MPacked.the-type MPacked′.the-laws 𝓤 H A W tt .typed r0 (u0 ∷ []) is0 .0)) $
-        move ! (1 ∷ []) $ split ! $ move ! (1 ∷ []) $ split ! $ move ! (1 ∷ []) $ split ! $ move ! (1 ∷ []) $ split ! $ move ! (5 ∷ [])
-        $ drop ! $
-        keep ! (13 ∷ 14 ∷ 15 ∷ 16 ∷ 17 ∷ 18 ∷ 19 ∷ 20 ∷ 21 ∷ 22 ∷ 23 ∷ 24 ∷ 25 ∷ 26 ∷ 27 ∷ 28 ∷ 29 ∷ 30 ∷ 31 ∷ 32 ∷ 33 ∷ 34 ∷ 35 ∷ 36 ∷ 37
-        ∷ 38 ∷ 39 ∷ 40 ∷ 41 ∷ 42 ∷ 4 ∷ 3 ∷ 2 ∷ 0 ∷ 12 ∷ 11 ∷ 8 ∷ 7 ∷ 5 ∷ 9 ∷ [])
-        $ by ! (step-1 r0 u0 is0 ((zs0 .1 .1 .0)) ((zs0 .1 .1 .1 .0)) ((zs0 .1 .1 .1 .1 .0)) same₃ same₄ same₅ e0)))))))))
+        (init ! 19 refl (EL.lawful MPacked.the-type MPacked′.the-laws 𝓤 H A W tt .typed r0 (u0 ∷ []) is0 .0)) $
+        move ! (1 ∷ []) $ split ! $ move ! (1 ∷ []) $ split ! $ move ! (1 ∷ []) $ split ! $ move ! (1 ∷ []) $ split ! $ move ! (1 ∷ [])
+        $ split ! $ move ! (6 ∷ []) $ drop ! $
+        keep ! (15 ∷ 16 ∷ 17 ∷ 18 ∷ 19 ∷ 20 ∷ 21 ∷ 22 ∷ 23 ∷ 24 ∷ 25 ∷ 26 ∷ 27 ∷ 28 ∷ 29 ∷ 30 ∷ 31 ∷ 32 ∷ 33 ∷ 34 ∷ 35 ∷ 36 ∷ 37 ∷ 38 ∷ 39
+        ∷ 40 ∷ 41 ∷ 42 ∷ 43 ∷ 44 ∷ 45 ∷ 46 ∷ 47 ∷ 48 ∷ 49 ∷ 50 ∷ 5 ∷ 4 ∷ 3 ∷ 2 ∷ 0 ∷ 14 ∷ 13 ∷ 10 ∷ 9 ∷ 8 ∷ 6 ∷ 11 ∷ [])
+        $ by ! (step-1 r0 u0 is0 ((zs0 .1 .1 .0)) ((zs0 .1 .1 .1 .0)) ((zs0 .1 .1 .1 .1 .0)) ((zs0 .1 .1 .1 .1 .1 .0)) same₃ same₄
+        same₅ same₆ e0))))))))))
 
   walk : (C : Calls 𝓤 H) (Λ : Loops 𝓤 H) → FmC 𝓤 H (W .laws) C → Triple 𝓤 (C #f0) (F0 𝓤 H A at-mem run)
       → Triple 𝓤 (C #f1) (F1 𝓤 H A at-mem run)
-      → ent 𝓤 (onEntry 𝓤 H A public.signature (κ₀, (κ₁, (κ₂, (κ₃, (κ₄, tt))))) (q₀, (q₁, (q₂, (q₃, (q₄, tt))))) x at)
+      → ent 𝓤 (onEntry 𝓤 H A public.signature (κ₀, (κ₁, (κ₂, (κ₃, (κ₄, (κ₅, tt)))))) (q₀, (q₁, (q₂, (q₃, (q₄, (q₅, tt)))))) x at)
       (WpFn 𝓤 H C Λ code.function
       (vint w64 a₁ ∷ sliceVal (b₂, o₂) (length xs₂) ∷ sliceVal (b₃, o₃) (length xs₃) ∷ sliceVal (b₄, o₄) (length xs₄)
-      ∷ sliceVal (b₅, o₅) (length xs₅) ∷ vptr b₆ o₆ ∷ []) Post)
+      ∷ sliceVal (b₅, o₅) (length xs₅) ∷ sliceVal (b₆, o₆) (length xs₆) ∷ vptr b₇ o₇ ∷ []) Post)
   walk C Λ fm k0 k1 =
-      qed W (raw (onEntry 𝓤 H A public.signature (κ₀, (κ₁, (κ₂, (κ₃, (κ₄, tt))))) (q₀, (q₁, (q₂, (q₃, (q₄, tt))))) x at) ∷ []) ∵ enter ! C Λ
-      code.function (vint w64 a₁ ∷ sliceVal (b₂, o₂) (length xs₂) ∷ sliceVal (b₃, o₃) (length xs₃) ∷ sliceVal (b₄, o₄) (length xs₄)
-      ∷ sliceVal (b₅, o₅) (length xs₅) ∷ vptr b₆ o₆ ∷ []) _ $
+      qed W (raw (onEntry 𝓤 H A public.signature (κ₀, (κ₁, (κ₂, (κ₃, (κ₄, (κ₅, tt)))))) (q₀, (q₁, (q₂, (q₃, (q₄, (q₅, tt)))))) x at) ∷ []) ∵
+      enter ! C Λ code.function
+      (vint w64 a₁ ∷ sliceVal (b₂, o₂) (length xs₂) ∷ sliceVal (b₃, o₃) (length xs₃) ∷ sliceVal (b₄, o₄) (length xs₄)
+      ∷ sliceVal (b₅, o₅) (length xs₅) ∷ sliceVal (b₆, o₆) (length xs₆) ∷ vptr b₇ o₇ ∷ []) _ $
       alloc1 ! (λ l₀. alloc1 !
       (λ l₁. alloc1 ! (λ l₂. alloc1 !
       (λ l₃. alloc1 ! (λ l₄. alloc1 !
       (λ l₅. alloc1 ! (λ l₆. alloc1 !
       (λ l₇. alloc1 ! (λ l₈. alloc1 !
-      (λ l₉. alloc1 ! (λ l₁₀. alloc1 ! (λ l₁₁. alloc1 ! (λ l₁₂. alloc1 ! (λ l₁₃. alloc1 ! (λ l₁₄. alloc0 ! $ params1 ! $
-      pass1 ! (init ! 26 refl (tt, record { fits = g₁ })) $ pass1 ! (init ! 24 refl (tt, (tt, (record { fits = g₂ .0 }, tt))))
-      $ pass1 ! (init ! 22 refl (tt, (tt, (record { fits = g₃ .0 }, tt))))
-      $ pass1 ! (init ! 20 refl (tt, (tt, (record { fits = g₄ .0 }, tt))))
-      $ pass1 ! (init ! 18 refl (tt, (tt, (record { fits = g₅ .0 }, tt)))) $ pass1 ! (init ! 16 refl (tt, tt)) $ pass0 ! $
-      keep ! (28 ∷ 26 ∷ 24 ∷ 22 ∷ 20 ∷ 18 ∷ 16 ∷ 14 ∷ 12 ∷ 10 ∷ 8 ∷ 6 ∷ 4 ∷ 2 ∷ 0 ∷ 29 ∷ 27 ∷ 25 ∷ 23 ∷ 21 ∷ 19 ∷ 17 ∷ 15 ∷ 13 ∷ 11 ∷ 9 ∷ 7
-      ∷ 5 ∷ 3 ∷ 1 ∷ 30 ∷ []) $ by ! (step-0 C Λ fm k0 k1 l₀ l₁ l₂ l₃ l₄ l₅ l₆ l₇ l₈ l₉ l₁₀ l₁₁ l₁₂ l₁₃ l₁₄))))))))))))))))
+      (λ l₉. alloc1 ! (λ l₁₀. alloc1 !
+      (λ l₁₁. alloc1 ! (λ l₁₂.
+      alloc1 ! (λ l₁₃. alloc1 !
+      (λ l₁₄. alloc1 ! (λ l₁₅. alloc1 ! (λ l₁₆. alloc1 ! (λ l₁₇. alloc0 ! $ params1 ! $
+      pass1 ! (init ! 32 refl (tt, record { fits = g₁ })) $ pass1 ! (init ! 30 refl (tt, (tt, (record { fits = g₂ .0 }, tt))))
+      $ pass1 ! (init ! 28 refl (tt, (tt, (record { fits = g₃ .0 }, tt))))
+      $ pass1 ! (init ! 26 refl (tt, (tt, (record { fits = g₄ .0 }, tt))))
+      $ pass1 ! (init ! 24 refl (tt, (tt, (record { fits = g₅ .0 }, tt))))
+      $ pass1 ! (init ! 22 refl (tt, (tt, (record { fits = g₆ .0 }, tt)))) $ pass1 ! (init ! 20 refl (tt, tt)) $ pass0 ! $
+      keep ! (34 ∷ 32 ∷ 30 ∷ 28 ∷ 26 ∷ 24 ∷ 22 ∷ 20 ∷ 18 ∷ 16 ∷ 14 ∷ 12 ∷ 10 ∷ 8 ∷ 6 ∷ 4 ∷ 2 ∷ 0 ∷ 35 ∷ 33 ∷ 31 ∷ 29 ∷ 27 ∷ 25 ∷ 23 ∷ 21
+      ∷ 19 ∷ 17 ∷ 15 ∷ 13 ∷ 11 ∷ 9 ∷ 7 ∷ 5 ∷ 3 ∷ 1 ∷ 36 ∷ [])
+      $ by ! (step-0 C Λ fm k0 k1 l₀ l₁ l₂ l₃ l₄ l₅ l₆ l₇ l₈ l₉ l₁₀ l₁₁ l₁₂ l₁₃ l₁₄ l₁₅ l₁₆ l₁₇)))))))))))))))))))
 
 module _ {M : Type 1} (𝓤 : URA M) (H : Heap 𝓤) (A : Atoms 𝓤) (W : Given 𝓤 H A) (at-mem : Memory → SProp 𝓤) (run : Routine → Fun 𝓤)
     (𝓣 : Tables 𝓤 H) (k0 : Triple 𝓤 (𝓣 .C #f0) (F0 𝓤 H A at-mem run)) (k1 : Triple 𝓤 (𝓣 .C #f1) (F1 𝓤 H A at-mem run)) where
   public-walks : Walks 𝓤 H A public.ended stayed (WpFn 𝓤 H (𝓣 .C) (𝓣 .Λ) code.function) (public.clauses 𝓤 H A at-mem run)
   public-walks = walked 𝓤 H A public.ended stayed (public.clauses 𝓤 H A at-mem run) (WpFn 𝓤 H (𝓣 .C) (𝓣 .Λ) code.function)
-      (λ κs. (uint-vals w64, (slice-vals, (slice-vals, (slice-vals, (slice-vals, (ptr-vals, tt)))))))
+      (λ κs. (uint-vals w64, (slice-vals, (slice-vals, (slice-vals, (slice-vals, (slice-vals, (ptr-vals, tt))))))))
       (λ κs. (
         uint-tells w64,
         (
@@ -442,38 +542,46 @@ module _ {M : Type 1} (𝓤 : URA M) (H : Heap 𝓤) (A : Atoms 𝓤) (W : Given
             mut-slice-tells (named 1) (κs .1 .0) u16,
             (
               mut-slice-tells (named 2) (κs .1 .1 .0) u8,
-              (mut-slice-tells (named 3) (κs .1 .1 .1 .0) R, (mut-tells (named 4) (κs .1 .1 .1 .1 .0) u32, tt)),
+              (
+                mut-slice-tells (named 3) (κs .1 .1 .1 .0) u16,
+                (mut-slice-tells (named 4) (κs .1 .1 .1 .1 .0) R, (mut-tells (named 5) (κs .1 .1 .1 .1 .1 .0) u32, tt)),
+              ),
             ),
           ),
         ),
       ))
       (λ κs qs bounds a g are.
       via 𝓤 _ (fst∗ 𝓤 _ (emp 𝓤))
-      (walk 𝓤 H A W at-mem run (κs .0) (κs .1 .0) (κs .1 .1 .0) (κs .1 .1 .1 .0) (κs .1 .1 .1 .1 .0) (qs .0) (qs .1 .0)
-      (qs .1 .1 .0) (qs .1 .1 .1 .0) (qs .1 .1 .1 .1 .0) (a .0) (are .0 .1) (a .1 .0 .ptr .0) (a .1 .0 .ptr .1) (a .1 .0 .name)
-      (a .1 .0 .now) (are .1 .0 .0 .1) (a .1 .1 .0 .ptr .0) (a .1 .1 .0 .ptr .1) (a .1 .1 .0 .name) (a .1 .1 .0 .now)
-      (are .1 .1 .0 .0 .1) (a .1 .1 .1 .0 .ptr .0) (a .1 .1 .1 .0 .ptr .1) (a .1 .1 .1 .0 .name) (a .1 .1 .1 .0 .now)
-      (are .1 .1 .1 .0 .0 .1) (a .1 .1 .1 .1 .0 .ptr .0) (a .1 .1 .1 .1 .0 .ptr .1) (a .1 .1 .1 .1 .0 .name)
-      (a .1 .1 .1 .1 .0 .now) (are .1 .1 .1 .1 .0 .0 .1) (a .1 .1 .1 .1 .1 .0 .ptr .0)
-      (a .1 .1 .1 .1 .1 .0 .ptr .1) (a .1 .1 .1 .1 .1 .0 .name) (a .1 .1 .1 .1 .1 .0 .now)
+      (walk 𝓤 H A W at-mem run (κs .0) (κs .1 .0) (κs .1 .1 .0) (κs .1 .1 .1 .0) (κs .1 .1 .1 .1 .0) (κs .1 .1 .1 .1 .1 .0) (qs .0)
+      (qs .1 .0) (qs .1 .1 .0) (qs .1 .1 .1 .0) (qs .1 .1 .1 .1 .0) (qs .1 .1 .1 .1 .1 .0) (a .0) (are .0 .1) (a .1 .0 .ptr .0)
+      (a .1 .0 .ptr .1) (a .1 .0 .name) (a .1 .0 .now) (are .1 .0 .0 .1) (a .1 .1 .0 .ptr .0) (a .1 .1 .0 .ptr .1)
+      (a .1 .1 .0 .name) (a .1 .1 .0 .now) (are .1 .1 .0 .0 .1) (a .1 .1 .1 .0 .ptr .0) (a .1 .1 .1 .0 .ptr .1)
+      (a .1 .1 .1 .0 .name) (a .1 .1 .1 .0 .now) (are .1 .1 .1 .0 .0 .1) (a .1 .1 .1 .1 .0 .ptr .0)
+      (a .1 .1 .1 .1 .0 .ptr .1) (a .1 .1 .1 .1 .0 .name) (a .1 .1 .1 .1 .0 .now) (are .1 .1 .1 .1 .0 .0 .1)
+      (a .1 .1 .1 .1 .1 .0 .ptr .0) (a .1 .1 .1 .1 .1 .0 .ptr .1) (a .1 .1 .1 .1 .1 .0 .name)
+      (a .1 .1 .1 .1 .1 .0 .now) (are .1 .1 .1 .1 .1 .0 .0 .1) (a .1 .1 .1 .1 .1 .1 .0 .ptr .0)
+      (a .1 .1 .1 .1 .1 .1 .0 .ptr .1) (a .1 .1 .1 .1 .1 .1 .0 .name) (a .1 .1 .1 .1 .1 .1 .0 .now)
       (𝓣 .C) (𝓣 .Λ) (fmOf 𝓤 H (W .laws) 𝓣) k0 k1))
 
   public-meets : Meets 𝓤 H A public.signature (WpFn 𝓤 H (𝓣 .C) (𝓣 .Λ) code.function) (public.spec 𝓤 H A at-mem run)
   public-meets = walk-meets 𝓤 H A public.ended stayed W (
-    goes-none 𝓤 H A W 5 (λ _. usize) yes (λ κs x f. refl),
+    goes-none 𝓤 H A W 6 (λ _. usize) yes (λ κs x f. refl),
     (
-      goes-none-slice 𝓤 H A W 5 (0 ∷ []) tt (plain (λ _. u16)) yes,
+      goes-none-slice 𝓤 H A W 6 (0 ∷ []) tt (plain (λ _. u16)) yes,
       (
-        goes-gave-slice 𝓤 H A W 5 1 tt (plain (λ _. u16)),
+        goes-gave-slice 𝓤 H A W 6 1 tt (plain (λ _. u16)),
         (
-          goes-gave-slice 𝓤 H A W 5 2 tt (plain (λ _. u8)),
-          (goes-gave-slice 𝓤 H A W 5 3 tt (plain (λ _. R)), (goes-gave-ref 𝓤 H A W 5 4 tt (plain (λ _. u32)), tt)),
+          goes-gave-slice 𝓤 H A W 6 2 tt (plain (λ _. u8)),
+          (
+            goes-gave-slice 𝓤 H A W 6 3 tt (plain (λ _. u16)),
+            (goes-gave-slice 𝓤 H A W 6 4 tt (plain (λ _. R)), (goes-gave-ref 𝓤 H A W 6 5 tt (plain (λ _. u32)), tt)),
+          ),
         ),
       ),
     ),
   )
-      (public.clauses 𝓤 H A at-mem run) (WpFn 𝓤 H (𝓣 .C) (𝓣 .Λ) code.function) (WpFn-mono 𝓤 H (W .laws) 𝓣 code.function)
-      public-walks
+      (public.clauses 𝓤 H A at-mem run) (WpFn 𝓤 H (𝓣 .C) (𝓣 .Λ) code.function)
+      (WpFn-mono 𝓤 H (W .laws) 𝓣 code.function) public-walks
 
 pub cutborder-pack-spec : {M : Type 1} → stated.statement M
 unfolding code.routine tablesOf

@@ -35,20 +35,20 @@ corners (t ∷ ts) (here (at-r a b c)) o = (λ q. o .1 .2 (a ∙ (q ∙ sym b)),
 corners (t ∷ ts) (there i) o = corners ts i (o .2)
 
 -- the same triangle seen from another corner
-same : {t : Triangle} {x y z u v w : ℕ} → Rot t x y z → Rot t u v w → Rot (tri x y z) u v w
-same (at-p a b c) (at-p a′ b′ c′) = at-p (sym a ∙ a′) (sym b ∙ b′) (sym c ∙ c′)
-same (at-p a b c) (at-q a′ b′ c′) = at-q (sym b ∙ a′) (sym c ∙ b′) (sym a ∙ c′)
-same (at-p a b c) (at-r a′ b′ c′) = at-r (sym c ∙ a′) (sym a ∙ b′) (sym b ∙ c′)
-same (at-q a b c) (at-p a′ b′ c′) = at-r (sym c ∙ a′) (sym a ∙ b′) (sym b ∙ c′)
-same (at-q a b c) (at-q a′ b′ c′) = at-p (sym a ∙ a′) (sym b ∙ b′) (sym c ∙ c′)
-same (at-q a b c) (at-r a′ b′ c′) = at-q (sym b ∙ a′) (sym c ∙ b′) (sym a ∙ c′)
-same (at-r a b c) (at-p a′ b′ c′) = at-q (sym b ∙ a′) (sym c ∙ b′) (sym a ∙ c′)
-same (at-r a b c) (at-q a′ b′ c′) = at-r (sym c ∙ a′) (sym a ∙ b′) (sym b ∙ c′)
-same (at-r a b c) (at-r a′ b′ c′) = at-p (sym a ∙ a′) (sym b ∙ b′) (sym c ∙ c′)
+pub rot-same : {t : Triangle} {x y z u v w : ℕ} → Rot t x y z → Rot t u v w → Rot (tri x y z) u v w
+rot-same (at-p a b c) (at-p a′ b′ c′) = at-p (sym a ∙ a′) (sym b ∙ b′) (sym c ∙ c′)
+rot-same (at-p a b c) (at-q a′ b′ c′) = at-q (sym b ∙ a′) (sym c ∙ b′) (sym a ∙ c′)
+rot-same (at-p a b c) (at-r a′ b′ c′) = at-r (sym c ∙ a′) (sym a ∙ b′) (sym b ∙ c′)
+rot-same (at-q a b c) (at-p a′ b′ c′) = at-r (sym c ∙ a′) (sym a ∙ b′) (sym b ∙ c′)
+rot-same (at-q a b c) (at-q a′ b′ c′) = at-p (sym a ∙ a′) (sym b ∙ b′) (sym c ∙ c′)
+rot-same (at-q a b c) (at-r a′ b′ c′) = at-q (sym b ∙ a′) (sym c ∙ b′) (sym a ∙ c′)
+rot-same (at-r a b c) (at-p a′ b′ c′) = at-q (sym b ∙ a′) (sym c ∙ b′) (sym a ∙ c′)
+rot-same (at-r a b c) (at-q a′ b′ c′) = at-r (sym c ∙ a′) (sym a ∙ b′) (sym b ∙ c′)
+rot-same (at-r a b c) (at-r a′ b′ c′) = at-p (sym a ∙ a′) (sym b ∙ b′) (sym c ∙ c′)
 
 pub out : {x y z u v w : ℕ} {ts : List Triangle} (i : In x y z ts) → In u v w ts → In u v w (tri x y z ∷ others i)
 unfolding others
-out (here r) (here s) = here (same r s)
+out (here r) (here s) = here (rot-same r s)
 out (here r) (there j) = there j
 out (there i) (here s) = there (here s)
 out {x} {y} {z} {u} {v} {w} (there {t = t} i) (there j) = go (out i j)

@@ -1,11 +1,11 @@
--- How many place records a packing clears is read off its answer: 1 to 8 are given before any is cleared, 9 to 11 past that.
+-- How many place records a packing clears is read off its answer: 1 to 8 and 22 are given before any is cleared, 9 to 11 past that.
 -- Assumes nothing.
 use Prim.Native.Nat.{ℕ, _≤_, _<_}
 use native.Mathlib.Omega.{arith}
-use mathlib.Core.Bool.{Bool, true, false}
+use mathlib.Core.Bool.{Bool, true, false, _&&_}
 use mathlib.Core.Logic.{inl, inr}
 use mathlib.Core.List.{List, []}
-use mathlib.Core.Path.{_≡_, refl, sym, ap, _∙_}
+use mathlib.Core.Path.{_≡_, refl, sym, ap, ap₂, _∙_}
 use lib.ListN.{length}
 use lib.Dec.{leb}
 use borrow.Author.Tests.{le-leb, lt-leb}
@@ -15,16 +15,16 @@ use Rattle.rules.specs.declared.Packed.{Packed}
 use Rattle.rules.specs.declared.Packed.the-variants as P
 use Rattle.rules.specs.declared.Checked.{Checked}
 use Rattle.rules.specs.declared.Checked.the-variants.{Accepted, Refused}
-use Rattle.rules.specs.Limits.{maxPlaces}
+use Rattle.rules.specs.Limits.{maxPlaces, between}
 use Rattle.rules.specs.Triangle.{trianglesOf}
 use Rattle.rules.specs.Check.{passes, checkTriangles, check}
 use Rattle.rules.specs.Answer.{Answer, refusal, accepted, triangle, no-triangle, numbers, packed, unpacked, packedAnswer}
-use Rattle.rules.specs.Pack.{Chosen, stopped, chosen, most, nothingBuilt, chosenFor, packOf, newNumbers, PackResult, turnedDown}
-use Rattle.rules.specs.Pack.{packRefused, packDone, packStored, packChosen, packLongEnough, packChecked, pack}
+use Rattle.rules.specs.Pack.{Chosen, stopped, chosen, most, nothingBuilt, chosenFor, orderFor, PackResult, turnedDown, PackContents}
+use Rattle.rules.specs.Pack.{packRefused, packDone, packStored, contentsOf, packChosen, packLongEnough, orderLongEnough, packChecked, pack}
 use Rattle.choice_theory.proofs.Runs.Whole as whole
 use Rattle.choice_theory.proofs.Runs.Accepted.{accepted-packs}
 use Rattle.pack_theory.specs.Packing.Lent.{clearedBy}
-use Rattle.pack_theory.proofs.Packing.Lending.{isPast, lentTo}
+use Rattle.pack_theory.proofs.Packing.Lending.{isPast, lentTo, ranIn}
 
 -- 1 to 8, or none
 abbrev Early : Checked → Type 0
@@ -47,7 +47,7 @@ early-check v xs =
 
 -- what is cleared after an answer
 abbrev clearedAfter : Answer → ℕ
-clearedAfter (refusal k) = elim (leb k 8) [ true ↦ 0 | false ↦ maxPlaces ]
+clearedAfter (refusal k) = elim (between 9 k 11) [ true ↦ maxPlaces | false ↦ 0 ]
 clearedAfter accepted = maxPlaces
 clearedAfter (triangle t) = maxPlaces
 clearedAfter no-triangle = maxPlaces
@@ -66,39 +66,51 @@ abbrev clearing : Bool → ℕ
 clearing true = maxPlaces
 clearing false = 0
 
-module _ (v : ℕ) (ts : List Triangle) (ns bs : List ℕ) (ps : List Place) where
-  stored-cleared : (ms bytes : List ℕ) → clears (packStored v ms bytes (lentTo ns ps bs)) ≡ maxPlaces
-  stored-cleared ms bytes = go (leb (length bytes) (length bs))
+-- 1 to 8 are below 9
+early-none : (k : ℕ) → k ≤ 8 → between 9 k 11 ≡ false
+early-none k h = ap (λ (b : Bool). b && leb k 11) (lt-leb 9 k (omega (arith, h)))
+
+module _ (v : ℕ) (ts : List Triangle) (ns bs os : List ℕ) (ps : List Place) where
+  stored-cleared : (w : PackContents) → clears (packStored v ts w (lentTo ns ps bs os)) ≡ maxPlaces
+  stored-cleared w = go (leb (length (w .pack)) (length bs))
     where
       go : (b : Bool)
-          → clears (elim b [ true ↦ packDone ms bytes (lentTo ns ps bs) | false ↦ packRefused 11 v (lentTo ns ps bs) ]) ≡ maxPlaces
+          → clears (elim b [ true ↦ packDone w (lentTo ns ps bs os) | false ↦ packRefused 11 v ts (lentTo ns ps bs os) ]) ≡ maxPlaces
       go true = refl
       go false = refl
 
-  chosen-cleared : (c : Chosen) → whole.Ends (nothingBuilt most ts) [] [] [] c → clears (packChosen v ts (lentTo ns ps bs) c) ≡ maxPlaces
+  chosen-cleared : (ks : List ℕ) (c : Chosen) → whole.Ends (nothingBuilt most ts) [] [] [] c
+      → clears (packChosen v ts (lentTo ns ps bs os) ks c) ≡ maxPlaces
   unfolding packChosen whole.Ends
-  chosen-cleared (stopped n) (inl e) = ap (λ (k : ℕ). clearedAfter (refusal k)) e
-  chosen-cleared (stopped n) (inr e) = ap (λ (k : ℕ). clearedAfter (refusal k)) e
-  chosen-cleared (chosen os s) h = stored-cleared (newNumbers v (s .numbered)) (packOf v ts os s)
+  chosen-cleared ks (stopped n) (inl e) = ap (λ (k : ℕ). clearedAfter (refusal k)) e
+  chosen-cleared ks (stopped n) (inr e) = ap (λ (k : ℕ). clearedAfter (refusal k)) e
+  chosen-cleared ks (chosen cs s) h = stored-cleared (contentsOf v ts ks cs s)
 
   checked-cleared : (c : Checked) → Early c → (c ≡ Accepted → whole.Ends (nothingBuilt most ts) [] [] [] (chosenFor most ts))
-      → clears (packChecked most v ts (lentTo ns ps bs) c) ≡ clearing (isPast c v (length ps) (length ns))
+      → clears (packChecked most v ts (lentTo ns ps bs os) c) ≡ clearing (isPast c v ts (lentTo ns ps bs os))
   unfolding packChecked
-  checked-cleared (Refused k) h e = ap (λ (b : Bool). elim b [ true ↦ 0 | false ↦ maxPlaces ]) (le-leb k 8 h)
-  checked-cleared Accepted h e = go (packLongEnough v (lentTo ns ps bs))
+  checked-cleared (Refused k) h e = ap (λ (b : Bool). elim b [ true ↦ maxPlaces | false ↦ 0 ]) (early-none k h)
+  checked-cleared Accepted h e = go (packLongEnough v (lentTo ns ps bs os)) (orderLongEnough ts (lentTo ns ps bs os))
     where
-      go : (b : Bool)
-          → clears (elim b [ true ↦ packChosen v ts (lentTo ns ps bs) (chosenFor most ts) | false ↦ turnedDown 8 (lentTo ns ps bs) ])
-          ≡ clearing b
-      go true = chosen-cleared (chosenFor most ts) (e refl)
-      go false = refl
+      go : (a b : Bool)
+          → clears
+          (elim a [
+            | true ↦ elim b [ true ↦ ranIn v ts (lentTo ns ps bs os) | false ↦ turnedDown 22 (lentTo ns ps bs os) ]
+            | false ↦ turnedDown 8 (lentTo ns ps bs os)
+          ])
+          ≡ clearing (a && b)
+      go true true = chosen-cleared (orderFor most ts) (chosenFor most ts) (e refl)
+      go true false = refl
+      go false b = refl
 
--- past 8 the first 1,024, before it none
-pub packed-clears : (v : ℕ) (xs ns bs : List ℕ) (ps : List Place) (r : Packed) → packedAnswer r ≡ pack v xs (lentTo ns ps bs) .answer
-    → clearedBy r ≡ elim (isPast (check v xs) v (length ps) (length ns)) [ true ↦ maxPlaces | false ↦ 0 ]
-packed-clears v xs ns bs ps r e =
-    by-answer r ∙ ap clearedAfter e ∙ checked-cleared v (trianglesOf xs) ns bs ps (check v xs) (early-check v xs) (accepted-packs most v xs)
-    ∙ same (isPast (check v xs) v (length ps) (length ns))
+-- past 22 the first 1,024, before it none
+pub packed-clears : (v : ℕ) (xs ns bs os : List ℕ) (ps : List Place) (r : Packed)
+    → packedAnswer r ≡ pack v xs (lentTo ns ps bs os) .answer
+    → clearedBy r ≡ elim (isPast (check v xs) v (trianglesOf xs) (lentTo ns ps bs os)) [ true ↦ maxPlaces | false ↦ 0 ]
+packed-clears v xs ns bs os ps r e =
+    by-answer r ∙ ap clearedAfter e
+    ∙ checked-cleared v (trianglesOf xs) ns bs os ps (check v xs) (early-check v xs) (accepted-packs most v xs)
+    ∙ same (isPast (check v xs) v (trianglesOf xs) (lentTo ns ps bs os))
   where
     same : (t : Bool) → clearing t ≡ elim t [ true ↦ maxPlaces | false ↦ 0 ]
     same true = refl
@@ -106,7 +118,14 @@ packed-clears v xs ns bs ps r e =
 
 -- a refusal's number tells it
 pub cleared-early : (r : Packed) (k : ℕ) → r ≡ P.Refused k → k ≤ 8 → 0 ≡ clearedBy r
-cleared-early r k e h = sym (ap clearedBy e ∙ ap (λ (b : Bool). elim b [ true ↦ 0 | false ↦ maxPlaces ]) (le-leb k 8 h))
+cleared-early r k e h = sym (ap clearedBy e ∙ ap (λ (b : Bool). elim b [ true ↦ maxPlaces | false ↦ 0 ]) (early-none k h))
 
-pub cleared-late : (r : Packed) (k : ℕ) → r ≡ P.Refused k → 8 < k → maxPlaces ≡ clearedBy r
-cleared-late r k e h = sym (ap clearedBy e ∙ ap (λ (b : Bool). elim b [ true ↦ 0 | false ↦ maxPlaces ]) (lt-leb k 8 h))
+pub cleared-above : (r : Packed) (k : ℕ) → r ≡ P.Refused k → 11 < k → 0 ≡ clearedBy r
+cleared-above r k e h =
+    sym (ap clearedBy e ∙ ap (λ (b : Bool). elim b [ true ↦ maxPlaces | false ↦ 0 ])
+    (ap₂ _&&_ (le-leb 9 k (omega (arith, h))) (lt-leb k 11 h)))
+
+pub cleared-between : (r : Packed) (k : ℕ) → r ≡ P.Refused k → 8 < k → k ≤ 11 → maxPlaces ≡ clearedBy r
+cleared-between r k e l h =
+    sym (ap clearedBy e ∙ ap (λ (b : Bool). elim b [ true ↦ maxPlaces | false ↦ 0 ])
+    (ap₂ _&&_ (le-leb 9 k (omega (arith, l))) (le-leb k 11 h)))

@@ -18,12 +18,13 @@ use Rattle.rules.specs.declared.Operation.{Operation}
 use Rattle.rules.specs.Limits.{maxPlaces, maxTriangles}
 use Rattle.rules.specs.Triangle.{trianglesOf}
 use Rattle.rules.specs.Check.{check}
-use Rattle.rules.specs.Answer.{refusal, packed, packedAnswer}
-use Rattle.rules.specs.Buffer.{zeroed}
+use Rattle.rules.specs.Answer.{packed, packedAnswer}
+use Rattle.rules.specs.Buffer.{over, zeroed}
 use Rattle.rules.specs.Choice.{Packing, has}
-use Rattle.rules.specs.Pack.{Chosen, stopped, chosen, chooseAll, most, nothingBuilt, chosenFor, packOf, newNumbers, PackResult, packRefused}
-use Rattle.rules.specs.Pack.{packDone, packChosen, packLongEnough, turnedDown, packChecked}
+use Rattle.rules.specs.Pack.{Chosen, chosen, chooseAll, most, nothingBuilt, enough, chosenFor, orderFor, newNumbers, PackResult}
+use Rattle.rules.specs.Pack.{packRefused, PackContents, packDone, contentsOf, packChosen, turnedDown, packChecked}
 use Rattle.mesh_theory.proofs.Fans.Checks.{check-accepted, accepted-count}
+use Rattle.wire_theory.specs.Header.{headerOf}
 use Rattle.wire_theory.specs.Buffer.{bytesFor}
 use Rattle.mesh_theory.specs.Chains.Linked.{Linked}
 use Rattle.choice_theory.proofs.Runs.Whole as whole
@@ -42,9 +43,11 @@ use Rattle.pack_theory.specs.Packing.Course.{Holds, Held}
 use Rattle.pack_theory.specs.Packing.Writing.{Writes}
 use Rattle.pack_theory.specs.Packing.Steps.{Beyond, Ends, RunOf}
 use Rattle.pack_theory.specs.Packing.Finish.{countsAt, answerIf, finishAnswer, numbersIf, finishNumbers, packIf, finishPack, Sized}
-use Rattle.pack_theory.specs.Packing.Lent.{lent, packOn, PackedOn, Fitting, emptyCourse, Begins, RunGives}
+use Rattle.pack_theory.specs.Packing.Lent.{lent, packOn, IsResult, PackedOn, Fitting, emptyCourse, Begins, ranOn, RunGives}
+use Rattle.pack_theory.specs.Packing.Order.{OrderLong, NotedFrom, Lists, ListsOf}
 use Rattle.pack_theory.proofs.Packing.Numbers.{entries-length, entries-none, entries-all}
 use Rattle.pack_theory.proofs.Packing.Flags.{unbuilt-all}
+use Rattle.pack_theory.proofs.Packing.Order.{from-past, from-first}
 use Rattle.pack_theory.proofs.Packing.Writing.{pack-length, pack-written}
 use Rattle.pack_theory.proofs.Packing.Stepping.{holds-beyond}
 use Rattle.counting.proofs.Bools.{and-true}
@@ -165,28 +168,30 @@ all-numbered v xs os s a e x l =
     let q = accepted-packable v xs a .met x l in
     c .fits .numbers .numbered x (q .0, q .1, complete-all most (trianglesOf xs) os s c x (q .0) (q .1) (q .2))
 
-module _ (v : ℕ) (xs ns bs : List ℕ) (a : check v xs ≡ C.Accepted) (n : ℕ) where
+-- a result that is another's
+meets-as : (p q : PackResult) (r : Packed) (ns bs os : List ℕ) → q ≡ p → IsResult p r ns bs os → IsResult q r ns bs os
+meets-as p q r ns bs os e m = subst (λ (x : PackResult). IsResult x r ns bs os) (sym e) m
+
+module _ (v : ℕ) (xs ns bs os : List ℕ) (a : check v xs ≡ C.Accepted) (n : ℕ) where
   result : Chosen → PackResult
-  result c = packChosen v (trianglesOf xs) (lent n ns bs) c
+  result c = packChosen v (trianglesOf xs) (lent n ns bs os) (orderFor most (trianglesOf xs)) c
 
-  -- refused by 9 or 10
-  module _ (j : ℕ) (ns′ bs′ : List ℕ) (b : Beyond v ns′ (drop v ns)) (l : length bs′ ≡ length bs) where
-    stop-answer : refusal j ≡ result (stopped j) .answer
-    unfolding result packChosen
-    stop-answer = refl
-
-    stop-numbers : zeroed v ns′ ≡ result (stopped j) .buffers .numbering
-    unfolding result packChosen
-    stop-numbers = zeroed-front v ns ns′ (drop v ns) refl b
-
-    stop-pack : zeroed (length bs′) bs′ ≡ result (stopped j) .buffers .pack
-    unfolding result packChosen
-    stop-pack = zeroed-all bs bs′ l
+  -- refused by 9 to 11
+  refused : (j : ℕ) (ns′ bs′ os′ : List ℕ) → Beyond v ns′ (drop v ns) → length bs′ ≡ length bs
+      → drop (length (trianglesOf xs)) os′ ≡ drop (length (trianglesOf xs)) os
+      → IsResult (packRefused j v (trianglesOf xs) (lent n ns bs os)) (P.Refused j) (zeroed v ns′) (zeroed (length bs′) bs′)
+      (zeroed (length (trianglesOf xs)) os′)
+  refused j ns′ bs′ os′ b l o = record {
+    answer = refl;
+    numbering = zeroed-front v ns ns′ (drop v ns) refl b;
+    bytes = zeroed-all bs bs′ l;
+    order = ap (λ (qs : List ℕ). replicate (length (trianglesOf xs)) 0 ++ qs) o;
+  }
 
   -- ended, with 11 to be tested
-  module _ (os : List Operation) (s : Packing) (e : chosenFor most (trianglesOf xs) ≡ chosen os s) (t : Course) (at : ℕ)
-      (fs ns′ bs′ m′ : List ℕ)
-      (h : Holds v xs s t fs ns′ (drop v ns) m′) (w : Writes os bs bs′ at) where
+  module _ (room : OrderLong xs os) (ps : List Operation) (s : Packing) (e : chosenFor most (trianglesOf xs) ≡ chosen ps s) (t : Course)
+      (at : ℕ) (fs ns′ bs′ os′ m′ : List ℕ) (h : Holds v xs s t fs ns′ (drop v ns) m′) (w : Writes ps bs bs′ at)
+      (o : NotedFrom 0 (orderFor most (trianglesOf xs)) (t .front .built) os os′) where
     counts : Counts
     counts = record { vertices = v; triangles = length (trianglesOf xs); places = s .mostPlaces; loops = s .mostLoops }
 
@@ -196,70 +201,69 @@ module _ (v : ℕ) (xs ns bs : List ℕ) (a : check v xs ≡ C.Accepted) (n : �
         ap₂ (λ (p q : ℕ). record { vertices = v; triangles = length (trianglesOf xs); places = p; loops = q }) (sym (h .standing .places))
         (sym (h .standing .most))
 
-    bytes : List ℕ
-    bytes = packOf v (trianglesOf xs) os s
+    filled : PackContents
+    filled = contentsOf v (trianglesOf xs) (orderFor most (trianglesOf xs)) ps s
 
-    long : length bytes ≡ bytesFor at
-    unfolding bytes
-    long = pack-length os bs bs′ at _ w
+    long : length (filled .pack) ≡ bytesFor at
+    unfolding filled
+    long = pack-length ps bs bs′ at _ w
 
     numbers-are : entries v (s .numbered) ≡ newNumbers v (s .numbered)
-    numbers-are = entries-all v (s .numbered) (all-numbered v xs os s a e)
+    numbers-are = entries-all v (s .numbered) (all-numbered v xs ps s a e)
+
+    -- at most T triangles are noted
+    few : length (orderFor most (trianglesOf xs)) ≤ length (trianglesOf xs)
+    few = omega (arith, o .count, h .count)
+
+    done : leb (bytesFor at) (length bs′) ≡ true
+        → IsResult (packDone filled (lent n ns bs os)) (P.Length (bytesFor at)) ns′ (over (headerOf counts (bytesFor at - 14)) bs′) os′
+    unfolding filled counts
+    done q = record {
+      answer = ap packed (sym long);
+      numbering = h .numbers ∙ ap₂ (λ (l : List ℕ) (k : ℕ). l ++ drop k ns) numbers-are (sym (new-length v (s .numbered) numbers-are));
+      bytes = pack-written ps bs bs′ at (bytesFor at - 14) counts w (leb-true (bytesFor at) (length bs′) q) refl;
+      order = o .written ∙ from-first (orderFor most (trianglesOf xs)) os (omega (arith, few, room));
+    }
 
     by : (b : Bool) → leb (bytesFor at) (length bs′) ≡ b
-        → (packedAnswer (answerIf b (bytesFor at)) ≡ result (chosen os s) .answer)
-        × ((numbersIf b v ns′ ≡ result (chosen os s) .buffers .numbering)
-        × (packIf b (countsAt v (length (trianglesOf xs)) t) (bytesFor at - 14) bs′ ≡ result (chosen os s) .buffers .pack))
-    unfolding result packChosen bytes counts
-    by true q =
-        let z : leb (length bytes) (length bs) ≡ true = ap₂ leb long (sym (w .lengths)) ∙ q in
-        let eq : result (chosen os s) ≡ packDone (newNumbers v (s .numbered)) bytes (lent n ns bs) =
-        ap (λ (x : Bool). elim x
-        [ true ↦ packDone (newNumbers v (s .numbered)) bytes (lent n ns bs) | false ↦ packRefused 11 v (lent n ns bs) ]) z in (
-          ap packed (sym long) ∙ sym (ap (λ (p : PackResult). p .answer) eq),
-          (
-            h .numbers ∙ ap₂ (λ (l : List ℕ) (k : ℕ). l ++ drop k ns) numbers-are (sym (new-length v (s .numbered) numbers-are))
-                ∙ sym (ap (λ (p : PackResult). p .buffers .numbering) eq),
-            ap (λ (c : Counts). packIf true c (bytesFor at - 14) bs′) same-counts
-                ∙ pack-written os bs bs′ at (bytesFor at - 14) counts w (leb-true (bytesFor at) (length bs′) q) refl
-                ∙ sym (ap (λ (p : PackResult). p .buffers .pack) eq),
-          ),
-        )
-    by false q =
-        let z : leb (length bytes) (length bs) ≡ false = ap₂ leb long (sym (w .lengths)) ∙ q in
-        let eq : result (chosen os s) ≡ packRefused 11 v (lent n ns bs) =
-        ap (λ (x : Bool). elim x
-        [ true ↦ packDone (newNumbers v (s .numbered)) bytes (lent n ns bs) | false ↦ packRefused 11 v (lent n ns bs) ]) z in (
-          sym (ap (λ (p : PackResult). p .answer) eq),
-          (
-            zeroed-front v ns ns′ (drop v ns) refl (holds-beyond v xs s t fs ns′ (drop v ns) m′ h)
-                ∙ sym (ap (λ (p : PackResult). p .buffers .numbering) eq),
-            zeroed-all bs bs′ (w .lengths) ∙ sym (ap (λ (p : PackResult). p .buffers .pack) eq),
-          ),
-        )
+        → IsResult (result (chosen ps s)) (answerIf b (bytesFor at)) (numbersIf b v ns′)
+        (packIf b (countsAt v (length (trianglesOf xs)) t) (bytesFor at - 14) bs′) (numbersIf b (length (trianglesOf xs)) os′)
+    unfolding result packChosen filled
+    by b q = subst (λ (c : Counts). IsResult (result (chosen ps s)) (answerIf b (bytesFor at)) (numbersIf b v ns′)
+        (packIf b c (bytesFor at - 14) bs′) (numbersIf b (length (trianglesOf xs)) os′)) (sym same-counts) (go b q)
+      where
+        stored : leb (length (filled .pack)) (length bs) ≡ leb (bytesFor at) (length bs′)
+        stored = ap₂ leb long (sym (w .lengths))
+
+        comes : (d : Bool) → leb (bytesFor at) (length bs′) ≡ d
+            → result (chosen ps s)
+            ≡ elim d [ true ↦ packDone filled (lent n ns bs os) | false ↦ packRefused 11 v (trianglesOf xs) (lent n ns bs os) ]
+        comes d z = ap (λ (x : Bool). elim x
+            [ true ↦ packDone filled (lent n ns bs os) | false ↦ packRefused 11 v (trianglesOf xs) (lent n ns bs os) ]) (stored ∙ z)
+
+        go : (d : Bool) → leb (bytesFor at) (length bs′) ≡ d
+            → IsResult (result (chosen ps s)) (answerIf d (bytesFor at)) (numbersIf d v ns′) (packIf d counts (bytesFor at - 14) bs′)
+            (numbersIf d (length (trianglesOf xs)) os′)
+        go true z = meets-as _ _ _ _ _ _ (comes true z) (done z)
+        go false z =
+            meets-as _ _ _ _ _ _ (comes false z)
+            (refused 11 ns′ bs′ os′ (holds-beyond v xs s t fs ns′ (drop v ns) m′ h) (w .lengths)
+            (ap (drop (length (trianglesOf xs))) (o .written)
+            ∙ from-past (length (trianglesOf xs)) 0 (orderFor most (trianglesOf xs)) os (omega (arith, few))))
 
   -- what the end of the run says
-  ending : (end : Ran) (budget : ℕ) (fs ns′ bs′ m′ : List ℕ)
+  ending : OrderLong xs os → (t₀ : Course) → t₀ .front .built ≡ 0 → (end : Ran) (budget : ℕ) (fs ns′ bs′ os′ m′ : List ℕ)
       → Ends v xs (chosenFor most (trianglesOf xs)) budget bs end fs ns′ (drop v ns) bs′ m′
+      → Lists (length (trianglesOf xs)) (enough (trianglesOf xs)) (nothingBuilt most (trianglesOf xs)) t₀ end os os′
       → length bs′ ≡ length bs
-      → (packedAnswer (finishAnswer end (length bs′)) ≡ result (chosenFor most (trianglesOf xs)) .answer)
-      × ((finishNumbers end v (length bs′) ns′ ≡ result (chosenFor most (trianglesOf xs)) .buffers .numbering)
-      × (finishPack end v (length (trianglesOf xs)) bs′ ≡ result (chosenFor most (trianglesOf xs)) .buffers .pack))
-  ending (Refused j) budget fs ns′ bs′ m′ (q, b) l = (
-    stop-answer j ns′ bs′ b l ∙ sym (ap (λ (c : Chosen). result c .answer) q),
-    (
-      stop-numbers j ns′ bs′ b l ∙ sym (ap (λ (c : Chosen). result c .buffers .numbering) q),
-      stop-pack j ns′ bs′ b l ∙ sym (ap (λ (c : Chosen). result c .buffers .pack) q),
-    ),
-  )
-  ending (Ended t at) budget fs ns′ bs′ m′ e l =
-      let r = by (e .operations) (e .last) (e .ran) t at fs ns′ bs′ m′ (e .holds) (e .writes) (leb (bytesFor at) (length bs′)) refl in (
-        r .0 ∙ sym (ap (λ (c : Chosen). result c .answer) (e .ran)),
-        (
-          r .1 .0 ∙ sym (ap (λ (c : Chosen). result c .buffers .numbering) (e .ran)),
-          r .1 .1 ∙ sym (ap (λ (c : Chosen). result c .buffers .pack) (e .ran)),
-        ),
-      )
+      → IsResult (result (chosenFor most (trianglesOf xs))) (finishAnswer end (length bs′)) (finishNumbers end v (length bs′) ns′)
+      (finishPack end v (length (trianglesOf xs)) bs′) (finishNumbers end (length (trianglesOf xs)) (length bs′) os′)
+  unfolding result packChosen
+  ending room t₀ z (Refused j) budget fs ns′ bs′ os′ m′ (q, b) o l = meets-as _ _ _ _ _ _ (ap result q) (refused j ns′ bs′ os′ b l o)
+  ending room t₀ z (Ended t at) budget fs ns′ bs′ os′ m′ e o l =
+      meets-as _ _ _ _ _ _ (ap result (e .ran))
+      (by room (e .operations) (e .last) (e .ran) t at fs ns′ bs′ os′ m′ (e .holds) (e .writes)
+      (subst (λ (k : ℕ). NotedFrom k (orderFor most (trianglesOf xs)) (t .front .built) os os′) z o) (leb (bytesFor at) (length bs′)) refl)
 
 -- ---- the run and its end, as the code has them
 
@@ -299,83 +303,102 @@ module _ (v : ℕ) (xs cs : List ℕ) (t : Course) (ns m : List ℕ) (h : Begins
         go (Ended t′ at) e = holds-beyond v xs (e .last) t′ fs′ ns′ (drop v ns) m′ (e .holds) .enough
 
     -- of each numbering buffer that has the same entries past the first v
-    pub run-gives : length bs′ ≡ length bs → (r : Packed) → r ≡ finishAnswer end (length bs′) → (ns″ : List ℕ)
-        → ns″ ≡ finishNumbers end v (length bs′) ns′ → (bs″ : List ℕ) → bs″ ≡ finishPack end v k bs′
-        → (ns₀ : List ℕ) → drop v ns ≡ drop v ns₀ → RunGives v xs ns₀ bs r ns″ bs″
-    unfolding result
-    run-gives l r er ns″ en bs″ eb ns₀ past =
-        let e₀ = subst (λ (rest : List ℕ). Ends v xs (chosenFor most (trianglesOf xs)) (4 * k + 1) bs end fs′ ns′ rest bs′ m′) past ends in
-        let a = h .holds .accepted in
-        record {
-          answer = λ n. ap packedAnswer er ∙ ending v xs ns₀ bs a n end (4 * k + 1) fs′ ns′ bs′ m′ e₀ l .0;
-          numbering = λ n. en ∙ ending v xs ns₀ bs a n end (4 * k + 1) fs′ ns′ bs′ m′ e₀ l .1 .0;
-          bytes = λ n. eb ∙ ap (λ (i : ℕ). finishPack end v i bs′) is
-              ∙ ending v xs ns₀ bs a n end (4 * k + 1) fs′ ns′ bs′ m′ e₀ l .1 .1;
-        }
+    module _ (os os′ : List ℕ) (room : OrderLong xs os) (lists : ListsOf xs (4 * k + 1) t (replicate maxTriangles 0) ns m end os os′) where
+      -- the order is as long as it was
+      pub run-order : length os′ ≡ length os → k ≤ length os′
+      run-order l = omega (arith, is, room, l)
+
+      listed : Lists (length (trianglesOf xs)) (enough (trianglesOf xs)) (nothingBuilt most (trianglesOf xs)) t end os os′
+      listed =
+          subst (λ (i : ℕ). Lists (length (trianglesOf xs)) (4 * i + 1) (nothingBuilt most (trianglesOf xs)) t end os os′) is
+          (lists v (nothingBuilt most (trianglesOf xs)) (drop v ns) (h .holds))
+
+      pub run-gives : length bs′ ≡ length bs → (r : Packed) → r ≡ finishAnswer end (length bs′) → (ns″ : List ℕ)
+          → ns″ ≡ finishNumbers end v (length bs′) ns′ → (bs″ : List ℕ) → bs″ ≡ finishPack end v k bs′ → (os″ : List ℕ)
+          → os″ ≡ finishNumbers end k (length bs′) os′ → (ns₀ : List ℕ) → drop v ns ≡ drop v ns₀ → RunGives v xs ns₀ bs os r ns″ bs″ os″
+      unfolding result
+      run-gives l r er ns″ en bs″ eb os″ eo ns₀ past n =
+          let e₀ = subst (λ (rest : List ℕ). Ends v xs (chosenFor most (trianglesOf xs)) (4 * k + 1) bs end fs′ ns′ rest bs′ m′) past
+          ends in
+          let g = ending v xs ns₀ bs os (h .holds .accepted) n room t (omega (arith, h .holds .count)) end (4 * k + 1) fs′ ns′ bs′ os′ m′
+          e₀ listed l in
+          record {
+            answer = ap packedAnswer er ∙ g .answer;
+            numbering = en ∙ g .numbering;
+            bytes = eb ∙ ap (λ (i : ℕ). finishPack end v i bs′) is ∙ g .bytes;
+            order = eo ∙ ap (λ (i : ℕ). finishNumbers end i (length bs′) os′) is ∙ g .order;
+          }
 
 -- ---- any list, in any buffers
 
-module _ (v : ℕ) (xs ns bs : List ℕ) (n : ℕ) (r : Checked) (e : r ≡ check v xs) where
+module _ (v : ℕ) (xs ns bs os : List ℕ) (n : ℕ) (r : Checked) (e : r ≡ check v xs) where
+  as-checked : (c : Checked) → r ≡ c → packOn v xs n ns bs os ≡ packChecked most v (trianglesOf xs) (lent n ns bs os) c
+  as-checked c q = ap (packChecked most v (trianglesOf xs) (lent n ns bs os)) (sym e ∙ q)
+
+  -- nothing has changed
+  unchanged : (k : ℕ) → packOn v xs n ns bs os ≡ turnedDown k (lent n ns bs os) → PackedOn v xs ns bs os n (P.Refused k) ns bs os
+  unchanged k q = meets-as (turnedDown k (lent n ns bs os)) _ _ _ _ _ q
+      (record { answer = refl; numbering = refl; bytes = refl; order = refl })
+
   -- 1 to 7
-  pub packed-unfit : (k : ℕ) → r ≡ C.Refused k → (p : Packed) → p ≡ P.Refused k → PackedOn v xs ns bs n p ns bs
+  pub packed-unfit : (k : ℕ) → r ≡ C.Refused k → (p : Packed) → p ≡ P.Refused k → PackedOn v xs ns bs os n p ns bs os
   unfolding packChecked
   packed-unfit k q p ep =
-      let z : check v xs ≡ C.Refused k = sym e ∙ q in
-      record {
-        answer = ap packedAnswer ep ∙ sym (ap (λ (c : Checked). packChecked most v (trianglesOf xs) (lent n ns bs) c .answer) z);
-        numbering = sym (ap (λ (c : Checked). packChecked most v (trianglesOf xs) (lent n ns bs) c .buffers .numbering) z);
-        bytes = sym (ap (λ (c : Checked). packChecked most v (trianglesOf xs) (lent n ns bs) c .buffers .pack) z);
-      }
+      subst (λ (x : Packed). PackedOn v xs ns bs os n x ns bs os) (sym ep) (unchanged k (as-checked (C.Refused k) q))
 
   module _ (q : r ≡ C.Accepted) where
     accepted : check v xs ≡ C.Accepted
     accepted = sym e ∙ q
 
-    -- 8
-    packed-short : leb v (length ns) && leb maxPlaces n ≡ false → PackedOn v xs ns bs n (P.Refused 8) ns bs
-    unfolding packChecked
-    packed-short z =
-        let z′ : packLongEnough v (lent n ns bs) ≡ false =
-        ap (λ (i : ℕ). leb v (length ns) && leb maxPlaces i) (length-replicate n _) ∙ z in
-        let w : packOn v xs n ns bs ≡ turnedDown 8 (lent n ns bs) =
-        ap (packChecked most v (trianglesOf xs) (lent n ns bs)) accepted
-        ∙ ap (λ (b : Bool). elim b
-        [ true ↦ packChosen v (trianglesOf xs) (lent n ns bs) (chosenFor most (trianglesOf xs)) | false ↦ turnedDown 8 (lent n ns bs) ])
-        z′ in
-        record {
-          answer = sym (ap (λ (p : PackResult). p .answer) w);
-          numbering = sym (ap (λ (p : PackResult). p .buffers .numbering) w);
-          bytes = sym (ap (λ (p : PackResult). p .buffers .pack) w);
-        }
+    -- what comes of 8 and 22
+    abbrev past : Bool → Bool → PackResult
+    past a b =
+        elim a [
+          | true ↦ elim b [ true ↦ ranOn v xs n ns bs os | false ↦ turnedDown 22 (lent n ns bs os) ]
+          | false ↦ turnedDown 8 (lent n ns bs os)
+        ]
 
-    pub packed-few : length ns < v → PackedOn v xs ns bs n (P.Refused 8) ns bs
+    as-past : (a b : Bool) → leb v (length ns) && leb maxPlaces n ≡ a → leb (length (trianglesOf xs)) (length os) ≡ b
+        → packOn v xs n ns bs os ≡ past a b
+    unfolding packChecked
+    as-past a b l k =
+        as-checked C.Accepted q
+        ∙ ap₂ past (ap (λ (i : ℕ). leb v (length ns) && leb maxPlaces i) (length-replicate n _) ∙ l) k
+
+    -- 8
+    packed-short : leb v (length ns) && leb maxPlaces n ≡ false → PackedOn v xs ns bs os n (P.Refused 8) ns bs os
+    packed-short z = unchanged 8 (as-past false _ z refl)
+
+    pub packed-few : length ns < v → PackedOn v xs ns bs os n (P.Refused 8) ns bs os
     packed-few l = packed-short (ap (λ (b : Bool). b && leb maxPlaces n) (lt-leb v (length ns) l))
 
-    pub packed-list : v ≤ length ns → n < 1024 → PackedOn v xs ns bs n (P.Refused 8) ns bs
+    pub packed-list : v ≤ length ns → n < 1024 → PackedOn v xs ns bs os n (P.Refused 8) ns bs os
     packed-list l k = packed-short (ap₂ _&&_ (le-leb v (length ns) l) (lt-leb maxPlaces n k))
 
-    module _ (enough : v ≤ length ns) (many : 1024 ≤ n) where
-      pub packed-fitting : (cs m : List ℕ) → Linked xs cs → length m ≡ 5320 → Fitting v xs cs ns m
-      packed-fitting cs m l w = record { accepted = accepted; linked = l; enough = enough; whole = w }
+    module _ (enough-numbers : v ≤ length ns) (many : 1024 ≤ n) where
+      long-enough : leb v (length ns) && leb maxPlaces n ≡ true
+      long-enough = ap₂ _&&_ (le-leb v (length ns) enough-numbers) (le-leb maxPlaces n many)
 
-      pub packed-ran : (p : Packed) (ns′ bs′ : List ℕ) → RunGives v xs ns bs p ns′ bs′ → PackedOn v xs ns bs n p ns′ bs′
-      unfolding packChecked
-      packed-ran p ns′ bs′ g =
-          let z : leb v (length ns) && leb maxPlaces n ≡ true = ap₂ _&&_ (le-leb v (length ns) enough) (le-leb maxPlaces n many) in
-          let z′ : packLongEnough v (lent n ns bs) ≡ true =
-          ap (λ (i : ℕ). leb v (length ns) && leb maxPlaces i) (length-replicate n _) ∙ z in
-          let w : packOn v xs n ns bs ≡ packChosen v (trianglesOf xs) (lent n ns bs) (chosenFor most (trianglesOf xs)) =
-          ap (packChecked most v (trianglesOf xs) (lent n ns bs)) accepted
-          ∙ ap (λ (b : Bool). elim b [
-            | true ↦ packChosen v (trianglesOf xs) (lent n ns bs) (chosenFor most (trianglesOf xs))
-            | false ↦
-                turnedDown 8 (lent n ns bs)
-          ]) z′ in
-          record {
-            answer = g .answer n ∙ sym (ap (λ (x : PackResult). x .answer) w);
-            numbering = g .numbering n ∙ sym (ap (λ (x : PackResult). x .buffers .numbering) w);
-            bytes = g .bytes n ∙ sym (ap (λ (x : PackResult). x .buffers .pack) w);
-          }
+      thirds : length xs / 3 ≡ length (trianglesOf xs)
+      thirds = count-is v xs accepted (length xs / 3) refl
+
+      -- 22
+      pub packed-order : length os < length xs / 3 → PackedOn v xs ns bs os n (P.Refused 22) ns bs os
+      packed-order l = unchanged 22
+          (as-past true false long-enough (lt-leb (length (trianglesOf xs)) (length os) (omega (arith, l, thirds))))
+
+      module _ (long : length xs / 3 ≤ length os) where
+        pub packed-room : OrderLong xs os
+        packed-room = omega (arith, long, thirds)
+
+        pub packed-fitting : (cs m : List ℕ) → Linked xs cs → length m ≡ 5320 → Fitting v xs cs ns m
+        packed-fitting cs m l w = record { accepted = accepted; linked = l; enough = enough-numbers; whole = w }
+
+        pub packed-ran : (p : Packed) (ns′ bs′ os′ : List ℕ) → RunGives v xs ns bs os p ns′ bs′ os′ → PackedOn v xs ns bs os n p ns′ bs′ os′
+        packed-ran p ns′ bs′ os′ g =
+            meets-as _ _ _ _ _ _ (as-past true true long-enough
+            (le-leb (length (trianglesOf xs)) (length os) (omega (arith, long, thirds))))
+            (g n)
 
 -- a list's refusal is passed up
 pub checked-same : (c : Checked) (j k : ℕ) → c ≡ C.Refused j → c ≡ C.Refused k → P.Refused j ≡ P.Refused k

@@ -3,18 +3,18 @@
 use Prim.Native.Nat.{ℕ, zero, suc, _+_, _*_, _≤_, _<_}
 use native.Mathlib.Omega.{arith}
 use mathlib.Core.Bool.{Bool, true, false, _&&_}
-use mathlib.Core.List.{List, [], _∷_}
+use mathlib.Core.List.{List, [], _∷_, _++_}
 use mathlib.Core.Path.{_≡_, refl, sym, ap, _∙_, subst}
 use mathlib.Core.Logic.{_⊎_, inl, inr}
-use lib.ListN.{length, set, drop, drop-of-length-le}
-use lib.Seq.{getD-set-same, getD-set-other}
+use lib.ListN.{length, getD, set, take, drop, take-append-drop, drop-of-length-le}
+use lib.Seq.{getD-set-same, getD-set-other, length-take-le}
 use lib.Dec.{eqb}
 use borrow.Author.Tests.{eqb-true, eqb-false, eq-eqb, ne-eqb}
 use Rattle.rules.specs.declared.Triangle.{Triangle}
 use Rattle.rules.specs.declared.Across.{Across}
 use Rattle.rules.specs.declared.Across.the-variants.{Found, Nothing}
 use Rattle.rules.specs.Across.{inTriangle, across}
-use Rattle.rules.specs.Triangle.{trianglesOf, In, Free}
+use Rattle.rules.specs.Triangle.{trianglesOf, at-p, In, Free}
 use Rattle.rules.specs.Choice.{dropTriangle}
 use Rattle.mesh_theory.specs.Fans.Corner.{Once}
 use Rattle.mesh_theory.specs.Chains.Corner.{triangleAt}
@@ -166,6 +166,30 @@ triangle-drop (suc k) (x ∷ (y ∷ (z ∷ xs))) h =
     let f : suc (suc (suc (3 * k))) + 1 ≡ suc (suc (suc (3 * k + 1))) = omega arith in
     let g : suc (suc (suc (3 * k))) + 2 ≡ suc (suc (suc (3 * k + 2))) = omega arith in
     rw (e, f, g) (triangle-drop k xs (omega arith))
+
+-- the first edge of a triangle is found in it, in a list that has no edge twice
+across-own : (before : List Triangle) (t : Triangle) (after : List Triangle) → Once (before ++ (t ∷ after))
+    → across (t .p) (t .q) (before ++ (t ∷ after)) ≡ Found (length before) 2 (t .r)
+unfolding inTriangle
+across-own [] t after o =
+    across-by (t .p) (t .q) t after Nothing (none (look (t .p) (t .q) after))
+    ∙ rw (inTriangle, eq-eqb (t .p) (t .p) refl, eq-eqb (t .q) (t .q) refl) refl
+  where
+    none : ((z : ℕ) × In (t .p) (t .q) z after) ⊎ Free (t .p) (t .q) after → across (t .p) (t .q) after ≡ Nothing
+    none (inl r) = absurd (free-rot after (o .0) (at-p refl refl refl) (r .0) (r .1))
+    none (inr u) = across-none (t .p) (t .q) after u
+across-own (u ∷ us) t after o =
+    across-by (t .p) (t .q) u (us ++ (t ∷ after)) (Found (length us) 2 (t .r)) (across-own us t after (o .2))
+
+pub number-own : (k : ℕ) (xs : List ℕ) → Once (trianglesOf xs) → k < length (trianglesOf xs)
+    → across (getD xs (3 * k) 0) (getD xs (3 * k + 1) 0) (trianglesOf xs) ≡ Found k 2 (getD xs (3 * k + 2) 0)
+number-own k xs o h =
+    let ts = trianglesOf xs in
+    let split : ts ≡ take k ts ++ (triangleAt xs k ∷ drop (suc k) ts) =
+    sym (take-append-drop k ts) ∙ ap (λ (l : List Triangle). take k ts ++ l) (triangle-drop k xs h) in
+    ap (across (getD xs (3 * k) 0) (getD xs (3 * k + 1) 0)) split
+    ∙ across-own (take k ts) (triangleAt xs k) (drop (suc k) ts) (subst Once split o)
+    ∙ ap (λ (i : ℕ). Found i 2 (getD xs (3 * k + 2) 0)) (length-take-le k ts (omega (arith, h)))
 
 -- those before k are built
 unbuilt-shift : (fs : List ℕ) (n i : ℕ) (ts : List Triangle) → ((j : ℕ) → i ≤ j → j < i + n → flagOf fs j ≡ 0 → ⊥)

@@ -21,6 +21,7 @@ use Rattle.rules.specs.Across.{across}
 use Rattle.rules.specs.Ring.{Node, Ring, vertex, isOpen, reached, places}
 use Rattle.rules.specs.Table.{atEdge, effect}
 use Rattle.rules.specs.Choice.{Packing, has, dropTriangle, choosePlace, refuses, packingAfter, limited, choose}
+use Rattle.rules.specs.Order.{numberFound, nextNumberIn, nextNumber}
 use Rattle.rules.specs.Fan.{Neighbours}
 use Rattle.mesh_theory.proofs.Fans.Corners.{in-next}
 use Rattle.mesh_theory.proofs.Fans.Checks.{accepted-count}
@@ -394,18 +395,60 @@ module _ (v : ℕ) (xs : List ℕ) (s : Packing) (t : Course) (fs ns rest m : Li
           (doneOf (readied (t .front) c) m (p .o)) (memoryOf (readied (t .front) c) m (p .o))
           (outcome (omega (arith, below, nn))))
 
+  not-none : (t .front .loops .live ≡ 0 → ⊥) → h .fits .full ≡ [] → ⊥
+  not-none live e = live (none-live maxPlaces (t .front .loops) m (ringsIn maxPlaces (t .front .loops) m) (h .standing .stands)
+      (sym (h .standing .loops) ∙ (h .fits .shows ∙ ap shownAll e)))
+
+  goes-on : ((h .fits .full ≡ []) × (s .left ≡ [])) ⊎ Goes (s .mesh) (s .left) (h .built) (h .fits .full) (h .rims)
+  goes-on = progress (s .mesh) (s .left) (h .built) (h .fits .full) (h .rims) (h .fits .keeps) (h .fits .good) fan
+
   -- the step at a live loop
   pub live-concludes : (t .front .loops .live ≡ 0 → ⊥) → Concludes (moveOf xs fs ns m (t .front .loops)) (flagsOf xs fs m (t .front .loops))
-  live-concludes live = go (progress (s .mesh) (s .left) (h .built) (h .fits .full) (h .rims) (h .fits .keeps) (h .fits .good) fan)
+  live-concludes live = go goes-on
     where
-      none : h .fits .full ≡ [] → ⊥
-      none e = live (none-live maxPlaces (t .front .loops) m (ringsIn maxPlaces (t .front .loops) m) (h .standing .stands)
-          (sym (h .standing .loops) ∙ (h .fits .shows ∙ ap shownAll e)))
-
       go : ((h .fits .full ≡ []) × (s .left ≡ [])) ⊎ Goes (s .mesh) (s .left) (h .built) (h .fits .full) (h .rims)
           → Concludes (moveOf xs fs ns m (t .front .loops)) (flagsOf xs fs m (t .front .loops))
-      go (inl e) = absurd (none (e .0))
-      go (inr (by-start x R q sh k gd)) = absurd (none sh)
+      go (inl e) = absurd (not-none live (e .0))
+      go (inr (by-start x R q sh k gd)) = absurd (not-none live sh)
       go (inr (by-build e f ps ws c i sh p (inl w) gd)) = at-new e f ps ws sh c i p gd (w .0) (w .1)
       go (inr (by-build e f ps ws c i sh p (inr w) gd)) = at-old e f ps ws sh c i p gd (w .0 .0) (w .0 .1) (w .0 .2) (w .1)
       go (inr (by-border e f ps ws sh u k gd)) = at-border e f ps ws sh u k gd live
+
+  -- the triangle across the current edge, if there is one, is built next: it is one of those left
+  pub live-next : (t .front .loops .live ≡ 0 → ⊥)
+      → (nextNumber s
+      ≡ numberFound (across (endOf (t .front .loops) m) (startOf (t .front .loops) m) (trianglesOf xs)))
+      × (length (nextNumber s) + length (unbuiltOf (flagsOf xs fs m (t .front .loops)) xs)
+      ≡ length (s .left))
+  unfolding flagged number
+  live-next live = go goes-on
+    where
+      by : (e f : Node) (ps : List Node) (ws : List Ring) (sh : h .fits .full ≡ (e ∷ (f ∷ ps)) ∷ ws) (r : Across)
+          → across (vertex f) (vertex e) (s .mesh) ≡ r
+          → length (numberFound r) + length (unbuiltOf (flagsBy fs r) xs) ≡ length (s .left)
+          → (nextNumber s
+          ≡ numberFound (across (endOf (t .front .loops) m) (startOf (t .front .loops) m) (trianglesOf xs)))
+          × (length (nextNumber s) + length (unbuiltOf (flagsOf xs fs m (t .front .loops)) xs)
+          ≡ length (s .left))
+      by e f ps ws sh r q n =
+          let next : nextNumber s ≡ numberFound r =
+          ap (λ (ls : List Ring). nextNumberIn (s .mesh) ls (s .left)) (looks e f ps ws sh) ∙ ap numberFound q in (
+            next ∙ sym (ap numberFound (across-as e f ps ws sh r q)),
+            ap₂ (λ (qs gs : List ℕ). length qs + length (unbuiltOf gs xs)) next (flags-as e f ps ws sh r q) ∙ n,
+          )
+
+      go : ((h .fits .full ≡ []) × (s .left ≡ [])) ⊎ Goes (s .mesh) (s .left) (h .built) (h .fits .full) (h .rims)
+          → (nextNumber s
+          ≡ numberFound (across (endOf (t .front .loops) m) (startOf (t .front .loops) m) (trianglesOf xs)))
+          × (length (nextNumber s) + length (unbuiltOf (flagsOf xs fs m (t .front .loops)) xs)
+          ≡ length (s .left))
+      go (inl e) = absurd (not-none live (e .0))
+      go (inr (by-start x R q sh k gd)) = absurd (not-none live sh)
+      go (inr (by-build e f ps ws c i sh p w gd)) =
+          let d = found e f ps ws sh c i p gd in
+          by e f ps ws sh (Found (d .number) (d .corner) c) (d .found) (less e f ps ws sh c i p gd)
+      go (inr (by-border e f ps ws sh u k gd)) =
+          by e f ps ws sh Nothing
+          (across-none (vertex f) (vertex e) (s .mesh)
+          (border-free (s .mesh) (s .left) (h .built) e f ps ws (h .rims) (before e f ps ws sh) u))
+          (omega (arith, ap length (h .left)))

@@ -95,6 +95,19 @@ all-take (suc n) s s′ o l h =
     let e : suc n - 1 ≡ n = omega arith in
     all-taken n s s′ o h ∙ ap (λ (k : ℕ). cons o (chooseAll k s′)) (sym e)
 
+-- a packing whose state is complete has nothing left to do
+pub done-ended : (v : ℕ) (xs : List ℕ) (p : Packing) (t : Course) (fs ns rest m : List ℕ) → Holds v xs p t fs ns rest m
+    → isComplete (t .front) ≡ true → choose p ≡ ended
+done-ended v xs p t fs ns rest m h d =
+    let b = complete-parts (t .front) d in
+    choose-ended p
+    (h .standing .loops ∙ live-none maxPlaces (t .front .loops) m (ringsIn maxPlaces (t .front .loops) m) (h .standing .stands) (b .1))
+    (none (p .left) (omega (arith, h .count, b .0, ap (λ (c : Counts). c .triangles) (h .standing .stated))))
+  where
+    none : (ts : List Triangle) → length ts ≡ 0 → ts ≡ []
+    none [] e = refl
+    none (x ∷ ts) e = absurd (omega arith)
+
 -- ---- the loop
 
 module _ (xs cs : List ℕ) (budget : ℕ) (t₀ : Course) (fs₀ ns₀ buffer₀ m₀ : List ℕ) where
@@ -134,19 +147,7 @@ module _ (xs cs : List ℕ) (budget : ℕ) (t₀ : Course) (fs₀ ns₀ buffer�
     loop-out q v s rest g = ends-with v s rest g fs ns m (λ p h. (all-none left p q, h))
 
     pub loop-done : isComplete (t .front) ≡ true → RunOf xs budget t₀ fs₀ ns₀ buffer₀ m₀ (R.Ended t at) fs ns buffer m
-    loop-done q v s rest g = ends-with v s rest g fs ns m (λ p h. (all-end left p (done-ended v p rest h q), h))
-      where
-        done-ended : (v : ℕ) (p : Packing) (rest : List ℕ) → Holds v xs p t fs ns rest m → isComplete (t .front) ≡ true → choose p ≡ ended
-        done-ended v p rest h d =
-            let b = complete-parts (t .front) d in
-            choose-ended p
-            (h .standing .loops
-            ∙ live-none maxPlaces (t .front .loops) m (ringsIn maxPlaces (t .front .loops) m) (h .standing .stands) (b .1))
-            (none (p .left) (omega (arith, h .count, b .0, ap (λ (c : Counts). c .triangles) (h .standing .stated))))
-          where
-            none : (ts : List Triangle) → length ts ≡ 0 → ts ≡ []
-            none [] e = refl
-            none (x ∷ ts) e = absurd (omega arith)
+    loop-done q v s rest g = ends-with v s rest g fs ns m (λ p h. (all-end left p (done-ended v xs p t fs ns rest m h q), h))
 
     module _ (r : Taken) (fs′ ns′ m′ : List ℕ) (step : StepOf xs t fs ns m r fs′ ns′ m′) where
       pub loop-stopped : 0 < left → (k : ℕ) → r ≡ T.Refused k → (e : Ran) → e ≡ R.Refused k

@@ -14,6 +14,8 @@ use Rattle.rules.specs.Triangle.{tri, trianglesOf, at-p, at-q, at-r, Rot, In, h
 use Rattle.rules.specs.Ring.{opened, Ring, reached, places}
 use Rattle.rules.specs.Table.{fresh, atRest, effect}
 use Rattle.rules.specs.Choice.{Packing, has, packingAfter, limited, choose}
+use Rattle.rules.specs.Across.{across}
+use Rattle.rules.specs.Order.{numberFound, nextNumberIn, nextNumber}
 use Rattle.rules.specs.Fan.{Neighbours}
 use Rattle.mesh_theory.specs.Chains.Corner.{triangleAt}
 use Rattle.mesh_theory.proofs.Fans.Checks.{accepted-count}
@@ -35,7 +37,7 @@ use Rattle.pack_theory.specs.Packing.Doing.{readied, doneOf, memoryOf}
 use Rattle.pack_theory.specs.Packing.Course.{Holds, renamed, numberedThree}
 use Rattle.pack_theory.specs.Packing.Steps.{StepsTo}
 use Rattle.pack_theory.proofs.Packing.Numbers.{number-stored}
-use Rattle.pack_theory.proofs.Packing.Flags.{lowest-first, lowest-rest, lowest-set, lowest-none}
+use Rattle.pack_theory.proofs.Packing.Flags.{number-own, lowest-first, lowest-rest, lowest-set, lowest-none}
 use Rattle.pack_theory.proofs.Packing.Doing.{Outcome, built-outcome}
 use Rattle.pack_theory.proofs.Packing.Reading.{live-none}
 use Rattle.pack_theory.proofs.Packing.Renaming.{Renamed, renamed-three}
@@ -96,6 +98,15 @@ module _ (v : ℕ) (xs : List ℕ) (s : Packing) (t : Course) (fs ns rest m : Li
     first =
         h .left ∙ lowest-first fs xs k below within left
         ∙ ap (λ (l : List Triangle). triangleAt xs k ∷ l) (sym (lowest-rest fs xs k below within (omega (arith, h .flags, triangles .2))))
+
+    -- triangle k is built next, and it is left
+    pub start-next : (nextNumber s ≡ k ∷ []) × (1 + length (unbuiltOf (set fs k 1) xs) ≡ length (s .left))
+    unfolding p q r R
+    start-next = (
+      ap (λ (ls : List Ring). nextNumberIn (s .mesh) ls (s .left)) no-loop ∙ ap (nextNumberIn (s .mesh) []) first
+          ∙ ap (λ (M : List Triangle). numberFound (across p q M)) (h .mesh) ∙ ap numberFound (number-own k xs (packable .once) within),
+      omega (arith, ap length first),
+    )
 
     before : Keeps (s .mesh) (tri p q r ∷ R) (h .built) [] (h .rims)
     before =

@@ -3,21 +3,23 @@
 use Prim.Native.Nat.{ℕ, _+_, _*_, _/_, _≤_, _<_}
 use native.Mathlib.Omega.{arith}
 use mathlib.Core.Bool.{Bool, true, false, false≢true}
-use mathlib.Core.List.{List}
+use mathlib.Core.List.{List, [], _∷_}
 use mathlib.Core.Path.{_≡_, refl, sym, ap, _∙_, subst}
 use lib.ListN.{length, getD, set, drop}
 use lib.Seq.{drop-at}
 use lib.Dec.{eqb, leb}
 use borrow.Author.Tests.{leb-true, leb-false, eq-eqb}
+use Rattle.rules.specs.declared.Operation.{Operation}
 use Rattle.rules.specs.declared.Operation.the-variants.{Start}
 use Rattle.rules.specs.Limits.{maxPlaces}
 use Rattle.rules.specs.Triangle.{trianglesOf}
 use Rattle.rules.specs.Choice.{Packing, choose}
+use Rattle.rules.specs.Order.{numberFound, nextNumber}
 use Rattle.mesh_theory.proofs.Chains.Listing.{below-each}
 use Rattle.mesh_theory.proofs.Fans.Checks.{check-accepted, accepted-count}
 use Rattle.cutborder.specs.declared.Front.{Front}
 use Rattle.border_theory.specs.Memory.Keeps.{Ready}
-use Rattle.pack_theory.specs.Choosing.Choosable.{flagOf}
+use Rattle.pack_theory.specs.Choosing.Choosable.{flagOf, unbuiltOf}
 use Rattle.cutborder.specs.declared.Course.{Course}
 use Rattle.cutborder.specs.declared.Move.{Move}
 use Rattle.cutborder.specs.declared.Done.{Done}
@@ -27,13 +29,15 @@ use Rattle.cutborder.specs.declared.Taken.the-variants as T
 use Rattle.pack_theory.specs.Packing.Numbers.{entries}
 use Rattle.pack_theory.specs.Packing.Doing.{readied, doneOf, memoryOf}
 use Rattle.pack_theory.specs.Packing.Course.{Holds, Held, moveOf, flagsOf, givenBy, numbersBy, renamed, numberedThree, Chooses}
+use Rattle.pack_theory.specs.Packing.Order.{OrderLong, writtenFrom, orderOf, Notable, Notes, NotesOf}
 use Rattle.pack_theory.specs.Packing.Steps.{StepsTo, Beyond, Steps, StepOf, Alive, Resting, Lowest, Starts, Renames}
 use Rattle.border_theory.specs.Memory.Finish.{isComplete}
 use Rattle.pack_theory.proofs.Packing.Numbers.{entries-length}
 use Rattle.pack_theory.proofs.Packing.Doing.{standing-ready}
-use Rattle.pack_theory.proofs.Packing.Live.{Lives, numbers-few, live-concludes}
+use Rattle.pack_theory.proofs.Packing.Live.{Lives, numbers-few, live-concludes, live-next}
 use Rattle.pack_theory.proofs.Packing.Choosing.{numbers-long, move-below, chooses}
-use Rattle.pack_theory.proofs.Packing.Starting.{Begins, start-none, start-begins}
+use Rattle.pack_theory.proofs.Packing.Starting.{Begins, start-none, start-next, start-begins}
+use Rattle.pack_theory.proofs.Packing.Order.{from-past}
 
 -- the buffer's entries past the first v
 pub holds-beyond : (v : ℕ) (xs : List ℕ) (s : Packing) (t : Course) (fs ns rest m : List ℕ) → Holds v xs s t fs ns rest m → Beyond v ns rest
@@ -117,6 +121,47 @@ module _ (xs cs : List ℕ) (t : Course) (fs ns m : List ℕ) where
           (sym eg) l in
           subst (λ (w : List ℕ). StepsTo v xs (choose p) (mv .operation) (record { front = f; given = g; lowest = t .lowest }) fs′ w rest
           m′) (sym en) l1
+
+-- what a step at a live loop notes in the order
+module _ (xs cs : List ℕ) (t : Course) (fs ns m : List ℕ) (a : Alive xs cs t fs ns m) (os : List ℕ) (room : OrderLong xs os) where
+  -- a triangle that is found is one of those left
+  pub alive-notable : Notable xs os (t .front .built) m (t .front .loops)
+  alive-notable n j c q =
+      let h = a .held .holds in
+      let l = live-next (a .held .vertices) xs (a .held .packing) t fs ns (a .held .rest) m h (a .live) in
+      omega (arith, room, h .count, l .1, ap length (l .0 ∙ ap numberFound q))
+
+  module _ (os′ : List ℕ) (eo : os′ ≡ orderOf xs os (t .front .built) m (t .front .loops)) where
+    entries-of : (v : ℕ) (s : Packing) (rest : List ℕ) → Holds v xs s t fs ns rest m
+        → os′ ≡ writtenFrom (t .front .built) (nextNumber s) os
+    unfolding orderOf
+    entries-of v s rest h =
+        eo ∙ ap (λ (qs : List ℕ). writtenFrom (t .front .built) qs os) (sym (live-next v xs s t fs ns rest m h (a .live) .0))
+
+    pub alive-notes-refused : (d : Done) (k : ℕ) → d ≡ Refused k → (r : Taken) → ((j : ℕ) → d ≡ Refused j → r ≡ T.Refused j)
+        → NotesOf xs t fs ns m r os os′
+    alive-notes-refused d k q r f v s rest h =
+        let l = live-next v xs s t fs ns rest m h (a .live) .1 in
+        subst (λ (w : Taken). Notes (length (trianglesOf xs)) s t w os os′) (sym (f k q))
+        (ap (drop (length (trianglesOf xs))) (entries-of v s rest h)
+        ∙ from-past (length (trianglesOf xs)) (t .front .built) (nextNumber s) os (omega (arith, l, h .count)))
+
+    pub alive-notes : (o : Operation) (t′ : Course) (fs′ ns′ m′ : List ℕ) → fs′ ≡ flagsOf xs fs m (t .front .loops)
+        → StepOf xs t fs ns m (T.Going o t′) fs′ ns′ m′ → NotesOf xs t fs ns m (T.Going o t′) os os′
+    alive-notes o t′ fs′ ns′ m′ ef step v s rest h =
+        let w = step v s rest h in
+        let l = live-next v xs s t fs ns rest m h (a .live) .1 in
+        record {
+          written = entries-of v s rest h;
+          count = omega (
+            arith,
+            l,
+            h .count,
+            w .holds .count,
+            ap length (w .holds .left),
+            ap (λ (gs : List ℕ). length (unbuiltOf gs xs)) ef,
+          );
+        }
 
 -- ---- with no live loop
 
@@ -225,6 +270,28 @@ module _ (xs : List ℕ) (t : Course) (k : ℕ) (fs ns m : List ℕ) (a : Starts
           (sym en) (b .2) in
           subst (λ (w : List ℕ). StepsTo v xs (choose p) Start (record { front = f; given = t .given + 3; lowest = k + 1 }) (set fs k 1) ns′
           rest w) (sym em) b1
+
+-- what a start notes in the order
+module _ (xs : List ℕ) (t : Course) (k : ℕ) (fs ns m : List ℕ) (a : Starts xs t k fs ns m) (os : List ℕ) where
+  next : (v : ℕ) (s : Packing) (rest : List ℕ) → Holds v xs s t fs ns rest m
+      → (nextNumber s ≡ k ∷ []) × (1 + length (unbuiltOf (set fs k 1) xs) ≡ length (s .left))
+  next v s rest h = start-next v xs s t fs ns rest m h (a .resting .none) k (a .within) (a .below) (a .left)
+
+  pub start-entry : OrderLong xs os → t .front .built < length os
+  start-entry room =
+      let h = a .resting .holds in
+      omega (arith, room, h .count, next (a .resting .vertices) (a .resting .packing) (a .resting .rest) h .1)
+
+  pub start-notes : (o : Operation) (t′ : Course) (ns′ m′ : List ℕ) → StepOf xs t fs ns m (T.Going o t′) (set fs k 1) ns′ m′
+      → NotesOf xs t fs ns m (T.Going o t′) os (set os (t .front .built) k)
+  unfolding writtenFrom
+  start-notes o t′ ns′ m′ step v s rest h =
+      let w = step v s rest h in
+      let n = next v s rest h in
+      record {
+        written = sym (ap (λ (qs : List ℕ). writtenFrom (t .front .built) qs os) (n .0));
+        count = omega (arith, n .1, ap length (n .0), h .count, w .holds .count, ap length (w .holds .left));
+      }
 
 -- ---- either
 

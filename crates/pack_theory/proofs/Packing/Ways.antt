@@ -19,6 +19,7 @@ use Rattle.rules.specs.Limits.{maxPlaces}
 use Rattle.rules.specs.Triangle.{trianglesOf}
 use Rattle.rules.specs.Across.{across}
 use Rattle.rules.specs.Choice.{choosePlace}
+use Rattle.rules.specs.Order.{numberFound}
 use Rattle.rules.specs.Buffer.{over, zeroed}
 use Rattle.wire_theory.specs.Header.{headerOf}
 use Rattle.wire_theory.specs.Buffer.{bytesFor}
@@ -47,6 +48,7 @@ use Rattle.pack_theory.specs.Packing.Numbers.{unnumbered}
 use Rattle.pack_theory.specs.Packing.Doing.{refusalAt, doneBy, memoryBy, doneOf, memoryOf}
 use Rattle.pack_theory.specs.Packing.Course.{startOf, endOf, isNumbered, placedBy, flagsBy, moveBy, moveOf, flagsOf, givenBy}
 use Rattle.pack_theory.specs.Packing.Course.{numbersBy, renamed, Chooses}
+use Rattle.pack_theory.specs.Packing.Order.{writtenFrom, orderOf, Notable}
 use Rattle.pack_theory.specs.Packing.Steps.{Lowest, Renames}
 use Rattle.pack_theory.specs.Packing.Finish.{countsAt, fitsBuffer, answerIf, finishAnswer, numbersIf, finishNumbers, packIf}
 use Rattle.pack_theory.specs.Packing.Finish.{finishPack, Sized}
@@ -96,6 +98,18 @@ module _ (xs cs fs ns m : List ℕ) (l : Loops) (h : Chooses xs cs fs ns m l) (f
         subst (λ (x : ℕ). Choosable xs cs (set fs n 1) m l x b c) (sym ea)
             (subst (λ (y : ℕ). Choosable xs cs (set fs n 1) m l (startOf l m) y c) (sym to-end) (w .place)),
       )
+
+  -- the order's entry k
+  pub noted-none : (os : List ℕ) (k : ℕ) → r ≡ Nothing → os ≡ orderOf xs os k m l
+  unfolding orderOf writtenFrom
+  noted-none os k q = ap (λ (x : Across). writtenFrom k (numberFound x) os) (sym q ∙ across-is)
+
+  pub noted-entry : (os : List ℕ) (k : ℕ) → Notable xs os k m l → (n j c : ℕ) → r ≡ Found n j c → k < length os
+  noted-entry os k w n j c q = w n j c (sym across-is ∙ q)
+
+  pub noted-found : (os : List ℕ) (k n j c : ℕ) → r ≡ Found n j c → set os k n ≡ orderOf xs os k m l
+  unfolding orderOf writtenFrom
+  noted-found os k n j c q = ap (λ (x : Across). writtenFrom k (numberFound x) os) (sym q ∙ across-is)
 
   pub chosen-found : (n k c : ℕ) → r ≡ Found n k c → (mv : Move) → mv ≡ placedBy (isNumbered ns c) xs (set fs n 1) m l a b c
       → (mv ≡ moveOf xs fs ns m l) × (set fs n 1 ≡ flagsOf xs fs m l)
@@ -217,39 +231,54 @@ gives-one fresh ns c k h =
 
 -- ---- the end
 
-module _ (end : Ran) (v k : ℕ) (ns bs : List ℕ) where
+module _ (end : Ran) (v k : ℕ) (ns bs os : List ℕ) where
+  -- the answer and the three buffers after the end
+  abbrev EndsWith : Packed → List ℕ → List ℕ → List ℕ → Type 0
+  EndsWith r ns′ bs′ os′ =
+      (r ≡ finishAnswer end (length bs))
+      × ((ns′ ≡ finishNumbers end v (length bs) ns)
+      × ((bs′ ≡ finishPack end v k bs) × (os′ ≡ finishNumbers end k (length bs) os)))
+
   pub finish-refused : (j i : ℕ) → end ≡ R.Refused j → ((x : ℕ) → end ≡ R.Refused x → i ≡ x) → (r : Packed) → r ≡ P.Refused i
-      → (ns′ bs′ : List ℕ) → ns′ ≡ zeroed v ns → bs′ ≡ zeroed (length bs) bs
-      → (r ≡ finishAnswer end (length bs)) × ((ns′ ≡ finishNumbers end v (length bs) ns) × (bs′ ≡ finishPack end v k bs))
-  finish-refused j i e f r er ns′ bs′ en eb = (
-    er ∙ ap P.Refused (f j e) ∙ sym (ap (λ (w : Ran). finishAnswer w (length bs)) e),
-    (en ∙ sym (ap (λ (w : Ran). finishNumbers w v (length bs) ns) e), eb ∙ sym (ap (λ (w : Ran). finishPack w v k bs) e)),
-  )
+      → (ns′ bs′ os′ : List ℕ) → ns′ ≡ zeroed v ns → bs′ ≡ zeroed (length bs) bs → os′ ≡ zeroed k os → EndsWith r ns′ bs′ os′
+  finish-refused j i e f r er ns′ bs′ os′ en eb eo =
+      let numbers : (n : ℕ) (qs : List ℕ) → finishNumbers end n (length bs) qs ≡ zeroed n qs =
+      λ n qs. ap (λ (w : Ran). finishNumbers w n (length bs) qs) e in (
+        er ∙ ap P.Refused (f j e) ∙ sym (ap (λ (w : Ran). finishAnswer w (length bs)) e),
+        (en ∙ sym (numbers v ns), (eb ∙ sym (ap (λ (w : Ran). finishPack w v k bs) e), eo ∙ sym (numbers k os))),
+      )
 
   module _ (t : Course) (at : ℕ) (e : end ≡ R.Ended t at) where
-    pub finish-short : length bs < (at + 7) / 8 → (r : Packed) → r ≡ P.Refused 11 → (ns′ bs′ : List ℕ) → ns′ ≡ zeroed v ns
-        → bs′ ≡ zeroed (length bs) bs
-        → (r ≡ finishAnswer end (length bs)) × ((ns′ ≡ finishNumbers end v (length bs) ns) × (bs′ ≡ finishPack end v k bs))
-    finish-short l r er ns′ bs′ en eb =
+    numbers-if : (b : Bool) → fitsBuffer at (length bs) ≡ b → (n : ℕ) (qs : List ℕ)
+        → finishNumbers end n (length bs) qs ≡ numbersIf b n qs
+    numbers-if b q n qs =
+        ap (λ (w : Ran). finishNumbers w n (length bs) qs) e ∙ ap (λ (x : Bool). numbersIf x n qs) q
+
+    pack-if : (b : Bool) → fitsBuffer at (length bs) ≡ b → finishPack end v k bs ≡ packIf b (countsAt v k t) (bytesFor at - 14) bs
+    pack-if b q = ap (λ (w : Ran). finishPack w v k bs) e ∙ ap (λ (x : Bool). packIf x (countsAt v k t) (bytesFor at - 14) bs) q
+
+    answer-if : (b : Bool) → fitsBuffer at (length bs) ≡ b → finishAnswer end (length bs) ≡ answerIf b (bytesFor at)
+    answer-if b q = ap (λ (w : Ran). finishAnswer w (length bs)) e ∙ ap (λ (x : Bool). answerIf x (bytesFor at)) q
+
+    pub finish-short : length bs < (at + 7) / 8 → (r : Packed) → r ≡ P.Refused 11 → (ns′ bs′ os′ : List ℕ) → ns′ ≡ zeroed v ns
+        → bs′ ≡ zeroed (length bs) bs → os′ ≡ zeroed k os → EndsWith r ns′ bs′ os′
+    finish-short l r er ns′ bs′ os′ en eb eo =
         let q : fitsBuffer at (length bs) ≡ false = lt-leb (bytesFor at) (length bs) l in (
-          er ∙ sym (ap (λ (w : Ran). finishAnswer w (length bs)) e ∙ ap (λ (b : Bool). answerIf b (bytesFor at)) q),
-          (
-            en ∙ sym (ap (λ (w : Ran). finishNumbers w v (length bs) ns) e ∙ ap (λ (b : Bool). numbersIf b v ns) q),
-            eb ∙ sym (ap (λ (w : Ran). finishPack w v k bs) e ∙ ap (λ (b : Bool). packIf b (countsAt v k t) (bytesFor at - 14) bs) q),
-          ),
+          er ∙ sym (answer-if false q),
+          (en ∙ sym (numbers-if false q v ns), (eb ∙ sym (pack-if false q), eo ∙ sym (numbers-if false q k os))),
         )
 
     pub finish-whole : (at + 7) / 8 ≤ length bs → (c : Counts) → c ≡ countsAt v k t → (bs′ : List ℕ)
-        → bs′ ≡ over (headerOf c ((at + 7) / 8 - 14)) bs
-        → (P.Length ((at + 7) / 8) ≡ finishAnswer end (length bs))
-        × ((ns ≡ finishNumbers end v (length bs) ns) × (bs′ ≡ finishPack end v k bs))
+        → bs′ ≡ over (headerOf c ((at + 7) / 8 - 14)) bs → EndsWith (P.Length ((at + 7) / 8)) ns bs′ os
     finish-whole l c ec bs′ eb =
         let q : fitsBuffer at (length bs) ≡ true = le-leb (bytesFor at) (length bs) l in (
-          sym (ap (λ (w : Ran). finishAnswer w (length bs)) e ∙ ap (λ (b : Bool). answerIf b (bytesFor at)) q),
+          sym (answer-if true q),
           (
-            sym (ap (λ (w : Ran). finishNumbers w v (length bs) ns) e ∙ ap (λ (b : Bool). numbersIf b v ns) q),
-            eb ∙ ap (λ (w : Counts). over (headerOf w ((at + 7) / 8 - 14)) bs) ec
-                ∙ sym (ap (λ (w : Ran). finishPack w v k bs) e ∙ ap (λ (b : Bool). packIf b (countsAt v k t) (bytesFor at - 14) bs) q),
+            sym (numbers-if true q v ns),
+            (
+              eb ∙ ap (λ (w : Counts). over (headerOf w ((at + 7) / 8 - 14)) bs) ec ∙ sym (pack-if true q),
+              sym (numbers-if true q k os),
+            ),
           ),
         )
 

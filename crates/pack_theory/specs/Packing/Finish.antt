@@ -35,6 +35,7 @@ abbrev pub numbersIf : Bool → ℕ → List ℕ → List ℕ
 numbersIf true v ns = ns
 numbersIf false v ns = zeroed v ns
 
+-- of the numbering, whose first v entries are zero after a refusal, and of the order alike
 abbrev pub finishNumbers : Ran → ℕ → ℕ → List ℕ → List ℕ
 finishNumbers (Refused k) v size ns = zeroed v ns
 finishNumbers (Ended t at) v size ns = numbersIf (fitsBuffer at size) v ns

@@ -5,7 +5,6 @@ use mathlib.Core.Bool.{true, false}
 use mathlib.Core.List.{List}
 use mathlib.Core.Path.{_≡_}
 use lib.ListN.{length, replicate, drop}
-use lib.Dec.{leb}
 use Rattle.rules.specs.declared.Packed.{Packed}
 use Rattle.rules.specs.declared.Packed.the-variants as P
 use Rattle.rules.specs.declared.Checked.the-variants.{Accepted}
@@ -14,7 +13,8 @@ use Rattle.rules.specs.Triangle.{trianglesOf}
 use Rattle.rules.specs.Check.{check}
 use Rattle.rules.specs.Answer.{packedAnswer}
 use Rattle.rules.specs.Buffer.{freePlace}
-use Rattle.rules.specs.Pack.{most, nothingBuilt, chosenFor, PackBuffers, PackResult, packChosen, pack}
+use Rattle.rules.specs.Limits.{between}
+use Rattle.rules.specs.Pack.{most, nothingBuilt, chosenFor, orderFor, PackBuffers, PackResult, packChosen, pack}
 use Rattle.border_theory.specs.Records.Plain.{coreSize}
 use Rattle.border_theory.specs.Memory.Fresh.{freshFront}
 use Rattle.mesh_theory.specs.Chains.Linked.{Linked}
@@ -22,24 +22,29 @@ use Rattle.cutborder.specs.declared.Course.{Course}
 use Rattle.pack_theory.specs.Packing.Doing.{statedFor}
 use Rattle.pack_theory.specs.Packing.Course.{Holds}
 
-abbrev pub lent : ℕ → List ℕ → List ℕ → PackBuffers
-lent n ns bs = record { numbering = ns; places = replicate n freePlace; pack = bs }
+abbrev pub lent : ℕ → List ℕ → List ℕ → List ℕ → PackBuffers
+lent n ns bs qs = record { numbering = ns; places = replicate n freePlace; pack = bs; order = qs }
 
-abbrev pub packOn : ℕ → List ℕ → ℕ → List ℕ → List ℕ → PackResult
-packOn v xs n ns bs = pack v xs (lent n ns bs)
+abbrev pub packOn : ℕ → List ℕ → ℕ → List ℕ → List ℕ → List ℕ → PackResult
+packOn v xs n ns bs qs = pack v xs (lent n ns bs qs)
 
--- how many place records a packing clears, read off its answer: none after 1 to 8, and past 8 the first 1,024
+-- how many place records a packing clears, read off its answer: the first 1,024 after 9 to 11 and where it is accepted, else none
 abbrev pub clearedBy : Packed → ℕ
 clearedBy (P.Length n) = maxPlaces
-clearedBy (P.Refused k) = elim (leb k 8) [ true ↦ 0 | false ↦ maxPlaces ]
+clearedBy (P.Refused k) = elim (between 9 k 11) [ true ↦ maxPlaces | false ↦ 0 ]
 
--- a packing of any list, in any buffers: the answer r, and the numbering and the pack buffer afterwards
-pub record PackedOn (v : ℕ) (xs ns bs : List ℕ) (n : ℕ) (r : Packed) (ns′ bs′ : List ℕ) : Type 0 where
-  pub answer : packedAnswer r ≡ packOn v xs n ns bs .answer
-  pub numbering : ns′ ≡ packOn v xs n ns bs .buffers .numbering
-  pub bytes : bs′ ≡ packOn v xs n ns bs .buffers .pack
+-- the answer r, and the numbering, the pack buffer and the order afterwards, are those of a result of the rules
+pub record IsResult (p : PackResult) (r : Packed) (ns bs qs : List ℕ) : Type 0 where
+  pub answer : packedAnswer r ≡ p .answer
+  pub numbering : ns ≡ p .buffers .numbering
+  pub bytes : bs ≡ p .buffers .pack
+  pub order : qs ≡ p .buffers .order
 
--- a list and buffers that get past 8, and the plain memory
+-- a packing of any list, in any buffers
+abbrev pub PackedOn : ℕ → List ℕ → List ℕ → List ℕ → List ℕ → ℕ → Packed → List ℕ → List ℕ → List ℕ → Type 0
+PackedOn v xs ns bs qs n r ns′ bs′ qs′ = IsResult (packOn v xs n ns bs qs) r ns′ bs′ qs′
+
+-- a list and a numbering that get past 8, and the plain memory
 pub record Fitting (v : ℕ) (xs cs ns m : List ℕ) : Type 0 where
   pub accepted : check v xs ≡ Accepted
   pub linked : Linked xs cs
@@ -55,8 +60,11 @@ pub record Begins (v : ℕ) (xs cs : List ℕ) (t : Course) (ns m : List ℕ) : 
   pub linked : Linked xs cs
   pub holds : Holds v xs (nothingBuilt most (trianglesOf xs)) t (replicate maxTriangles 0) ns (drop v ns) m
 
+-- what the rules make of the list's run, with n place records
+abbrev pub ranOn : ℕ → List ℕ → ℕ → List ℕ → List ℕ → List ℕ → PackResult
+ranOn v xs n ns bs qs =
+    packChosen v (trianglesOf xs) (lent n ns bs qs) (orderFor most (trianglesOf xs)) (chosenFor most (trianglesOf xs))
+
 -- the run, with any number of place records
-pub record RunGives (v : ℕ) (xs ns bs : List ℕ) (r : Packed) (ns′ bs′ : List ℕ) : Type 0 where
-  pub answer : (n : ℕ) → packedAnswer r ≡ packChosen v (trianglesOf xs) (lent n ns bs) (chosenFor most (trianglesOf xs)) .answer
-  pub numbering : (n : ℕ) → ns′ ≡ packChosen v (trianglesOf xs) (lent n ns bs) (chosenFor most (trianglesOf xs)) .buffers .numbering
-  pub bytes : (n : ℕ) → bs′ ≡ packChosen v (trianglesOf xs) (lent n ns bs) (chosenFor most (trianglesOf xs)) .buffers .pack
+abbrev pub RunGives : ℕ → List ℕ → List ℕ → List ℕ → List ℕ → Packed → List ℕ → List ℕ → List ℕ → Type 0
+RunGives v xs ns bs qs r ns′ bs′ qs′ = (n : ℕ) → IsResult (ranOn v xs n ns bs qs) r ns′ bs′ qs′

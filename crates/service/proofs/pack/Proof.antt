@@ -91,7 +91,7 @@ abbrev ty : ℕ → Ty
 ty i = tyAt (code.function .locals) i
 
 abbrev Arg : Type 0
-Arg = ℕ × (RefT (List ℕ) × (RefT (List ℕ) × (RefT (List ℕ) × (RefT (List Place) × (Unit {0})))))
+Arg = ℕ × (RefT (List ℕ) × (RefT (List ℕ) × (RefT (List ℕ) × (RefT (List ℕ) × (RefT (List Place) × (Unit {0}))))))
 
 abbrev stayed : Stays (public.ended .signature .params) (public.ended .kept)
 stayed = (
@@ -100,7 +100,10 @@ stayed = (
     stay-none-slice (0 ∷ []) tt (plain (λ _. u16)) yes,
     (
       gave-slice (1 ∷ []) tt (plain (λ _. u16)),
-      (gave-slice (2 ∷ []) tt (plain (λ _. u8)), (gave-slice (3 ∷ []) tt (plain (λ _. R)), tt)),
+      (
+        gave-slice (2 ∷ []) tt (plain (λ _. u8)),
+        (gave-slice (3 ∷ []) tt (plain (λ _. u16)), (gave-slice (4 ∷ []) tt (plain (λ _. R)), tt)),
+      ),
     ),
   ),
 )
@@ -127,9 +130,10 @@ module _ {M : Type 1} (𝓤 : URA M) (H : Heap 𝓤) (A : Atoms 𝓤) (at-mem : 
   cleared-of r k = exE 𝓤 _ (λ ws. snd∗ 𝓤 (sem 𝓤 H A (lasts cleared′.ended tt (r, tt) ws)) (fact 𝓤 (k ≡ clearedBy r)))
 
 module _ {M : Type 1} (𝓤 : URA M) (H : Heap 𝓤) (A : Atoms 𝓤) (W : Given 𝓤 H A) (at-mem : Memory → SProp 𝓤) (run : Routine → Fun 𝓤)
-    (κ₀ κ₁ κ₂ κ₃ : Lft) (q₀ q₁ q₂ q₃ : Share)
+    (κ₀ κ₁ κ₂ κ₃ κ₄ : Lft) (q₀ q₁ q₂ q₃ q₄ : Share)
     (a₁ : ℕ) (g₁ : a₁ < 2 ^ 64) (b₂ o₂ : ℕ) (γ₂ : GName) (xs₂ : List ℕ) (g₂ : Room u16 (length xs₂)) (b₃ o₃ : ℕ) (γ₃ : GName) (xs₃ : List ℕ)
-    (g₃ : Room u16 (length xs₃)) (b₄ o₄ : ℕ) (γ₄ : GName) (xs₄ : List ℕ) (g₄ : Room u8 (length xs₄))
+    (g₃ : Room u16 (length xs₃)) (b₄ o₄ : ℕ) (γ₄ : GName) (xs₄ : List ℕ) (g₄ : Room u8 (length xs₄)) (b₅ o₅ : ℕ) (γ₅ : GName)
+    (xs₅ : List ℕ) (g₅ : Room u16 (length xs₅))
     (b o : ℕ) (γ : GName) (ps : List Place) (gn : Room R (length ps)) where
   abbrev x₂ : RefT (List ℕ)
   x₂ = record { ptr = (b₂, o₂); name = γ₂; now = xs₂ }
@@ -140,28 +144,35 @@ module _ {M : Type 1} (𝓤 : URA M) (H : Heap 𝓤) (A : Atoms 𝓤) (W : Given
   abbrev x₄ : RefT (List ℕ)
   x₄ = record { ptr = (b₄, o₄); name = γ₄; now = xs₄ }
 
+  abbrev x₅ : RefT (List ℕ)
+  x₅ = record { ptr = (b₅, o₅); name = γ₅; now = xs₅ }
+
   abbrev rp : GName → RefT (List Place)
   rp δ = record { ptr = (b, o); name = δ; now = ps }
 
   abbrev x : Arg
-  x = (a₁, (x₂, (x₃, (x₄, (rp γ, tt)))))
+  x = (a₁, (x₂, (x₃, (x₄, (x₅, (rp γ, tt))))))
 
   abbrev sp : Val
   sp = sliceVal (b, o) (length ps)
 
-  abbrev at : Vals public.signature (κ₀, (κ₁, (κ₂, (κ₃, tt))))
+  abbrev at : Vals public.signature (κ₀, (κ₁, (κ₂, (κ₃, (κ₄, tt)))))
   at = (
     vint w64 a₁ ∷ [],
     (
       sliceVal (b₂, o₂) (length xs₂)
           ∷ [],
-      (sliceVal (b₃, o₃) (length xs₃) ∷ [], (sliceVal (b₄, o₄) (length xs₄) ∷ [], (sp ∷ [], tt))),
+      (
+        sliceVal (b₃, o₃) (length xs₃)
+            ∷ [],
+        (sliceVal (b₄, o₄) (length xs₄) ∷ [], (sliceVal (b₅, o₅) (length xs₅) ∷ [], (sp ∷ [], tt))),
+      ),
     ),
   )
 
   abbrev Post : Val → SProp 𝓤
   Post = walkOf 𝓤 H A public.ended stayed (public.clauses 𝓤 H A at-mem run) .post
-      (((κ₀, (κ₁, (κ₂, (κ₃, tt)))), (q₀, (q₁, (q₂, (q₃, tt)))), tt, x, at), tt)
+      (((κ₀, (κ₁, (κ₂, (κ₃, (κ₄, tt))))), (q₀, (q₁, (q₂, (q₃, (q₄, tt))))), tt, x, at), tt)
 
   -- how many records are read
   abbrev n : ℕ
@@ -169,26 +180,29 @@ module _ {M : Type 1} (𝓤 : URA M) (H : Heap 𝓤) (A : Atoms 𝓤) (W : Given
 
   -- the lent list
   abbrev Lent : Fml
-  Lent = MutSlice (named 3) κ₃ R .own (rp γ) (sp ∷ [])
+  Lent = MutSlice (named 4) κ₄ R .own (rp γ) (sp ∷ [])
 
   small : n < 2 ^ 64
   small = count-fits (length ps) (gn .0)
 
-  exits : (r : Packed) (ys₃ : List ℕ) (ys₄ : List ℕ) (ps′ : List Place) (u : Val) → PackedOn a₁ xs₂ xs₃ xs₄ n r ys₃ ys₄
-      → ps′ ≡ clearedTo (clearedBy r) ps → length ys₃ ≡ length xs₃ → length ys₄ ≡ length xs₄ → length ps′ ≡ length ps
-      → ent 𝓤 (⋆ 𝓤 H A (‵ (flft κ₀ q₀) ∷ ‵ (flft κ₁ q₁) ∷ ‵ (flft κ₂ q₂) ∷ ‵ (flft κ₃ q₃)
+  exits : (r : Packed) (ys₃ : List ℕ) (ys₄ : List ℕ) (ys₅ : List ℕ) (ps′ : List Place) (u : Val)
+      → PackedOn a₁ xs₂ xs₃ xs₄ xs₅ n r ys₃ ys₄ ys₅ → ps′ ≡ clearedTo (clearedBy r) ps → length ys₃ ≡ length xs₃ → length ys₄ ≡ length xs₄
+      → length ys₅ ≡ length xs₅ → length ps′ ≡ length ps
+      → ent 𝓤 (⋆ 𝓤 H A (‵ (flft κ₀ q₀) ∷ ‵ (flft κ₁ q₁) ∷ ‵ (flft κ₂ q₂) ∷ ‵ (flft κ₃ q₃) ∷ ‵ (flft κ₄ q₄)
       ∷ ‵ (ShrSlice (named 0) κ₀ u16 .own x₂ (sliceVal (b₂, o₂) (length xs₂) ∷ [])) ∷ ‵ (finally u16 γ₃ ys₃) ∷ ‵ (finally u8 γ₄ ys₄)
-      ∷ ‵ (finally R γ ps′) ∷ ‵ (XPacked .own r (u ∷ [])) ∷ [])) (Post u)
-  exits r ys₃ ys₄ ps′ u e ep l′₃ l′₄ lp =
-      qed W (‵ (flft κ₀ q₀) ∷ ‵ (flft κ₁ q₁) ∷ ‵ (flft κ₂ q₂) ∷ ‵ (flft κ₃ q₃)
+      ∷ ‵ (finally u16 γ₅ ys₅) ∷ ‵ (finally R γ ps′) ∷ ‵ (XPacked .own r (u ∷ [])) ∷ [])) (Post u)
+  exits r ys₃ ys₄ ys₅ ps′ u e ep l′₃ l′₄ l′₅ lp =
+      qed W (‵ (flft κ₀ q₀) ∷ ‵ (flft κ₁ q₁) ∷ ‵ (flft κ₂ q₂) ∷ ‵ (flft κ₃ q₃) ∷ ‵ (flft κ₄ q₄)
       ∷ ‵ (ShrSlice (named 0) κ₀ u16 .own x₂ (sliceVal (b₂, o₂) (length xs₂) ∷ [])) ∷ ‵ (finally u16 γ₃ ys₃) ∷ ‵ (finally u8 γ₄ ys₄)
-      ∷ ‵ (finally R γ ps′) ∷ ‵ (XPacked .own r (u ∷ [])) ∷ []) ∵
+      ∷ ‵ (finally u16 γ₅ ys₅) ∷ ‵ (finally R γ ps′) ∷ ‵ (XPacked .own r (u ∷ [])) ∷ []) ∵
       suffices ! _ (ends-at 𝓤 H A public.ended stayed (public.clauses 𝓤 H A at-mem run) W
-      (((κ₀, (κ₁, (κ₂, (κ₃, tt)))), (q₀, (q₁, (q₂, (q₃, tt)))), tt, x, at), tt) u r (tt, (tt, (ys₃, (ys₄, (ps′, tt)))))
-      (tt, (tt, (l′₃, (l′₄, (lp, tt)))))) $ says ! (packs a₁ xs₂ xs₃ xs₄ ps r ys₃ ys₄ e ps′ ep) $
-      nothing ! $ move ! (4 ∷ 0 ∷ []) $ join ! $ move ! (3 ∷ 0 ∷ []) $ join ! $ move ! (2 ∷ 0 ∷ []) $ join ! $ move ! (1 ∷ 0 ∷ []) $ join !
-      $ frame ! $ nothing ! $ move ! (4 ∷ 0 ∷ []) $ fjoin ! $ move ! (3 ∷ 0 ∷ []) $ fjoin ! $ move ! (2 ∷ 0 ∷ []) $ fjoin !
-      $ move ! (1 ∷ 0 ∷ []) $ fjoin ! $ owned ! usize (Is usize) (uint-makes 𝓤 H A W w64) a₁ _ (refl, g₁) $ fjoin ! $ done !
+      (((κ₀, (κ₁, (κ₂, (κ₃, (κ₄, tt))))), (q₀, (q₁, (q₂, (q₃, (q₄, tt))))), tt, x, at), tt) u r
+      (tt, (tt, (ys₃, (ys₄, (ys₅, (ps′, tt)))))) (tt, (tt, (l′₃, (l′₄, (l′₅, (lp, tt)))))))
+      $ says ! (packs a₁ xs₂ xs₃ xs₄ xs₅ ps r ys₃ ys₄ ys₅ e ps′ ep) $
+      nothing ! $ move ! (5 ∷ 0 ∷ []) $ join ! $ move ! (4 ∷ 0 ∷ []) $ join ! $ move ! (3 ∷ 0 ∷ []) $ join ! $ move ! (2 ∷ 0 ∷ []) $ join !
+      $ move ! (1 ∷ 0 ∷ []) $ join ! $ frame ! $ nothing ! $ move ! (5 ∷ 0 ∷ []) $ fjoin ! $ move ! (4 ∷ 0 ∷ []) $ fjoin !
+      $ move ! (3 ∷ 0 ∷ []) $ fjoin ! $ move ! (2 ∷ 0 ∷ []) $ fjoin ! $ move ! (1 ∷ 0 ∷ []) $ fjoin !
+      $ owned ! usize (Is usize) (uint-makes 𝓤 H A W w64) a₁ _ (refl, g₁) $ fjoin ! $ done !
 
   -- what each callee's triple binds outside, and that the caller has what it asks
   abbrev to-count : Count 𝓤 H A at-mem run .Ghost
@@ -201,16 +215,20 @@ module _ {M : Type 1} (𝓤 : URA M) (H : Heap 𝓤) (A : Atoms 𝓤) (W : Given
   abbrev to-core : Core 𝓤 H A at-mem run .Ghost
   to-core = (
     (
-      (κ₀, (κ₁, (κ₂, tt))),
-      (q₀, (q₁, (q₂, tt))),
+      (κ₀, (κ₁, (κ₂, (κ₃, tt)))),
+      (q₀, (q₁, (q₂, (q₃, tt)))),
       tt,
-      (a₁, (x₂, (x₃, (x₄, (n, tt))))),
+      (a₁, (x₂, (x₃, (x₄, (x₅, (n, tt)))))),
       (
         vint w64 a₁ ∷ [],
         (
           sliceVal (b₂, o₂) (length xs₂)
               ∷ [],
-          (sliceVal (b₃, o₃) (length xs₃) ∷ [], (sliceVal (b₄, o₄) (length xs₄) ∷ [], (vint w64 n ∷ [], tt))),
+          (
+            sliceVal (b₃, o₃) (length xs₃)
+                ∷ [],
+            (sliceVal (b₄, o₄) (length xs₄) ∷ [], (sliceVal (b₅, o₅) (length xs₅) ∷ [], (vint w64 n ∷ [], tt))),
+          ),
         ),
       ),
     ),
@@ -218,16 +236,21 @@ module _ {M : Type 1} (𝓤 : URA M) (H : Heap 𝓤) (A : Atoms 𝓤) (W : Given
   )
 
   goes-core : ent 𝓤 (⋆ 𝓤 H A
-      (‵ (flft κ₀ q₀) ∷ ‵ (flft κ₁ q₁) ∷ ‵ (flft κ₂ q₂) ∷ ‵ (ShrSlice (named 0) κ₀ u16 .own x₂ (sliceVal (b₂, o₂) (length xs₂) ∷ []))
+      (‵ (flft κ₀ q₀) ∷ ‵ (flft κ₁ q₁) ∷ ‵ (flft κ₂ q₂) ∷ ‵ (flft κ₃ q₃)
+      ∷ ‵ (ShrSlice (named 0) κ₀ u16 .own x₂ (sliceVal (b₂, o₂) (length xs₂) ∷ []))
       ∷ ‵ (MutSlice (named 1) κ₁ u16 .own x₃ (sliceVal (b₃, o₃) (length xs₃) ∷ []))
-      ∷ ‵ (MutSlice (named 2) κ₂ u8 .own x₄ (sliceVal (b₄, o₄) (length xs₄) ∷ [])) ∷ [])) (Core 𝓤 H A at-mem run .pre to-core)
+      ∷ ‵ (MutSlice (named 2) κ₂ u8 .own x₄ (sliceVal (b₄, o₄) (length xs₄) ∷ []))
+      ∷ ‵ (MutSlice (named 3) κ₃ u16 .own x₅ (sliceVal (b₅, o₅) (length xs₅) ∷ [])) ∷ []))
+      (Core 𝓤 H A at-mem run .pre to-core)
   goes-core =
-      qed W (‵ (flft κ₀ q₀) ∷ ‵ (flft κ₁ q₁) ∷ ‵ (flft κ₂ q₂) ∷ ‵ (ShrSlice (named 0) κ₀ u16 .own x₂ (sliceVal (b₂, o₂) (length xs₂) ∷ []))
+      qed W (‵ (flft κ₀ q₀) ∷ ‵ (flft κ₁ q₁) ∷ ‵ (flft κ₂ q₂) ∷ ‵ (flft κ₃ q₃)
+      ∷ ‵ (ShrSlice (named 0) κ₀ u16 .own x₂ (sliceVal (b₂, o₂) (length xs₂) ∷ []))
       ∷ ‵ (MutSlice (named 1) κ₁ u16 .own x₃ (sliceVal (b₃, o₃) (length xs₃) ∷ []))
-      ∷ ‵ (MutSlice (named 2) κ₂ u8 .own x₄ (sliceVal (b₄, o₄) (length xs₄) ∷ [])) ∷ []) ∵
-      nothing ! $ move ! (3 ∷ 0 ∷ []) $ join ! $ move ! (2 ∷ 0 ∷ []) $ join ! $ move ! (1 ∷ 0 ∷ []) $ join ! $ nothing !
-      $ owned ! usize (Is usize) (uint-makes 𝓤 H A W w64) n _ (refl, small) $ fjoin ! $ move ! (4 ∷ 0 ∷ []) $ fjoin !
-      $ move ! (3 ∷ 0 ∷ []) $ fjoin ! $ move ! (2 ∷ 0 ∷ []) $ fjoin !
+      ∷ ‵ (MutSlice (named 2) κ₂ u8 .own x₄ (sliceVal (b₄, o₄) (length xs₄) ∷ []))
+      ∷ ‵ (MutSlice (named 3) κ₃ u16 .own x₅ (sliceVal (b₅, o₅) (length xs₅) ∷ [])) ∷ []) ∵
+      nothing ! $ move ! (4 ∷ 0 ∷ []) $ join ! $ move ! (3 ∷ 0 ∷ []) $ join ! $ move ! (2 ∷ 0 ∷ []) $ join ! $ move ! (1 ∷ 0 ∷ []) $ join !
+      $ nothing ! $ owned ! usize (Is usize) (uint-makes 𝓤 H A W w64) n _ (refl, small) $ fjoin ! $ move ! (5 ∷ 0 ∷ []) $ fjoin !
+      $ move ! (4 ∷ 0 ∷ []) $ fjoin ! $ move ! (3 ∷ 0 ∷ []) $ fjoin ! $ move ! (2 ∷ 0 ∷ []) $ fjoin !
       $ owned ! usize (Is usize) (uint-makes 𝓤 H A W w64) a₁ _ (refl, g₁) $ fjoin ! $ move ! (1 ∷ 0 ∷ []) $ join ! $ nothing !
       $ move ! (1 ∷ []) $ frame ! $ done !
 
@@ -239,170 +262,192 @@ module _ {M : Type 1} (𝓤 : URA M) (H : Heap 𝓤) (A : Atoms 𝓤) (W : Given
       $ owned ! XPacked (Is XPacked) (EL.makes MPacked.the-type MPacked′.the-plain 𝓤 H A) r _ is $ fjoin ! $ move ! (1 ∷ 0 ∷ []) $ join !
       $ nothing ! $ move ! (1 ∷ 0 ∷ []) $ frame ! $ done !
 
-  fits : (r : Packed) (ys₃ : List ℕ) (ys₄ : List ℕ) → PackedOn a₁ xs₂ xs₃ xs₄ n r ys₃ ys₄ → clearedBy r ≤ length ps
-  fits r ys₃ ys₄ e = packs-fit a₁ xs₂ xs₃ xs₄ ps r ys₃ ys₄ e
+  fits : (r : Packed) (ys₃ : List ℕ) (ys₄ : List ℕ) (ys₅ : List ℕ) → PackedOn a₁ xs₂ xs₃ xs₄ xs₅ n r ys₃ ys₄ ys₅ → clearedBy r ≤ length ps
+  fits r ys₃ ys₄ ys₅ e = packs-fit a₁ xs₂ xs₃ xs₄ xs₅ ps r ys₃ ys₄ ys₅ e
 
   few : (r : Packed) → clearedBy r ≤ length ps → clearedBy r < 2 ^ 64
   few r l = omega (arith, l, gn .0)
 
   abbrev to-clear : Packed → Clear 𝓤 H A at-mem run .Ghost
-  to-clear r = (((κ₃, tt), (q₃, tt), tt, (rp γ, (clearedBy r, tt)), (sp ∷ [], (vint w64 (clearedBy r) ∷ [], tt))), tt)
+  to-clear r = (((κ₄, tt), (q₄, tt), tt, (rp γ, (clearedBy r, tt)), (sp ∷ [], (vint w64 (clearedBy r) ∷ [], tt))), tt)
 
   goes-clear : (r : Packed) → clearedBy r ≤ length ps
-      → ent 𝓤 (sep 𝓤 (A .lft κ₃ q₃) (sem 𝓤 H A Lent)) (Clear 𝓤 H A at-mem run .pre (to-clear r))
+      → ent 𝓤 (sep 𝓤 (A .lft κ₄ q₄) (sem 𝓤 H A Lent)) (Clear 𝓤 H A at-mem run .pre (to-clear r))
   goes-clear r l =
-      qed W (‵ (flft κ₃ q₃) ∷ ‵ Lent ∷ []) ∵ says ! l $ nothing ! $ move ! (1 ∷ 0 ∷ []) $ join ! $ frame ! $
+      qed W (‵ (flft κ₄ q₄) ∷ ‵ Lent ∷ []) ∵ says ! l $ nothing ! $ move ! (1 ∷ 0 ∷ []) $ join ! $ frame ! $
       nothing ! $ owned ! usize (Is usize) (uint-makes 𝓤 H A W w64) (clearedBy r) _ (refl, few r l) $ fjoin ! $ move ! (1 ∷ 0 ∷ [])
       $ fjoin ! $ done !
 
   module _ (C : Calls 𝓤 H) (Λ : Loops 𝓤 H) (fm : FmC 𝓤 H (W .laws) C) (k-count : Triple 𝓤 (C #count) (Count 𝓤 H A at-mem run))
       (k-core : Triple 𝓤 (C #core) (Core 𝓤 H A at-mem run)) (k-cleared : Triple 𝓤 (C #cleared) (Cleared 𝓤 H A at-mem run))
       (k-clear : Triple 𝓤 (C #clear) (Clear 𝓤 H A at-mem run))
-      (l₀ l₁ l₂ l₃ l₄ l₅ l₆ l₇ l₈ l₉ l₁₀ l₁₁ l₁₂ l₁₃ l₁₄ l₁₅ : ℕ) where
+      (l₀ l₁ l₂ l₃ l₄ l₅ l₆ l₇ l₈ l₉ l₁₀ l₁₁ l₁₂ l₁₃ l₁₄ l₁₅ l₁₆ l₁₇ l₁₈ : ℕ) where
     abbrev En : Env 𝓤 H
     En = (ty 0, l₀) ∷ (ty 1, l₁) ∷ (ty 2, l₂) ∷ (ty 3, l₃) ∷ (ty 4, l₄) ∷ (ty 5, l₅) ∷ (ty 6, l₆) ∷ (ty 7, l₇) ∷ (ty 8, l₈) ∷ (ty 9, l₉)
-        ∷ (ty 10, l₁₀) ∷ (ty 11, l₁₁) ∷ (ty 12, l₁₂) ∷ (ty 13, l₁₃) ∷ (ty 14, l₁₄) ∷ (ty 15, l₁₅) ∷ []
+        ∷ (ty 10, l₁₀) ∷ (ty 11, l₁₁) ∷ (ty 12, l₁₂) ∷ (ty 13, l₁₃) ∷ (ty 14, l₁₄) ∷ (ty 15, l₁₅) ∷ (ty 16, l₁₆) ∷ (ty 17, l₁₇)
+        ∷ (ty 18, l₁₈) ∷ []
 
     abbrev Dies : List (Item 𝓤)
     Dies = ‵ (fdies (ty 0) l₀) ∷ ‵ (fdies (ty 1) l₁) ∷ ‵ (fdies (ty 2) l₂) ∷ ‵ (fdies (ty 3) l₃) ∷ ‵ (fdies (ty 4) l₄) ∷ ‵ (fdies (ty 5) l₅)
         ∷ ‵ (fdies (ty 6) l₆) ∷ ‵ (fdies (ty 7) l₇) ∷ ‵ (fdies (ty 8) l₈) ∷ ‵ (fdies (ty 9) l₉) ∷ ‵ (fdies (ty 10) l₁₀)
-        ∷ ‵ (fdies (ty 11) l₁₁) ∷ ‵ (fdies (ty 12) l₁₂) ∷ ‵ (fdies (ty 13) l₁₃) ∷ ‵ (fdies (ty 14) l₁₄) ∷ ‵ (fdies (ty 15) l₁₅) ∷ []
+        ∷ ‵ (fdies (ty 11) l₁₁) ∷ ‵ (fdies (ty 12) l₁₂) ∷ ‵ (fdies (ty 13) l₁₃) ∷ ‵ (fdies (ty 14) l₁₄) ∷ ‵ (fdies (ty 15) l₁₅)
+        ∷ ‵ (fdies (ty 16) l₁₆) ∷ ‵ (fdies (ty 17) l₁₇) ∷ ‵ (fdies (ty 18) l₁₈) ∷ []
 
     -- `clear`, and the return
-    abbrev Ctx-clear : Packed → List ℕ → List ℕ → Val → List (Item 𝓤)
-    Ctx-clear r ys₃ ys₄ u = ‵ (flft κ₀ q₀) ∷ ‵ (flft κ₁ q₁) ∷ ‵ (flft κ₂ q₂) ∷ ‵ (flft κ₃ q₃) ∷ ‵ (XPacked .own r (u ∷ []))
-        ∷ ‵ (finally u16 γ₃ ys₃) ∷ ‵ (finally u8 γ₄ ys₄) ∷ ‵ (ShrSlice (named 0) κ₀ u16 .own x₂ (sliceVal (b₂, o₂) (length xs₂) ∷ []))
-        ∷ ‵ Lent ∷ ‵ (froom (ty 0) l₀ 0) ∷ ‵ (fat fullShare (ty 1) l₁ 0 (vint w64 a₁))
-        ∷ ‵ (fat fullShare (ty 2) l₂ 0 (sliceVal (b₂, o₂) (length xs₂)))
+    abbrev Ctx-clear : Packed → List ℕ → List ℕ → List ℕ → Val → List (Item 𝓤)
+    Ctx-clear r ys₃ ys₄ ys₅ u =
+        ‵ (flft κ₀ q₀) ∷ ‵ (flft κ₁ q₁) ∷ ‵ (flft κ₂ q₂) ∷ ‵ (flft κ₃ q₃) ∷ ‵ (flft κ₄ q₄) ∷ ‵ (XPacked .own r (u ∷ []))
+        ∷ ‵ (finally u16 γ₃ ys₃) ∷ ‵ (finally u8 γ₄ ys₄) ∷ ‵ (finally u16 γ₅ ys₅)
+        ∷ ‵ (ShrSlice (named 0) κ₀ u16 .own x₂ (sliceVal (b₂, o₂) (length xs₂) ∷ [])) ∷ ‵ Lent ∷ ‵ (froom (ty 0) l₀ 0)
+        ∷ ‵ (fat fullShare (ty 1) l₁ 0 (vint w64 a₁)) ∷ ‵ (fat fullShare (ty 2) l₂ 0 (sliceVal (b₂, o₂) (length xs₂)))
         ∷ ‵ (fat fullShare (ty 3) l₃ 0 (sliceVal (b₃, o₃) (length xs₃)))
-        ∷ ‵ (fat fullShare (ty 4) l₄ 0 (sliceVal (b₄, o₄) (length xs₄))) ∷ ‵ (fat fullShare (ty 5) l₅ 0 (sp))
-        ∷ ‵ (fat fullShare (ty 6) l₆ 0 (vint w64 n)) ∷ ‵ (fat fullShare (ty 7) l₇ 0 (u)) ∷ ‵ (froom (ty 8) l₈ 0)
-        ∷ ‵ (froom (ty 9) l₉ 0) ∷ ‵ (froom (ty 10) l₁₀ 0) ∷ ‵ (froom (ty 11) l₁₁ 0) ∷ ‵ (froom (ty 12) l₁₂ 0)
-        ∷ ‵ (froom (ty 13) l₁₃ 0) ∷ ‵ (froom (ty 14) l₁₄ 0) ∷ ‵ (froom (ty 15) l₁₅ 0) ∷ Dies
+        ∷ ‵ (fat fullShare (ty 4) l₄ 0 (sliceVal (b₄, o₄) (length xs₄)))
+        ∷ ‵ (fat fullShare (ty 5) l₅ 0 (sliceVal (b₅, o₅) (length xs₅))) ∷ ‵ (fat fullShare (ty 6) l₆ 0 (sp))
+        ∷ ‵ (fat fullShare (ty 7) l₇ 0 (vint w64 n)) ∷ ‵ (fat fullShare (ty 8) l₈ 0 (u)) ∷ ‵ (froom (ty 9) l₉ 0)
+        ∷ ‵ (froom (ty 10) l₁₀ 0) ∷ ‵ (froom (ty 11) l₁₁ 0) ∷ ‵ (froom (ty 12) l₁₂ 0)
+        ∷ ‵ (froom (ty 13) l₁₃ 0) ∷ ‵ (froom (ty 14) l₁₄ 0) ∷ ‵ (froom (ty 15) l₁₅ 0)
+        ∷ ‵ (froom (ty 16) l₁₆ 0) ∷ ‵ (froom (ty 17) l₁₇ 0) ∷ ‵ (froom (ty 18) l₁₈ 0) ∷ Dies
 
-    clearing : (r : Packed) (ys₃ : List ℕ) (ys₄ : List ℕ) (u : Val) → PackedOn a₁ xs₂ xs₃ xs₄ n r ys₃ ys₄ → length ys₃ ≡ length xs₃
-        → length ys₄ ≡ length xs₄ → Is XPacked r (u ∷ []) → Holds (hasTy (ty 7) u) × WT u
-        → ent 𝓤 (⋆ 𝓤 H A (Ctx-clear r ys₃ ys₄ u)) (Wp 𝓤 H C Λ En pieces.t-8 (atReturn 𝓤 H En Post))
-    clearing r ys₃ ys₄ u e l′₃ l′₄ is wu =
-        qed W (Ctx-clear r ys₃ ys₄ u) ∵ exec ! C Λ En pieces.t-8 (atRet En Post) $
-        assigns ! (addr ! (from ! (fld ! refl (hop ! (look-in ! 14 (sub ! 0 refl (whole !))) (stop !))))) (from ! (stop !))
-        (init ! 23 refl (tt, tt)) $
-        assigns ! (agg ! (and-then ! (load ! (from ! (stop !)) (look ! 23 refl))
-        (and-then ! (load ! (from ! (fld ! refl (stop !))) (look-in ! 14 (sub ! 1 refl (whole !)))) (no-more !)))) (from ! (stop !))
-        (init ! 24 refl (tt, (tt, (record { fits = gn .0 }, tt)))) $
+    clearing : (r : Packed) (ys₃ : List ℕ) (ys₄ : List ℕ) (ys₅ : List ℕ) (u : Val) → PackedOn a₁ xs₂ xs₃ xs₄ xs₅ n r ys₃ ys₄ ys₅
+        → length ys₃ ≡ length xs₃ → length ys₄ ≡ length xs₄ → length ys₅ ≡ length xs₅ → Is XPacked r (u ∷ [])
+        → Holds (hasTy (ty 8) u) × WT u → ent 𝓤 (⋆ 𝓤 H A (Ctx-clear r ys₃ ys₄ ys₅ u)) (Wp 𝓤 H C Λ En pieces.t-10 (atReturn 𝓤 H En Post))
+    clearing r ys₃ ys₄ ys₅ u e l′₃ l′₄ l′₅ is wu =
+        qed W (Ctx-clear r ys₃ ys₄ ys₅ u) ∵ exec ! C Λ En pieces.t-10 (atRet En Post) $
+        assigns ! (addr ! (from ! (fld ! refl (hop ! (look-in ! 17 (sub ! 0 refl (whole !))) (stop !))))) (from ! (stop !))
+        (init ! 28 refl (tt, tt)) $
+        assigns ! (agg ! (and-then ! (load ! (from ! (stop !)) (look ! 28 refl))
+        (and-then ! (load ! (from ! (fld ! refl (stop !))) (look-in ! 17 (sub ! 1 refl (whole !)))) (no-more !)))) (from ! (stop !))
+        (init ! 29 refl (tt, (tt, (record { fits = gn .0 }, tt)))) $
         nothing ! $ use1 W (raw (Cleared 𝓤 H A at-mem run .pre (to-cleared r u))) (goes-cleared r u is) $
         calls-at ! fm (Cleared 𝓤 H A at-mem run) k-cleared (to-cleared r u)
-        (and-then ! (load ! (from ! (stop !)) (look ! 17 refl)) (no-more !)) (λ v.
+        (and-then ! (load ! (from ! (stop !)) (look ! 20 refl)) (no-more !)) (λ v.
         use1 W (later (some (λ (k : ℕ).
         (‵ ftrue ⊛ ‵ (usize .own k (v ∷ []))) ⊛ raw
         (ensured 𝓤 H A cleared′.ended (cleared′.clauses 𝓤 H A at-mem run) tt (r, tt) tt k)))) (id⊢ 𝓤 _) $ await ! tt $ pick ! (λ k.
         split ! $ move ! (1 ∷ []) $ use1 W (raw (fact 𝓤 (k ≡ clearedBy r))) (cleared-of 𝓤 H A at-mem run r k)
         $ heard ! (k ≡ clearedBy r) (λ ek. split ! $ drop ! $
         peeks ! usize (Is usize) (shows 𝓤 H A usize) k (v ∷ [])
-        (λ isk. land ! (from ! (stop !)) (init ! 18 refl (uint-lawful 𝓤 H A W w64 .typed k _ isk .0)) $
-        rewrite ! 18 (λ (v : Val). ‵ (fat fullShare (ty 8) l₈ 0 v)) (ap only (isk .0) ∙ ap (λ (k : ℕ). vint w64 k) ek) refl $ drop ! $
-        move ! (3 ∷ 8 ∷ []) $ use2 W (raw (Clear 𝓤 H A at-mem run .pre (to-clear r))) (goes-clear r (fits r ys₃ ys₄ e)) $
+        (λ isk. land ! (from ! (stop !)) (init ! 21 refl (uint-lawful 𝓤 H A W w64 .typed k _ isk .0)) $
+        rewrite ! 21 (λ (v : Val). ‵ (fat fullShare (ty 9) l₉ 0 v)) (ap only (isk .0) ∙ ap (λ (k : ℕ). vint w64 k) ek) refl $ drop ! $
+        move ! (4 ∷ 10 ∷ []) $ use2 W (raw (Clear 𝓤 H A at-mem run .pre (to-clear r))) (goes-clear r (fits r ys₃ ys₄ ys₅ e)) $
         calls-at ! fm (Clear 𝓤 H A at-mem run) k-clear (to-clear r)
-        (and-then ! (load ! (from ! (stop !)) (look ! 23 refl)) (and-then ! (load ! (from ! (stop !)) (look ! 16 refl)) (no-more !)))
+        (and-then ! (load ! (from ! (stop !)) (look ! 28 refl)) (and-then ! (load ! (from ! (stop !)) (look ! 19 refl)) (no-more !)))
         (λ w.
         use1 W (later (some (λ (z : Unit {0}).
-        ((‵ (flft κ₃ q₃) ⊛ ‵ ftrue) ⊛ ‵ (feq (List Val) (w ∷ []) (vunit ∷ []))) ⊛ raw
-        (ensured 𝓤 H A clear′.ended (clear′.clauses 𝓤 H A at-mem run) (κ₃, tt) (rp γ, (clearedBy r, tt)) tt z)))) (id⊢ 𝓤 _)
+        ((‵ (flft κ₄ q₄) ⊛ ‵ ftrue) ⊛ ‵ (feq (List Val) (w ∷ []) (vunit ∷ []))) ⊛ raw
+        (ensured 𝓤 H A clear′.ended (clear′.clauses 𝓤 H A at-mem run) (κ₄, tt) (rp γ, (clearedBy r, tt)) tt z)))) (id⊢ 𝓤 _)
         $ await ! tt $ pick ! (λ z.
         split ! $ move ! (1 ∷ [])
         $ use1 W (some (λ (zs : List Place × (Unit {0} × Unit {0})).
-        ‵ (lasts clear′.ended (κ₃, tt) (rp γ, (clearedBy r, tt)) zs) ⊛ raw
+        ‵ (lasts clear′.ended (κ₄, tt) (rp γ, (clearedBy r, tt)) zs) ⊛ raw
         (fact 𝓤 (zs .0 ≡ clearedTo (clearedBy r) ps)))) (id⊢ 𝓤 _)
         $ pick ! (λ zs. split ! $ move ! (1 ∷ [])
         $ heard ! (zs .0 ≡ clearedTo (clearedBy r) ps)
         (λ ep. fsplit ! $ fsplit ! $ move ! (1 ∷ [])
         $ feqL ! (λ lp. move ! (2 ∷ []) $ split ! $ move ! (1 ∷ []) $ feqL ! (λ ew.
-        land ! (from ! (stop !)) (init ! 23 refl (nothing-lawful 𝓤 H A W .typed tt (w ∷ []) ew .0)) $ split !
-        $ assigns ! (of-opd ! (load ! (from ! (stop !)) (look ! 18 refl))) (from ! (stop !)) (init ! 11 refl wu) $
-        returns ! (look ! 11 refl) $ forget ! 11 refl $ forget ! 12 refl $ forget ! 13 refl $ forget ! 14 refl $ forget ! 15 refl
-        $ forget ! 16 refl $ forget ! 17 refl $ forget ! 18 refl $ forget ! 24 refl $ forget ! 25 refl $ forget ! 26 refl
-        $ forget ! 19 refl $
-        move ! (11 ∷ 27 ∷ []) $ free1 ! $ move ! (11 ∷ 26 ∷ []) $ free1 ! $ move ! (11 ∷ 25 ∷ []) $ free1 ! $ move ! (11 ∷ 24 ∷ [])
-        $ free1 ! $ move ! (11 ∷ 23 ∷ []) $ free1 ! $ move ! (11 ∷ 22 ∷ []) $ free1 ! $ move ! (11 ∷ 21 ∷ []) $ free1 !
-        $ move ! (11 ∷ 20 ∷ []) $ free1 ! $ move ! (11 ∷ 19 ∷ []) $ free1 ! $ move ! (11 ∷ 18 ∷ []) $ free1 !
-        $ move ! (11 ∷ 17 ∷ []) $ free1 ! $ move ! (11 ∷ 16 ∷ []) $ free1 ! $ move ! (11 ∷ 15 ∷ []) $ free1 !
-        $ move ! (11 ∷ 14 ∷ []) $ free1 ! $ move ! (11 ∷ 13 ∷ []) $ free1 ! $ move ! (11 ∷ 12 ∷ []) $ free1 ! $ free0 ! $
-        keep ! (4 ∷ 5 ∷ 6 ∷ 0 ∷ 10 ∷ 8 ∷ 9 ∷ 2 ∷ 7 ∷ []) $ by ! (exits r ys₃ ys₄ (zs .0) u e ep l′₃ l′₄ lp)))))))))))
+        land ! (from ! (stop !)) (init ! 28 refl (nothing-lawful 𝓤 H A W .typed tt (w ∷ []) ew .0)) $ split !
+        $ assigns ! (of-opd ! (load ! (from ! (stop !)) (look ! 21 refl))) (from ! (stop !)) (init ! 13 refl wu) $
+        returns ! (look ! 13 refl) $ forget ! 13 refl $ forget ! 14 refl $ forget ! 15 refl $ forget ! 16 refl $ forget ! 17 refl
+        $ forget ! 18 refl $ forget ! 19 refl $ forget ! 20 refl $ forget ! 21 refl $ forget ! 29 refl $ forget ! 30 refl
+        $ forget ! 31 refl $ forget ! 22 refl $
+        move ! (13 ∷ 32 ∷ []) $ free1 ! $ move ! (13 ∷ 31 ∷ []) $ free1 ! $ move ! (13 ∷ 30 ∷ []) $ free1 ! $ move ! (13 ∷ 29 ∷ [])
+        $ free1 ! $ move ! (13 ∷ 28 ∷ []) $ free1 ! $ move ! (13 ∷ 27 ∷ []) $ free1 ! $ move ! (13 ∷ 26 ∷ []) $ free1 !
+        $ move ! (13 ∷ 25 ∷ []) $ free1 ! $ move ! (13 ∷ 24 ∷ []) $ free1 ! $ move ! (13 ∷ 23 ∷ []) $ free1 !
+        $ move ! (13 ∷ 22 ∷ []) $ free1 ! $ move ! (13 ∷ 21 ∷ []) $ free1 ! $ move ! (13 ∷ 20 ∷ []) $ free1 !
+        $ move ! (13 ∷ 19 ∷ []) $ free1 ! $ move ! (13 ∷ 18 ∷ []) $ free1 ! $ move ! (13 ∷ 17 ∷ []) $ free1 !
+        $ move ! (13 ∷ 16 ∷ []) $ free1 ! $ move ! (13 ∷ 15 ∷ []) $ free1 ! $ move ! (13 ∷ 14 ∷ []) $ free1 !
+        $ free0 ! $
+        keep ! (4 ∷ 5 ∷ 6 ∷ 7 ∷ 0 ∷ 12 ∷ 9 ∷ 10 ∷ 11 ∷ 2 ∷ 8 ∷ []) $ by ! (exits r ys₃ ys₄ ys₅ (zs .0) u e ep l′₃ l′₄ l′₅ lp)))))))))))
 
     -- the core
     abbrev Ctx-core : List (Item 𝓤)
-    Ctx-core = ‵ (flft κ₀ q₀) ∷ ‵ (flft κ₁ q₁) ∷ ‵ (flft κ₂ q₂) ∷ ‵ (flft κ₃ q₃)
+    Ctx-core = ‵ (flft κ₀ q₀) ∷ ‵ (flft κ₁ q₁) ∷ ‵ (flft κ₂ q₂) ∷ ‵ (flft κ₃ q₃) ∷ ‵ (flft κ₄ q₄)
         ∷ ‵ (ShrSlice (named 0) κ₀ u16 .own x₂ (sliceVal (b₂, o₂) (length xs₂) ∷ []))
         ∷ ‵ (MutSlice (named 1) κ₁ u16 .own x₃ (sliceVal (b₃, o₃) (length xs₃) ∷ []))
         ∷ ‵ (MutSlice (named 2) κ₂ u8 .own x₄ (sliceVal (b₄, o₄) (length xs₄) ∷ []))
+        ∷ ‵ (MutSlice (named 3) κ₃ u16 .own x₅ (sliceVal (b₅, o₅) (length xs₅) ∷ []))
         ∷ ‵ (ShrSlice (named 0) κ₀ u16 .own x₂ (sliceVal (b₂, o₂) (length xs₂) ∷ [])) ∷ ‵ Lent ∷ ‵ (froom (ty 0) l₀ 0)
         ∷ ‵ (fat fullShare (ty 1) l₁ 0 (vint w64 a₁)) ∷ ‵ (fat fullShare (ty 2) l₂ 0 (sliceVal (b₂, o₂) (length xs₂)))
         ∷ ‵ (fat fullShare (ty 3) l₃ 0 (sliceVal (b₃, o₃) (length xs₃)))
-        ∷ ‵ (fat fullShare (ty 4) l₄ 0 (sliceVal (b₄, o₄) (length xs₄))) ∷ ‵ (fat fullShare (ty 5) l₅ 0 (sp))
-        ∷ ‵ (fat fullShare (ty 6) l₆ 0 (vint w64 n)) ∷ ‵ (froom (ty 7) l₇ 0) ∷ ‵ (froom (ty 8) l₈ 0)
-        ∷ ‵ (froom (ty 9) l₉ 0) ∷ ‵ (froom (ty 10) l₁₀ 0) ∷ ‵ (froom (ty 11) l₁₁ 0)
-        ∷ ‵ (froom (ty 12) l₁₂ 0) ∷ ‵ (froom (ty 13) l₁₃ 0) ∷ ‵ (froom (ty 14) l₁₄ 0)
-        ∷ ‵ (froom (ty 15) l₁₅ 0) ∷ Dies
+        ∷ ‵ (fat fullShare (ty 4) l₄ 0 (sliceVal (b₄, o₄) (length xs₄)))
+        ∷ ‵ (fat fullShare (ty 5) l₅ 0 (sliceVal (b₅, o₅) (length xs₅)))
+        ∷ ‵ (fat fullShare (ty 6) l₆ 0 (sp)) ∷ ‵ (fat fullShare (ty 7) l₇ 0 (vint w64 n))
+        ∷ ‵ (froom (ty 8) l₈ 0) ∷ ‵ (froom (ty 9) l₉ 0) ∷ ‵ (froom (ty 10) l₁₀ 0)
+        ∷ ‵ (froom (ty 11) l₁₁ 0) ∷ ‵ (froom (ty 12) l₁₂ 0) ∷ ‵ (froom (ty 13) l₁₃ 0)
+        ∷ ‵ (froom (ty 14) l₁₄ 0) ∷ ‵ (froom (ty 15) l₁₅ 0) ∷ ‵ (froom (ty 16) l₁₆ 0)
+        ∷ ‵ (froom (ty 17) l₁₇ 0) ∷ ‵ (froom (ty 18) l₁₈ 0) ∷ Dies
 
     stepping : ent 𝓤 (⋆ 𝓤 H A Ctx-core) (Wp 𝓤 H C Λ En pieces.t-3 (atReturn 𝓤 H En Post))
     stepping =
         qed W Ctx-core ∵ exec ! C Λ En pieces.t-3 (atRet En Post) $
-        assigns ! (addr ! (from ! (fld ! refl (hop ! (look-in ! 12 (sub ! 0 refl (whole !))) (stop !))))) (from ! (stop !))
-        (init ! 18 refl (tt, tt)) $
-        assigns ! (agg ! (and-then ! (load ! (from ! (stop !)) (look ! 18 refl))
-        (and-then ! (load ! (from ! (fld ! refl (stop !))) (look-in ! 12 (sub ! 1 refl (whole !)))) (no-more !)))) (from ! (stop !))
-        (init ! 19 refl (tt, (tt, (record { fits = g₃ .0 }, tt)))) $
-        assigns ! (addr ! (from ! (fld ! refl (hop ! (look-in ! 13 (sub ! 0 refl (whole !))) (stop !))))) (from ! (stop !))
-        (init ! 20 refl (tt, tt)) $
-        assigns ! (agg ! (and-then ! (load ! (from ! (stop !)) (look ! 20 refl))
-        (and-then ! (load ! (from ! (fld ! refl (stop !))) (look-in ! 13 (sub ! 1 refl (whole !)))) (no-more !)))) (from ! (stop !))
-        (init ! 21 refl (tt, (tt, (record { fits = g₄ .0 }, tt)))) $
-        move ! (5 ∷ 6 ∷ []) $ join ! $ move ! (5 ∷ 0 ∷ []) $ join ! $ move ! (3 ∷ 0 ∷ []) $ join ! $ move ! (2 ∷ 0 ∷ []) $ join !
-        $ move ! (1 ∷ 0 ∷ []) $ join ! $ use1 W (raw (Core 𝓤 H A at-mem run .pre to-core)) goes-core $
+        assigns ! (addr ! (from ! (fld ! refl (hop ! (look-in ! 14 (sub ! 0 refl (whole !))) (stop !))))) (from ! (stop !))
+        (init ! 21 refl (tt, tt)) $
+        assigns ! (agg ! (and-then ! (load ! (from ! (stop !)) (look ! 21 refl))
+        (and-then ! (load ! (from ! (fld ! refl (stop !))) (look-in ! 14 (sub ! 1 refl (whole !)))) (no-more !)))) (from ! (stop !))
+        (init ! 22 refl (tt, (tt, (record { fits = g₃ .0 }, tt)))) $
+        assigns ! (addr ! (from ! (fld ! refl (hop ! (look-in ! 15 (sub ! 0 refl (whole !))) (stop !))))) (from ! (stop !))
+        (init ! 23 refl (tt, tt)) $
+        assigns ! (agg ! (and-then ! (load ! (from ! (stop !)) (look ! 23 refl))
+        (and-then ! (load ! (from ! (fld ! refl (stop !))) (look-in ! 15 (sub ! 1 refl (whole !)))) (no-more !)))) (from ! (stop !))
+        (init ! 24 refl (tt, (tt, (record { fits = g₄ .0 }, tt)))) $
+        assigns ! (addr ! (from ! (fld ! refl (hop ! (look-in ! 16 (sub ! 0 refl (whole !))) (stop !))))) (from ! (stop !))
+        (init ! 25 refl (tt, tt)) $
+        assigns ! (agg ! (and-then ! (load ! (from ! (stop !)) (look ! 25 refl))
+        (and-then ! (load ! (from ! (fld ! refl (stop !))) (look-in ! 16 (sub ! 1 refl (whole !)))) (no-more !)))) (from ! (stop !))
+        (init ! 26 refl (tt, (tt, (record { fits = g₅ .0 }, tt)))) $
+        move ! (7 ∷ 8 ∷ []) $ join ! $ move ! (7 ∷ 0 ∷ []) $ join ! $ move ! (6 ∷ 0 ∷ []) $ join ! $ move ! (4 ∷ 0 ∷ []) $ join !
+        $ move ! (3 ∷ 0 ∷ []) $ join ! $ move ! (2 ∷ 0 ∷ []) $ join ! $ move ! (1 ∷ 0 ∷ []) $ join !
+        $ use1 W (raw (Core 𝓤 H A at-mem run .pre to-core)) goes-core $
         calls-at ! fm (Core 𝓤 H A at-mem run) k-core to-core
         (and-then ! (load ! (from ! (stop !)) (look ! 5 refl))
         (and-then ! (load ! (from ! (stop !)) (look ! 6 refl))
-        (and-then ! (load ! (from ! (stop !)) (look ! 14 refl))
-        (and-then ! (load ! (from ! (stop !)) (look ! 16 refl))
-        (and-then ! (load ! (from ! (stop !)) (look ! 10 refl)) (no-more !)))))) (λ u.
+        (and-then ! (load ! (from ! (stop !)) (look ! 15 refl))
+        (and-then ! (load ! (from ! (stop !)) (look ! 17 refl))
+        (and-then ! (load ! (from ! (stop !)) (look ! 19 refl))
+        (and-then ! (load ! (from ! (stop !)) (look ! 11 refl)) (no-more !))))))) (λ u.
         use1 W (later (some (λ (r : Packed).
-        ((‵ (flft κ₀ q₀) ⊛ (‵ (flft κ₁ q₁) ⊛ (‵ (flft κ₂ q₂) ⊛ (‵ ftrue)))) ⊛ ‵ (XPacked .own r (u ∷ []))) ⊛ raw
-        (ensured 𝓤 H A core′.ended (core′.clauses 𝓤 H A at-mem run) (κ₀, (κ₁, (κ₂, tt))) (a₁, (x₂, (x₃, (x₄, (n, tt))))) tt r))))
-        (id⊢ 𝓤 _) $ await ! tt $ pick ! (λ r.
+        ((‵ (flft κ₀ q₀) ⊛ (‵ (flft κ₁ q₁) ⊛ (‵ (flft κ₂ q₂) ⊛ (‵ (flft κ₃ q₃) ⊛ (‵ ftrue))))) ⊛ ‵ (XPacked .own r (u ∷ []))) ⊛ raw
+        (ensured 𝓤 H A core′.ended (core′.clauses 𝓤 H A at-mem run) (κ₀, (κ₁, (κ₂, (κ₃, tt)))) (a₁, (x₂, (x₃, (x₄, (x₅, (n, tt))))))
+        tt r)))) (id⊢ 𝓤 _) $ await ! tt $ pick ! (λ r.
         split ! $ move ! (1 ∷ [])
-        $ use1 W (some (λ (zs : Unit {0} × (Unit {0} × (List ℕ × (List ℕ × (Unit {0} × (Unit {0})))))).
-        ‵ (lasts core′.ended (κ₀, (κ₁, (κ₂, tt))) (a₁, (x₂, (x₃, (x₄, (n, tt))))) zs) ⊛ raw
-        (fact 𝓤 (PackedOn a₁ xs₂ xs₃ xs₄ n r (zs .1 .1 .0) (zs .1 .1 .1 .0))))) (id⊢ 𝓤 _) $ pick ! (λ zs.
+        $ use1 W (some (λ (zs : Unit {0} × (Unit {0} × (List ℕ × (List ℕ × (List ℕ × (Unit {0} × (Unit {0}))))))).
+        ‵ (lasts core′.ended (κ₀, (κ₁, (κ₂, (κ₃, tt)))) (a₁, (x₂, (x₃, (x₄, (x₅, (n, tt)))))) zs) ⊛ raw
+        (fact 𝓤 (PackedOn a₁ xs₂ xs₃ xs₄ xs₅ n r (zs .1 .1 .0) (zs .1 .1 .1 .0) (zs .1 .1 .1 .1 .0))))) (id⊢ 𝓤 _)
+        $ pick ! (λ zs.
         split ! $ move ! (1 ∷ [])
-        $ heard ! (PackedOn a₁ xs₂ xs₃ xs₄ n r (zs .1 .1 .0) (zs .1 .1 .1 .0))
+        $ heard ! (PackedOn a₁ xs₂ xs₃ xs₄ xs₅ n r (zs .1 .1 .0) (zs .1 .1 .1 .0) (zs .1 .1 .1 .1 .0))
         (λ e. fsplit ! $ drop ! $ fsplit ! $ drop ! $ fsplit ! $ fsplit ! $ move ! (1 ∷ [])
-        $ feqL ! (λ l′₃. move ! (1 ∷ []) $ fsplit ! $ fsplit ! $ move ! (1 ∷ []) $ feqL ! (λ l′₄.
-        move ! (3 ∷ []) $ split ! $ move ! (1 ∷ []) $ peeks ! XPacked (Is XPacked) (shows 𝓤 H A XPacked) r (u ∷ []) (λ is.
-        let wu : Holds (hasTy (ty 7) u) × WT u = EL.lawful MPacked.the-type MPacked′.the-laws 𝓤 H A W tt .typed r (u ∷ []) is .0 in
-        land ! (from ! (stop !)) (init ! 15 refl wu) $
-        move ! (1 ∷ []) $ split ! $ move ! (1 ∷ []) $ split ! $ move ! (1 ∷ []) $ split ! $ forget ! 20 refl $ forget ! 21 refl
-        $ forget ! 22 refl $ forget ! 23 refl $
-        keep ! (3 ∷ 2 ∷ 0 ∷ 8 ∷ 4 ∷ 7 ∷ 5 ∷ 9 ∷ 10 ∷ 11 ∷ 12 ∷ 13 ∷ 14 ∷ 15 ∷ 16 ∷ 17 ∷ 18 ∷ 19 ∷ 20 ∷ 21 ∷ 22 ∷ 23 ∷ 24 ∷ 25 ∷ 26 ∷ 27 ∷ 28
-        ∷ 29 ∷ 30 ∷ 31 ∷ 32 ∷ 33 ∷ 34 ∷ 35 ∷ 36 ∷ 37 ∷ 38 ∷ 39 ∷ 40 ∷ 41 ∷ 42 ∷ [])
-        $ by ! (clearing r (zs .1 .1 .0) (zs .1 .1 .1 .0) u e l′₃ l′₄ is wu))))))))
+        $ feqL ! (λ l′₃. move ! (1 ∷ []) $ fsplit ! $ fsplit ! $ move ! (1 ∷ [])
+        $ feqL ! (λ l′₄. move ! (1 ∷ []) $ fsplit ! $ fsplit ! $ move ! (1 ∷ []) $ feqL ! (λ l′₅.
+        move ! (4 ∷ []) $ split ! $ move ! (1 ∷ []) $ peeks ! XPacked (Is XPacked) (shows 𝓤 H A XPacked) r (u ∷ []) (λ is.
+        let wu : Holds (hasTy (ty 8) u) × WT u = EL.lawful MPacked.the-type MPacked′.the-laws 𝓤 H A W tt .typed r (u ∷ []) is .0 in
+        land ! (from ! (stop !)) (init ! 17 refl wu) $
+        move ! (1 ∷ []) $ split ! $ move ! (1 ∷ []) $ split ! $ move ! (1 ∷ []) $ split ! $ move ! (1 ∷ []) $ split ! $ forget ! 23 refl
+        $ forget ! 24 refl $ forget ! 25 refl $ forget ! 26 refl $ forget ! 27 refl $ forget ! 28 refl $
+        keep ! (4 ∷ 3 ∷ 2 ∷ 0 ∷ 10 ∷ 5 ∷ 9 ∷ 8 ∷ 6 ∷ 11 ∷ 12 ∷ 13 ∷ 14 ∷ 15 ∷ 16 ∷ 17 ∷ 18 ∷ 19 ∷ 20 ∷ 21 ∷ 22 ∷ 23 ∷ 24 ∷ 25 ∷ 26 ∷ 27 ∷ 28
+        ∷ 29 ∷ 30 ∷ 31 ∷ 32 ∷ 33 ∷ 34 ∷ 35 ∷ 36 ∷ 37 ∷ 38 ∷ 39 ∷ 40 ∷ 41 ∷ 42 ∷ 43 ∷ 44 ∷ 45 ∷ 46 ∷ 47 ∷ 48 ∷ 49 ∷ 50 ∷ [])
+        $ by ! (clearing r (zs .1 .1 .0) (zs .1 .1 .1 .0) (zs .1 .1 .1 .1 .0) u e l′₃ l′₄ l′₅ is wu)))))))))
 
     -- `count`
     abbrev Ctx-entry : List (Item 𝓤)
-    Ctx-entry = raw (onEntry 𝓤 H A public.signature (κ₀, (κ₁, (κ₂, (κ₃, tt)))) (q₀, (q₁, (q₂, (q₃, tt)))) x at) ∷ ‵ (froom (ty 0) l₀ 0)
-        ∷ ‵ (fat fullShare (ty 1) l₁ 0 (vint w64 a₁)) ∷ ‵ (fat fullShare (ty 2) l₂ 0 (sliceVal (b₂, o₂) (length xs₂)))
+    Ctx-entry = raw (onEntry 𝓤 H A public.signature (κ₀, (κ₁, (κ₂, (κ₃, (κ₄, tt))))) (q₀, (q₁, (q₂, (q₃, (q₄, tt))))) x at)
+        ∷ ‵ (froom (ty 0) l₀ 0) ∷ ‵ (fat fullShare (ty 1) l₁ 0 (vint w64 a₁))
+        ∷ ‵ (fat fullShare (ty 2) l₂ 0 (sliceVal (b₂, o₂) (length xs₂)))
         ∷ ‵ (fat fullShare (ty 3) l₃ 0 (sliceVal (b₃, o₃) (length xs₃)))
-        ∷ ‵ (fat fullShare (ty 4) l₄ 0 (sliceVal (b₄, o₄) (length xs₄))) ∷ ‵ (fat fullShare (ty 5) l₅ 0 (sp))
-        ∷ ‵ (froom (ty 6) l₆ 0) ∷ ‵ (froom (ty 7) l₇ 0) ∷ ‵ (froom (ty 8) l₈ 0) ∷ ‵ (froom (ty 9) l₉ 0)
-        ∷ ‵ (froom (ty 10) l₁₀ 0) ∷ ‵ (froom (ty 11) l₁₁ 0) ∷ ‵ (froom (ty 12) l₁₂ 0) ∷ ‵ (froom (ty 13) l₁₃ 0)
-        ∷ ‵ (froom (ty 14) l₁₄ 0) ∷ ‵ (froom (ty 15) l₁₅ 0) ∷ Dies
+        ∷ ‵ (fat fullShare (ty 4) l₄ 0 (sliceVal (b₄, o₄) (length xs₄)))
+        ∷ ‵ (fat fullShare (ty 5) l₅ 0 (sliceVal (b₅, o₅) (length xs₅))) ∷ ‵ (fat fullShare (ty 6) l₆ 0 (sp))
+        ∷ ‵ (froom (ty 7) l₇ 0) ∷ ‵ (froom (ty 8) l₈ 0) ∷ ‵ (froom (ty 9) l₉ 0) ∷ ‵ (froom (ty 10) l₁₀ 0)
+        ∷ ‵ (froom (ty 11) l₁₁ 0) ∷ ‵ (froom (ty 12) l₁₂ 0) ∷ ‵ (froom (ty 13) l₁₃ 0) ∷ ‵ (froom (ty 14) l₁₄ 0)
+        ∷ ‵ (froom (ty 15) l₁₅ 0) ∷ ‵ (froom (ty 16) l₁₆ 0) ∷ ‵ (froom (ty 17) l₁₇ 0) ∷ ‵ (froom (ty 18) l₁₈ 0)
+        ∷ Dies
 
     beginning : ent 𝓤 (⋆ 𝓤 H A Ctx-entry) (Wp 𝓤 H C Λ En (code.function .body) (atReturn 𝓤 H En Post))
     beginning =
         qed W Ctx-entry ∵ exec ! C Λ En (code.function .body) (atRet En Post) $
-        assigns ! (of-opd ! (load ! (from ! (fld ! refl (stop !))) (look-in ! 6 (sub ! 1 refl (whole !))))) (from ! (stop !))
-        (init ! 9 refl (tt, record { fits = gn .0 })) $
+        assigns ! (of-opd ! (load ! (from ! (fld ! refl (stop !))) (look-in ! 7 (sub ! 1 refl (whole !))))) (from ! (stop !))
+        (init ! 10 refl (tt, record { fits = gn .0 })) $
         nothing ! $ use1 W (raw (Count 𝓤 H A at-mem run .pre to-count)) goes-count $
-        calls-at ! fm (Count 𝓤 H A at-mem run) k-count to-count (and-then ! (load ! (from ! (stop !)) (look ! 10 refl)) (no-more !)) (λ u.
+        calls-at ! fm (Count 𝓤 H A at-mem run) k-count to-count (and-then ! (load ! (from ! (stop !)) (look ! 11 refl)) (no-more !)) (λ u.
         use1 W (later (some (λ (r : ℕ).
         (‵ ftrue ⊛ ‵ (usize .own r (u ∷ []))) ⊛ raw
         (ensured 𝓤 H A count′.ended (count′.clauses 𝓤 H A at-mem run) tt (length ps, tt) tt r)))) (id⊢ 𝓤 _) $ await ! tt
@@ -410,80 +455,93 @@ module _ {M : Type 1} (𝓤 : URA M) (H : Heap 𝓤) (A : Atoms 𝓤) (W : Given
         split ! $ move ! (1 ∷ []) $ use1 W (raw (fact 𝓤 (r ≡ n))) (count-of 𝓤 H A at-mem run (length ps) r)
         $ heard ! (r ≡ n) (λ e. split ! $ drop ! $
         peeks ! usize (Is usize) (shows 𝓤 H A usize) r (u ∷ [])
-        (λ is. land ! (from ! (stop !)) (init ! 8 refl (uint-lawful 𝓤 H A W w64 .typed r _ is .0)) $
-        rewrite ! 8 (λ (v : Val). ‵ (fat fullShare (ty 6) l₆ 0 v)) (ap only (is .0) ∙ ap (λ (k : ℕ). vint w64 k) e) refl $ drop ! $
-        forget ! 9 refl $
-        use1 W ((‵ (flft κ₀ q₀) ⊛ (‵ (flft κ₁ q₁) ⊛ (‵ (flft κ₂ q₂) ⊛ (‵ (flft κ₃ q₃) ⊛ (‵ ftrue))))) ⊛ ‵
-        (owns (usize ∷ ShrSlice (named 0) κ₀ u16 ∷ MutSlice (named 1) κ₁ u16 ∷ MutSlice (named 2) κ₂ u8 ∷ MutSlice (named 3) κ₃ R ∷ [])
-        x at)) (id⊢ 𝓤 _) $ split ! $ split ! $ move ! (1 ∷ []) $ split ! $ move ! (1 ∷ []) $ split ! $ move ! (1 ∷ []) $ split ! $
-        move ! (5 ∷ []) $ fsplit ! $ drop ! $ fsplit !
+        (λ is. land ! (from ! (stop !)) (init ! 9 refl (uint-lawful 𝓤 H A W w64 .typed r _ is .0)) $
+        rewrite ! 9 (λ (v : Val). ‵ (fat fullShare (ty 7) l₇ 0 v)) (ap only (is .0) ∙ ap (λ (k : ℕ). vint w64 k) e) refl $ drop ! $
+        forget ! 10 refl $
+        use1 W ((‵ (flft κ₀ q₀) ⊛ (‵ (flft κ₁ q₁) ⊛ (‵ (flft κ₂ q₂) ⊛ (‵ (flft κ₃ q₃) ⊛ (‵ (flft κ₄ q₄) ⊛ (‵ ftrue)))))) ⊛ ‵
+        (owns (usize ∷ ShrSlice (named 0) κ₀ u16 ∷ MutSlice (named 1) κ₁ u16 ∷ MutSlice (named 2) κ₂ u8 ∷ MutSlice (named 3) κ₃ u16
+        ∷ MutSlice (named 4) κ₄ R ∷ []) x at)) (id⊢ 𝓤 _) $ split ! $ split ! $ move ! (1 ∷ []) $ split ! $ move ! (1 ∷ []) $ split !
+        $ move ! (1 ∷ []) $ split ! $ move ! (1 ∷ []) $ split ! $
+        move ! (6 ∷ []) $ fsplit ! $ drop ! $ fsplit !
         $ use1 W (‵ (ShrSlice (named 0) κ₀ u16 .own x₂ (sliceVal (b₂, o₂) (length xs₂) ∷ [])) ⊛ ‵
         (ShrSlice (named 0) κ₀ u16 .own x₂ (sliceVal (b₂, o₂) (length xs₂) ∷ [])))
         (shr-slice-copy 𝓤 H A W (named 0) κ₀ u16 .twice x₂ (sliceVal (b₂, o₂) (length xs₂) ∷ [])) $ split ! $ move ! (2 ∷ [])
-        $ fsplit ! $ move ! (1 ∷ []) $ fsplit ! $ move ! (1 ∷ []) $ fsplit ! $
-        keep ! (10 ∷ 9 ∷ 8 ∷ 6 ∷ 4 ∷ 3 ∷ 2 ∷ 5 ∷ 0 ∷ 11 ∷ 12 ∷ 13 ∷ 14 ∷ 15 ∷ 16 ∷ 17 ∷ 18 ∷ 19 ∷ 20 ∷ 21 ∷ 22 ∷ 23 ∷ 24 ∷ 25 ∷ 26 ∷ 27 ∷ 28
-        ∷ 29 ∷ 30 ∷ 31 ∷ 32 ∷ 33 ∷ 34 ∷ 35 ∷ 36 ∷ 37 ∷ 38 ∷ 39 ∷ 40 ∷ 41 ∷ 42 ∷ []) $ by ! stepping))))
+        $ fsplit ! $ move ! (1 ∷ []) $ fsplit ! $ move ! (1 ∷ []) $ fsplit ! $ move ! (1 ∷ []) $ fsplit ! $
+        keep ! (12 ∷ 11 ∷ 10 ∷ 9 ∷ 7 ∷ 5 ∷ 4 ∷ 3 ∷ 2 ∷ 6 ∷ 0 ∷ 13 ∷ 14 ∷ 15 ∷ 16 ∷ 17 ∷ 18 ∷ 19 ∷ 20 ∷ 21 ∷ 22 ∷ 23 ∷ 24 ∷ 25 ∷ 26 ∷ 27 ∷ 28
+        ∷ 29 ∷ 30 ∷ 31 ∷ 32 ∷ 33 ∷ 34 ∷ 35 ∷ 36 ∷ 37 ∷ 38 ∷ 39 ∷ 40 ∷ 41 ∷ 42 ∷ 43 ∷ 44 ∷ 45 ∷ 46 ∷ 47 ∷ 48 ∷ 49 ∷ 50 ∷ [])
+        $ by ! stepping))))
 
   walk : (C : Calls 𝓤 H) (Λ : Loops 𝓤 H) → FmC 𝓤 H (W .laws) C → Triple 𝓤 (C #count) (Count 𝓤 H A at-mem run)
       → Triple 𝓤 (C #core) (Core 𝓤 H A at-mem run) → Triple 𝓤 (C #cleared) (Cleared 𝓤 H A at-mem run)
       → Triple 𝓤 (C #clear) (Clear 𝓤 H A at-mem run)
-      → ent 𝓤 (onEntry 𝓤 H A public.signature (κ₀, (κ₁, (κ₂, (κ₃, tt)))) (q₀, (q₁, (q₂, (q₃, tt)))) x at)
+      → ent 𝓤 (onEntry 𝓤 H A public.signature (κ₀, (κ₁, (κ₂, (κ₃, (κ₄, tt))))) (q₀, (q₁, (q₂, (q₃, (q₄, tt))))) x at)
       (WpFn 𝓤 H C Λ code.function
-      (vint w64 a₁ ∷ sliceVal (b₂, o₂) (length xs₂) ∷ sliceVal (b₃, o₃) (length xs₃) ∷ sliceVal (b₄, o₄) (length xs₄) ∷ sp ∷ [])
-      Post)
+      (vint w64 a₁ ∷ sliceVal (b₂, o₂) (length xs₂) ∷ sliceVal (b₃, o₃) (length xs₃) ∷ sliceVal (b₄, o₄) (length xs₄)
+      ∷ sliceVal (b₅, o₅) (length xs₅) ∷ sp ∷ []) Post)
   walk C Λ fm k₁ k₂ k₃ k₄ =
-      qed W (raw (onEntry 𝓤 H A public.signature (κ₀, (κ₁, (κ₂, (κ₃, tt)))) (q₀, (q₁, (q₂, (q₃, tt)))) x at) ∷ []) ∵ enter ! C Λ
-      code.function (vint w64 a₁ ∷ sliceVal (b₂, o₂) (length xs₂) ∷ sliceVal (b₃, o₃) (length xs₃) ∷ sliceVal (b₄, o₄) (length xs₄) ∷ sp
-      ∷ []) _ $
+      qed W (raw (onEntry 𝓤 H A public.signature (κ₀, (κ₁, (κ₂, (κ₃, (κ₄, tt))))) (q₀, (q₁, (q₂, (q₃, (q₄, tt))))) x at) ∷ []) ∵ enter ! C Λ
+      code.function (vint w64 a₁ ∷ sliceVal (b₂, o₂) (length xs₂) ∷ sliceVal (b₃, o₃) (length xs₃) ∷ sliceVal (b₄, o₄) (length xs₄)
+      ∷ sliceVal (b₅, o₅) (length xs₅) ∷ sp ∷ []) _ $
       alloc1 ! (λ l₀. alloc1 !
       (λ l₁. alloc1 ! (λ l₂. alloc1 !
       (λ l₃. alloc1 ! (λ l₄. alloc1 !
       (λ l₅. alloc1 ! (λ l₆. alloc1 !
       (λ l₇. alloc1 ! (λ l₈. alloc1 !
       (λ l₉. alloc1 ! (λ l₁₀. alloc1 !
-      (λ l₁₁. alloc1 ! (λ l₁₂. alloc1 ! (λ l₁₃. alloc1 ! (λ l₁₄. alloc1 ! (λ l₁₅. alloc0 ! $ params1 ! $
-      pass1 ! (init ! 28 refl (tt, record { fits = g₁ })) $ pass1 ! (init ! 26 refl (tt, (tt, (record { fits = g₂ .0 }, tt))))
-      $ pass1 ! (init ! 24 refl (tt, (tt, (record { fits = g₃ .0 }, tt))))
-      $ pass1 ! (init ! 22 refl (tt, (tt, (record { fits = g₄ .0 }, tt))))
-      $ pass1 ! (init ! 20 refl (tt, (tt, (record { fits = gn .0 }, tt)))) $ pass0 ! $
-      keep ! (32 ∷ 30 ∷ 28 ∷ 26 ∷ 24 ∷ 22 ∷ 20 ∷ 18 ∷ 16 ∷ 14 ∷ 12 ∷ 10 ∷ 8 ∷ 6 ∷ 4 ∷ 2 ∷ 0 ∷ 31 ∷ 29 ∷ 27 ∷ 25 ∷ 23 ∷ 21 ∷ 19 ∷ 17 ∷ 15
-      ∷ 13 ∷ 11 ∷ 9 ∷ 7 ∷ 5 ∷ 3 ∷ 1 ∷ [])
-      $ by ! (beginning C Λ fm k₁ k₂ k₃ k₄ l₀ l₁ l₂ l₃ l₄ l₅ l₆ l₇ l₈ l₉ l₁₀ l₁₁ l₁₂ l₁₃ l₁₄ l₁₅)))))))))))))))))
+      (λ l₁₁. alloc1 ! (λ l₁₂.
+      alloc1 ! (λ l₁₃. alloc1 !
+      (λ l₁₄. alloc1 ! (λ l₁₅. alloc1 ! (λ l₁₆. alloc1 ! (λ l₁₇. alloc1 ! (λ l₁₈. alloc0 ! $ params1 ! $
+      pass1 ! (init ! 34 refl (tt, record { fits = g₁ })) $ pass1 ! (init ! 32 refl (tt, (tt, (record { fits = g₂ .0 }, tt))))
+      $ pass1 ! (init ! 30 refl (tt, (tt, (record { fits = g₃ .0 }, tt))))
+      $ pass1 ! (init ! 28 refl (tt, (tt, (record { fits = g₄ .0 }, tt))))
+      $ pass1 ! (init ! 26 refl (tt, (tt, (record { fits = g₅ .0 }, tt))))
+      $ pass1 ! (init ! 24 refl (tt, (tt, (record { fits = gn .0 }, tt)))) $ pass0 ! $
+      keep ! (38 ∷ 36 ∷ 34 ∷ 32 ∷ 30 ∷ 28 ∷ 26 ∷ 24 ∷ 22 ∷ 20 ∷ 18 ∷ 16 ∷ 14 ∷ 12 ∷ 10 ∷ 8 ∷ 6 ∷ 4 ∷ 2 ∷ 0 ∷ 37 ∷ 35 ∷ 33 ∷ 31 ∷ 29 ∷ 27
+      ∷ 25 ∷ 23 ∷ 21 ∷ 19 ∷ 17 ∷ 15 ∷ 13 ∷ 11 ∷ 9 ∷ 7 ∷ 5 ∷ 3 ∷ 1 ∷ [])
+      $ by ! (beginning C Λ fm k₁ k₂ k₃ k₄ l₀ l₁ l₂ l₃ l₄ l₅ l₆ l₇ l₈ l₉ l₁₀ l₁₁ l₁₂ l₁₃ l₁₄ l₁₅ l₁₆ l₁₇ l₁₈))))))))))))))))))))
 
 module _ {M : Type 1} (𝓤 : URA M) (H : Heap 𝓤) (A : Atoms 𝓤) (W : Given 𝓤 H A) (at-mem : Memory → SProp 𝓤) (run : Routine → Fun 𝓤)
     (𝓣 : Tables 𝓤 H) (k₁ : Triple 𝓤 (𝓣 .C #count) (Count 𝓤 H A at-mem run)) (k₂ : Triple 𝓤 (𝓣 .C #core) (Core 𝓤 H A at-mem run))
     (k₃ : Triple 𝓤 (𝓣 .C #cleared) (Cleared 𝓤 H A at-mem run)) (k₄ : Triple 𝓤 (𝓣 .C #clear) (Clear 𝓤 H A at-mem run)) where
   public-walks : Walks 𝓤 H A public.ended stayed (WpFn 𝓤 H (𝓣 .C) (𝓣 .Λ) code.function) (public.clauses 𝓤 H A at-mem run)
   public-walks = walked 𝓤 H A public.ended stayed (public.clauses 𝓤 H A at-mem run) (WpFn 𝓤 H (𝓣 .C) (𝓣 .Λ) code.function)
-      (λ κs. (uint-vals w64, (slice-vals, (slice-vals, (slice-vals, (slice-vals, tt))))))
+      (λ κs. (uint-vals w64, (slice-vals, (slice-vals, (slice-vals, (slice-vals, (slice-vals, tt)))))))
       (λ κs. (
         uint-tells w64,
         (
           shr-slice-tells (named 0) (κs .0) u16,
           (
             mut-slice-tells (named 1) (κs .1 .0) u16,
-            (mut-slice-tells (named 2) (κs .1 .1 .0) u8, (mut-slice-tells (named 3) (κs .1 .1 .1 .0) R, tt)),
+            (
+              mut-slice-tells (named 2) (κs .1 .1 .0) u8,
+              (mut-slice-tells (named 3) (κs .1 .1 .1 .0) u16, (mut-slice-tells (named 4) (κs .1 .1 .1 .1 .0) R, tt)),
+            ),
           ),
         ),
       ))
       (λ κs qs bounds a g are.
       via 𝓤 _ (fst∗ 𝓤 _ (emp 𝓤))
-      (walk 𝓤 H A W at-mem run (κs .0) (κs .1 .0) (κs .1 .1 .0) (κs .1 .1 .1 .0) (qs .0) (qs .1 .0) (qs .1 .1 .0) (qs .1 .1 .1 .0)
-      (a .0) (are .0 .1) (a .1 .0 .ptr .0) (a .1 .0 .ptr .1) (a .1 .0 .name) (a .1 .0 .now) (are .1 .0 .0 .1)
-      (a .1 .1 .0 .ptr .0) (a .1 .1 .0 .ptr .1) (a .1 .1 .0 .name) (a .1 .1 .0 .now) (are .1 .1 .0 .0 .1)
-      (a .1 .1 .1 .0 .ptr .0) (a .1 .1 .1 .0 .ptr .1) (a .1 .1 .1 .0 .name) (a .1 .1 .1 .0 .now) (are .1 .1 .1 .0 .0 .1)
-      (a .1 .1 .1 .1 .0 .ptr .0) (a .1 .1 .1 .1 .0 .ptr .1) (a .1 .1 .1 .1 .0 .name) (a .1 .1 .1 .1 .0 .now)
-      (are .1 .1 .1 .1 .0 .0 .1)
+      (walk 𝓤 H A W at-mem run (κs .0) (κs .1 .0) (κs .1 .1 .0) (κs .1 .1 .1 .0) (κs .1 .1 .1 .1 .0) (qs .0) (qs .1 .0)
+      (qs .1 .1 .0) (qs .1 .1 .1 .0) (qs .1 .1 .1 .1 .0) (a .0) (are .0 .1) (a .1 .0 .ptr .0) (a .1 .0 .ptr .1) (a .1 .0 .name)
+      (a .1 .0 .now) (are .1 .0 .0 .1) (a .1 .1 .0 .ptr .0) (a .1 .1 .0 .ptr .1) (a .1 .1 .0 .name) (a .1 .1 .0 .now)
+      (are .1 .1 .0 .0 .1) (a .1 .1 .1 .0 .ptr .0) (a .1 .1 .1 .0 .ptr .1) (a .1 .1 .1 .0 .name) (a .1 .1 .1 .0 .now)
+      (are .1 .1 .1 .0 .0 .1) (a .1 .1 .1 .1 .0 .ptr .0) (a .1 .1 .1 .1 .0 .ptr .1) (a .1 .1 .1 .1 .0 .name)
+      (a .1 .1 .1 .1 .0 .now) (are .1 .1 .1 .1 .0 .0 .1) (a .1 .1 .1 .1 .1 .0 .ptr .0)
+      (a .1 .1 .1 .1 .1 .0 .ptr .1) (a .1 .1 .1 .1 .1 .0 .name) (a .1 .1 .1 .1 .1 .0 .now)
+      (are .1 .1 .1 .1 .1 .0 .0 .1)
       (𝓣 .C) (𝓣 .Λ) (fmOf 𝓤 H (W .laws) 𝓣) k₁ k₂ k₃ k₄))
 
   public-meets : Meets 𝓤 H A public.signature (WpFn 𝓤 H (𝓣 .C) (𝓣 .Λ) code.function) (public.spec 𝓤 H A at-mem run)
   public-meets = walk-meets 𝓤 H A public.ended stayed W (
-    goes-none 𝓤 H A W 4 (λ _. usize) yes (λ κs x f. refl),
+    goes-none 𝓤 H A W 5 (λ _. usize) yes (λ κs x f. refl),
     (
-      goes-none-slice 𝓤 H A W 4 (0 ∷ []) tt (plain (λ _. u16)) yes,
+      goes-none-slice 𝓤 H A W 5 (0 ∷ []) tt (plain (λ _. u16)) yes,
       (
-        goes-gave-slice 𝓤 H A W 4 1 tt (plain (λ _. u16)),
-        (goes-gave-slice 𝓤 H A W 4 2 tt (plain (λ _. u8)), (goes-gave-slice 𝓤 H A W 4 3 tt (plain (λ _. R)), tt)),
+        goes-gave-slice 𝓤 H A W 5 1 tt (plain (λ _. u16)),
+        (
+          goes-gave-slice 𝓤 H A W 5 2 tt (plain (λ _. u8)),
+          (goes-gave-slice 𝓤 H A W 5 3 tt (plain (λ _. u16)), (goes-gave-slice 𝓤 H A W 5 4 tt (plain (λ _. R)), tt)),
+        ),
       ),
     ),
   )

@@ -16,11 +16,14 @@ use std::process::{Command, Stdio};
 const PACKS: &str = include_str!("../../../../reference/vectors/packs.txt");
 const MODELS: &str = include_str!("../../../../reference/vectors/models.txt");
 const MORE_MODELS: &str = include_str!("../../../definitions/models.txt");
+/// What stands in the order's file before; a refused model leaves it.
+const OLD_ORDER: &str = "what was there before\n";
 const NO_MODEL: &str = "no model: V and the vertex numbers are expected, decimal, with white space between\n";
 
-/// What the program writes for some bytes.
-fn written(program: &str, input: &[u8]) -> Vec<u8> {
-    let mut child = Command::new(program).stdin(Stdio::piped()).stdout(Stdio::piped()).spawn().expect("the program starts");
+/// What the program writes for some bytes, with some arguments.
+fn written(program: &str, args: &[&str], input: &[u8]) -> Vec<u8> {
+    let mut command = Command::new(program);
+    let mut child = command.args(args).stdin(Stdio::piped()).stdout(Stdio::piped()).spawn().expect("the program starts");
     let mut pipe = child.stdin.take().unwrap();
     let bytes = input.to_vec();
     // The program reads no more than it needs of an input that is too long.
@@ -32,7 +35,7 @@ fn written(program: &str, input: &[u8]) -> Vec<u8> {
 }
 
 fn printed(program: &str, input: &[u8]) -> String {
-    String::from_utf8(written(program, input)).expect("text")
+    String::from_utf8(written(program, &[], input)).expect("text")
 }
 
 /// What it prints with this standard input, and what it says on standard error.
@@ -54,6 +57,16 @@ fn unpacks(program: &str) -> usize {
     packs.len()
 }
 
+/// What the program writes to the file that `--order` names, and beside it; a file that held something before.
+fn ordered(program: &str, input: &[u8]) -> (Vec<u8>, String) {
+    let file = std::env::temp_dir().join(format!("order-{}", std::process::id()));
+    fs::write(&file, OLD_ORDER).expect("a file");
+    let out = written(program, &["--order", file.to_str().expect("a name")], input);
+    let order = fs::read_to_string(&file).expect("the order");
+    fs::remove_file(&file).expect("the file");
+    (out, order)
+}
+
 /// The program `pack` on models of all kinds, the paper's and both fans among them; and what `unpack` prints for its packs.
 fn packs(folder: &str) -> usize {
     let (pack, unpack) = (format!("{folder}/pack"), format!("{folder}/unpack"));
@@ -65,8 +78,11 @@ fn packs(folder: &str) -> usize {
     for text in &texts {
         let words: Vec<u64> = text.split_ascii_whitespace().filter_map(|w| w.parse().ok()).collect();
         let list: Vec<u16> = words[1..].iter().map(|&x| x as u16).collect();
-        let answer = written(&pack, text.replace(' ', if n % 2 == 0 { " " } else { "\n\t" }).as_bytes());
-        assert_eq!(answer, compare::written(words[0], &list), "model {text}");
+        let spaced = text.replace(' ', if n % 2 == 0 { " " } else { "\n\t" });
+        let answer = written(&pack, &[], spaced.as_bytes());
+        let (expected, order) = compare::written(words[0], &list);
+        assert_eq!(answer, expected, "model {text}");
+        assert_eq!(ordered(&pack, spaced.as_bytes()), (expected, order.unwrap_or(OLD_ORDER.into())), "model {text}");
         if !answer.starts_with(b"refused") {
             assert_eq!(printed(&unpack, &answer), compare::printed(&answer), "model {text}");
         }

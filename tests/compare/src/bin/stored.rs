@@ -72,7 +72,7 @@ fn main() {
     };
     let (input, output) = calls();
     store(Path::new(&folder), "build", input.as_bytes(), output.as_bytes());
-    let bytes = written(4, &M2);
+    let (bytes, _) = written(4, &M2);
     store(Path::new(&folder), "pack", b"4\n0 1 2\n1 0 3\n2 1 3\n0 2 3\n", &bytes);
     unpacks(Path::new(&folder), &bytes);
 }

@@ -9,19 +9,26 @@ cast-lowest-left : tie.Need-cast-lowest-left
 cast-lowest-left c = search needs
 
 lowest-left-requires : tie.Need-lowest-left-requires
-lowest-left-requires c κs = let a = c .before .before .before .before .before .args in
-    rest-lowest (a .list .now) (a .t) (a .built .now) (a .numbering .now) (a .m .now) (c .before .before .before .before .before .pre)
+lowest-left-requires c κs =
+    let s = c .before .before .before .before .before .before in
+    let a = s .args in
+    rest-lowest (a .list .now) (a .t) (a .built .now) (a .numbering .now) (a .m .now) (s .pre .0)
 
 returns : tie.Need-returns
-returns c = let a = c .before .before .before .before .before .before .before .args in
-    absurd (rest-never (a .list .now) (a .t) (a .built .now) (a .numbering .now) (a .m .now)
-    (c .before .before .before .before .before .before .before .pre) _ (c .before .lowest-left .ensures) (c .if1 .taken))
+returns c =
+    let s = c .before .before .before .before .before .before .before .before in
+    let a = s .args in
+    absurd (rest-never (a .list .now) (a .t) (a .built .now) (a .numbering .now) (a .m .now) (s .pre .0) _ (c .before .lowest-left .ensures)
+    (c .if1 .taken))
 
 start-at-requires : tie.Need-start-at-requires
-start-at-requires c κs = let a = c .before .before .before .before .before .before .before .before .before .before .args in
-    rest-starts (a .list .now) (a .t) (a .built .now) (a .numbering .now) (a .m .now)
-    (c .before .before .before .before .before .before .before .before .before .before .pre) _
-    (c .before .before .before .before .lowest-left .ensures) (c .before .before .before .if1 .left)
+start-at-requires c κs =
+    let s = c .before .before .before .before .before .before .before .before .before .before .before .before in
+    let a = s .args in (
+      rest-starts (a .list .now) (a .t) (a .built .now) (a .numbering .now) (a .m .now) (s .pre .0) _
+          (c .before .before .before .before .before .lowest-left .ensures) (c .before .before .before .before .if1 .left),
+      s .pre .1,
+    )
 
 same-length : tie.Need-same-length
 same-length c = search needs
@@ -29,8 +36,11 @@ same-length c = search needs
 same-length-2 : tie.Need-same-length-2
 same-length-2 c = search needs
 
+same-length-3 : tie.Need-same-length-3
+same-length-3 c = search needs
+
 returns-2 : tie.Need-returns-2
-returns-2 c = c .before .before .before .before .start-at .ensures
+returns-2 c = c .before .before .before .before .before .before .start-at .ensures
 
 pub begin-piece-spec : {M : Type 1} → statement M
 begin-piece-spec =
@@ -42,4 +52,5 @@ begin-piece-spec =
     start-at-requires
     same-length
     same-length-2
+    same-length-3
     returns-2)

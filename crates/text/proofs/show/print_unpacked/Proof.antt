@@ -30,11 +30,11 @@ returns-2 c = search needs
 print-counts-requires : tie.Need-print-counts-requires
 print-counts-requires c κs = search needs
 
-slice-aggregate-print-triangles : tie.Need-slice-aggregate-print-triangles
-slice-aggregate-print-triangles c = sym (length-take-le _ _ (search needs))
+slice-aggregate-print-rows : tie.Need-slice-aggregate-print-rows
+slice-aggregate-print-rows c = sym (length-take-le _ _ (search needs))
 
-print-triangles-requires : tie.Need-print-triangles-requires
-print-triangles-requires c κs = search needs
+print-rows-requires : tie.Need-print-rows-requires
+print-rows-requires c κs = search needs
 
 returns-3 : tie.Need-returns-3
 returns-3 c = search needs
@@ -51,6 +51,6 @@ print-unpacked-spec =
     mul-n
     returns-2
     print-counts-requires
-    slice-aggregate-print-triangles
-    print-triangles-requires
+    slice-aggregate-print-rows
+    print-rows-requires
     returns-3)

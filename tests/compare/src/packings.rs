@@ -1,0 +1,173 @@
+//! Packing compared with the second program: the answer and all four buffers afterwards.
+
+use crate::{count, met, models, records, used_places, Tally};
+use compare::expected::{self, LEVEL, LIMITS};
+use compare::kinds::{self, Kinds};
+use compare::{pack, unpack, Buffers};
+use cutborder::fast::Packer;
+use cutborder::gen::{self, Model};
+use cutborder::rng::Rng;
+use cutborder::{Place, Refusal};
+
+/// A flat model with a long rim or many of them, which full loops would hardly hold.
+fn filigree(rng: &mut Rng) -> Model {
+    let m = match rng.below(3) {
+        0 => Model::of(&gen::grid(rng.range(200, 1_000), 1, false, false, || true)),
+        1 => {
+            let w = rng.range(300, 1_000);
+            Model::of(&gen::grid(w, rng.range(1, (4_096 / (w + 1)).max(2) - 1), false, false, || true))
+        }
+        _ => {
+            let w = rng.range(30, 50);
+            let share = rng.range(5, 45);
+            let mut t = gen::grid(w, w, false, false, || true);
+            t.retain(|_| rng.below(100) >= share);
+            gen::fan_split(&t)
+        }
+    };
+    if rng.chance(1, 2) { gen::relist(rng, &m) } else { m }
+}
+
+/// Models of all kinds, good and bad, packed in buffers of all lengths: the answer and every buffer afterwards.
+pub fn random(rng: &mut Rng, rounds: usize, kinds: &mut Kinds) -> (usize, Tally) {
+    let mut tally = Tally::new();
+    let mut fast = Packer::new();
+    let known = models();
+    for m in &known {
+        packing(rng, m, &mut fast, &mut tally, kinds);
+    }
+    for i in 0..rounds {
+        let max_t = [6, 20, 60, 200, 600][rng.below(5)];
+        let m = match i {
+            0 => gen::fan(1_024),
+            1 => gen::fan(1_025),
+            _ if i % 400 == 2 => gen::limit(rng),
+            _ if i % 500 == 3 => gen::branches(rng, 101).unwrap_or_else(|| gen::sound(rng, max_t)),
+            _ if i % 100 == 4 => filigree(rng),
+            _ => match i % 6 {
+                0 => gen::model(rng, max_t),
+                1 => gen::damaged(rng, max_t),
+                2 => gen::pinched(rng, max_t),
+                _ => gen::sound(rng, max_t),
+            },
+        };
+        packing(rng, &m, &mut fast, &mut tally, kinds);
+    }
+    met(&tally, &[0, 1, 2, 3, 4, 5, 6, 7, 8, 9, 10, 11, 22]);
+    (rounds + known.len(), tally)
+}
+
+/// Buffers for a model that hold anything, mostly long enough, sometimes shorter or longer.
+fn buffers(rng: &mut Rng, m: &Model) -> Buffers {
+    let (v, t) = ((m.v as usize).min(5_000), m.list.len() / 3);
+    let long = expected::packed(m).map_or(20, |p| p.len());
+    let size = match rng.below(8) {
+        0 => rng.below(long + 1),
+        1 => long,
+        _ => long + rng.below(9),
+    };
+    let order = match rng.below(20) {
+        0 => 0,
+        1 => t.saturating_sub(1),
+        2 => rng.below(t + 1),
+        3 => t + rng.below(9_000),
+        _ => t + rng.below(3),
+    };
+    Buffers {
+        numbering: vec![7; if rng.chance(1, 20) { rng.below(v + 1) } else { v + rng.below(3) }],
+        pack: vec![5; size],
+        order: (0..order).map(|_| rng.next() as u16).collect(),
+        places: used_places(records(rng)),
+    }
+}
+
+/// One packing of a model by the service and by the second program: what both answer, and the buffers afterwards.
+fn alike(m: &Model, before: &Buffers) -> (Result<usize, Refusal>, Buffers) {
+    let (mut lent, mut expected) = (before.clone(), before.clone());
+    let answer = expected::pack(m.v, &m.list, expected.lend());
+    assert_eq!(pack(m.v as usize, &m.list, lent.lend()), answer, "model {}", m.line());
+    assert_eq!(lent.numbering, expected.numbering, "numbering of model {}", m.line());
+    assert_eq!(lent.pack, expected.pack, "pack of model {}", m.line());
+    assert_eq!(lent.order, expected.order, "order of model {}", m.line());
+    assert_eq!(lent.places, expected.places, "places after model {}", m.line());
+    (answer, lent)
+}
+
+/// The order of an accepted packing has each number below T once, and names the triangles that unpacking builds.
+fn ordered(m: &Model, size: usize, after: &Buffers) {
+    let order = &after.order[..m.list.len() / 3];
+    let mut sorted = order.to_vec();
+    sorted.sort_unstable();
+    assert!(sorted.iter().enumerate().all(|(i, &n)| usize::from(n) == i), "order {order:?} of model {}", m.line());
+    let (mut built, mut places) = (vec![0; m.list.len()], vec![Place::default(); 1_024]);
+    unpack(&after.pack[..size], &mut built, &mut places).expect("a pack");
+    for (&n, b) in order.iter().zip(built.chunks(3)) {
+        let [x, y, z] = [0, 1, 2].map(|i| after.numbering[usize::from(m.list[3 * usize::from(n) + i])]);
+        assert!([[x, y, z], [y, z, x], [z, x, y]].iter().any(|t| t == b), "triangle {n} is built as {b:?}, model {}", m.line());
+    }
+}
+
+/// One packing of a model, and the same by the second program's fast engine, which has no order buffer and no 22.
+fn packing(rng: &mut Rng, m: &Model, fast: &mut Packer, tally: &mut Tally, kinds: &mut Kinds) {
+    let before = buffers(rng, m);
+    let (answer, after) = alike(m, &before);
+    count(tally, &answer);
+    if let Ok(size) = answer {
+        ordered(m, size, &after);
+    }
+    if answer != Err(22) {
+        let mut lent = before;
+        let found = fast.pack_at(LEVEL, m.v, &m.list, &mut lent.numbering, &mut lent.places, &mut lent.pack);
+        assert_eq!(found, answer, "fast engine, model {}", m.line());
+        let same = lent.numbering == after.numbering && lent.pack == after.pack && lent.places == after.places;
+        assert!(same, "fast engine, buffers of model {}", m.line());
+    }
+    if matches!(answer, Ok(_) | Err(11)) {
+        let (ops, chosen) = expected::choose(m.v, &m.list, LIMITS).expect("a packing");
+        kinds::note_all(kinds, expected::begin(chosen.book.counts, m.list.len(), 1_024).expect("counts"), &ops);
+    }
+}
+
+/// Models that 7, 9, 10, 11 or nothing refuses, each with short and long buffers in every combination: the first refusal in the order
+/// 7, 8, 22, 9 to 11 is answered, and what is not past 22 changes nothing.
+pub fn faults_together(rng: &mut Rng) -> (usize, Tally) {
+    let mut tally = Tally::new();
+    let tetrahedron = Model { v: 4, list: vec![0, 1, 2, 1, 0, 3, 2, 1, 3, 0, 2, 3] };
+    let pinched = Model { v: 5, list: vec![0, 1, 2, 0, 3, 4] };
+    let branches = std::iter::repeat_with(|| gen::branches(rng, 101)).flatten().next().expect("branches");
+    for (m, own) in [(tetrahedron, 0), (pinched, 7), (gen::fan(1_025), 9), (branches, 10)] {
+        let t = m.list.len() / 3;
+        let each = (0..32).map(|i| ([1, 2, 4].map(|bit| i & bit != 0), [0, t - 1, t, t + 1][i / 8]));
+        each.for_each(|(short, order)| count(&mut tally, &fault(&m, own, short, order)));
+    }
+    met(&tally, &[0, 7, 8, 9, 10, 11, 22]);
+    (tally.values().sum(), tally)
+}
+
+/// A model that is refused by its own number, or by none, with too few numbering entries, place records or bytes, or none of these, and
+/// so many order entries.
+fn fault(m: &Model, own: Refusal, short: [bool; 3], order: usize) -> Result<usize, Refusal> {
+    let [few_numbers, few_records, few_bytes] = short;
+    let before = Buffers {
+        numbering: vec![7; m.v as usize - usize::from(few_numbers)],
+        pack: vec![5; if few_bytes { 13 } else { 4_000 }],
+        order: vec![9; order],
+        places: used_places(1_024 - usize::from(few_records)),
+    };
+    let (answer, after) = alike(m, &before);
+    let expected = match own {
+        7 => 7,
+        _ if few_numbers || few_records => 8,
+        _ if order < m.list.len() / 3 => 22,
+        0 if few_bytes => 11,
+        own => own,
+    };
+    assert_eq!(answer.err().unwrap_or(0), expected, "model {}", m.line());
+    assert!(!matches!(expected, 7 | 8 | 22) || unchanged(&before, &after), "{expected} changed a buffer, model {}", m.line());
+    answer
+}
+
+fn unchanged(before: &Buffers, after: &Buffers) -> bool {
+    let (b, a) = (before, after);
+    b.numbering == a.numbering && b.pack == a.pack && b.order == a.order && b.places == a.places
+}
