@@ -47,7 +47,7 @@ use Rattle.pack_theory.specs.Packing.Lent.{lent, packOn, IsResult, Packe
 use Rattle.pack_theory.specs.Packing.Order.{OrderLong, NotedFrom, Lists, ListsOf}
 use Rattle.pack_theory.proofs.Packing.Numbers.{entries-length, entries-none, entries-all}
 use Rattle.pack_theory.proofs.Packing.Flags.{unbuilt-all}
-use Rattle.pack_theory.proofs.Packing.Order.{from-past, from-first}
+use Rattle.pack_theory.proofs.Packing.Order.{sets-past, sets-first}
 use Rattle.pack_theory.proofs.Packing.Writing.{pack-length, pack-written}
 use Rattle.pack_theory.proofs.Packing.Stepping.{holds-beyond}
 use Rattle.counting.proofs.Bools.{and-true}
@@ -222,7 +222,7 @@ module _ (v : ℕ) (xs ns bs os : List ℕ) (a : check v xs ≡ C.Accepted) (n :
       answer = ap packed (sym long);
       numbering = h .numbers ∙ ap₂ (λ (l : List ℕ) (k : ℕ). l ++ drop k ns) numbers-are (sym (new-length v (s .numbered) numbers-are));
       bytes = pack-written ps bs bs′ at (bytesFor at - 14) counts w (leb-true (bytesFor at) (length bs′) q) refl;
-      order = o .written ∙ from-first (orderFor most (trianglesOf xs)) os (omega (arith, few, room));
+      order = o .written ∙ sets-first os (orderFor most (trianglesOf xs)) (omega (arith, few, room));
     }
 
     by : (b : Bool) → leb (bytesFor at) (length bs′) ≡ b
@@ -249,7 +249,7 @@ module _ (v : ℕ) (xs ns bs os : List ℕ) (a : check v xs ≡ C.Accepted) (n :
             meets-as _ _ _ _ _ _ (comes false z)
             (refused 11 ns′ bs′ os′ (holds-beyond v xs s t fs ns′ (drop v ns) m′ h) (w .lengths)
             (ap (drop (length (trianglesOf xs))) (o .written)
-            ∙ from-past (length (trianglesOf xs)) 0 (orderFor most (trianglesOf xs)) os (omega (arith, few))))
+            ∙ sets-past (length (trianglesOf xs)) os 0 (orderFor most (trianglesOf xs)) (omega (arith, few))))
 
   -- what the end of the run says
   ending : OrderLong xs os → (t₀ : Course) → t₀ .front .built ≡ 0 → (end : Ran) (budget : ℕ) (fs ns′ bs′ os′ m′ : List ℕ)

@@ -5,8 +5,8 @@ use native.Mathlib.Omega.{arith}
 use mathlib.Core.Bool.{true}
 use mathlib.Core.List.{List, [], _∷_, _++_, append-assoc, append-nil}
 use mathlib.Core.Path.{_≡_, refl, sym, ap, _∙_, subst}
-use lib.ListN.{length, set, drop, length-set, length-append}
-use lib.Seq.{set-append-seam}
+use lib.ListN.{length, set, drop, length-append}
+use lib.Seq.{sets, sets-eq}
 use Rattle.rules.specs.declared.Operation.{Operation}
 use Rattle.rules.specs.Triangle.{trianglesOf}
 use Rattle.rules.specs.Buffer.{over}
@@ -19,18 +19,17 @@ use Rattle.cutborder.specs.declared.Ran.{Ran}
 use Rattle.cutborder.specs.declared.Ran.the-variants as R
 use Rattle.border_theory.specs.Memory.Finish.{isComplete}
 use Rattle.pack_theory.specs.Packing.Course.{Holds}
-use Rattle.pack_theory.specs.Packing.Order.{OrderLong, writtenFrom, NotedFrom, Notes, NotesOf, Lists, ListsOf}
+use Rattle.pack_theory.specs.Packing.Order.{OrderLong, NotedFrom, Notes, NotesOf, Lists, ListsOf}
 use Rattle.pack_theory.specs.Packing.Steps.{StepsTo, Steps, StepOf}
 use Rattle.pack_theory.proofs.Packing.Running.{done-ended}
 
 -- ---- numbers written from an entry on
 
-from-append : (k : ℕ) (ps qs os : List ℕ) → writtenFrom (k + length ps) qs (writtenFrom k ps os) ≡ writtenFrom k (ps ++ qs) os
-unfolding writtenFrom
-from-append k [] qs os = let e : k + 0 ≡ k = omega arith in ap (λ (i : ℕ). writtenFrom i qs os) e
-from-append k (p ∷ ps) qs os =
-    let e : k + suc (length ps) ≡ k + 1 + length ps = omega arith in
-    ap (λ (i : ℕ). writtenFrom i qs (writtenFrom (k + 1) ps (set os k p))) e ∙ from-append (k + 1) ps qs (set os k p)
+sets-append : (os : List ℕ) (k : ℕ) (ps qs : List ℕ) → sets (sets os k ps) (k + length ps) qs ≡ sets os k (ps ++ qs)
+sets-append os k [] qs = let e : k + 0 ≡ k = omega arith in ap (λ (i : ℕ). sets os i qs) e
+sets-append os k (p ∷ ps) qs =
+    let e : k + suc (length ps) ≡ suc k + length ps = omega arith in
+    ap (λ (i : ℕ). sets (sets (set os k p) (suc k) ps) i qs) e ∙ sets-append (set os k p) (suc k) ps qs
 
 drop-set : (n k x : ℕ) (os : List ℕ) → k < n → drop n (set os k x) ≡ drop n os
 drop-set n k x [] h = refl
@@ -39,31 +38,15 @@ drop-set (suc n) zero x (o ∷ os) h = refl
 drop-set (suc n) (suc k) x (o ∷ os) h = drop-set n k x os (omega arith)
 
 -- past them nothing has changed
-pub from-past : (n k : ℕ) (qs os : List ℕ) → k + length qs ≤ n → drop n (writtenFrom k qs os) ≡ drop n os
-unfolding writtenFrom
-from-past n k [] os h = refl
-from-past n k (q ∷ qs) os h = from-past n (k + 1) qs (set os k q) (omega arith) ∙ drop-set n k q os (omega arith)
-
-pub from-length : (k : ℕ) (qs os : List ℕ) → length (writtenFrom k qs os) ≡ length os
-unfolding writtenFrom
-from-length k [] os = refl
-from-length k (q ∷ qs) os = from-length (k + 1) qs (set os k q) ∙ length-set os k q
-
-from-seam : (front qs os : List ℕ) → length qs ≤ length os
-    → writtenFrom (length front) qs (front ++ os) ≡ front ++ (qs ++ drop (length qs) os)
-unfolding writtenFrom
-from-seam front [] os h = refl
-from-seam front (q ∷ qs) [] h = absurd (omega arith)
-from-seam front (q ∷ qs) (o ∷ os) h =
-    let more = front ++ (q ∷ []) in
-    let e : length front + 1 ≡ length more = omega (arith, length-append front (q ∷ [])) in
-    ap (writtenFrom (length front + 1) qs) (set-append-seam front o os q ∙ sym (append-assoc front (q ∷ []) os))
-    ∙ ap (λ (i : ℕ). writtenFrom i qs (more ++ os)) e ∙ from-seam more qs os (omega arith)
-    ∙ append-assoc front (q ∷ []) (qs ++ drop (length qs) os)
+pub sets-past : (n : ℕ) (os : List ℕ) (k : ℕ) (qs : List ℕ) → k + length qs ≤ n → drop n (sets os k qs) ≡ drop n os
+sets-past n os k [] h = refl
+sets-past n os k (q ∷ qs) h = sets-past n (set os k q) (suc k) qs (omega arith) ∙ drop-set n k q os (omega arith)
 
 -- from the first entry on
-pub from-first : (qs os : List ℕ) → length qs ≤ length os → writtenFrom 0 qs os ≡ over qs os
-from-first qs os h = from-seam [] qs os h
+pub sets-first : (os qs : List ℕ) → length qs ≤ length os → sets os 0 qs ≡ over qs os
+sets-first os qs h =
+    let e : 0 + length qs ≡ length qs = omega arith in
+    sets-eq qs os 0 (omega (arith, h)) ∙ ap (λ (i : ℕ). qs ++ drop i os) e
 
 -- ---- the numbers of a run
 
@@ -102,7 +85,6 @@ pub record OrderLoop (xs : List ℕ) (budget : ℕ) (t₀ : Course) (fs₀ ns₀
 
 module _ (xs : List ℕ) (budget : ℕ) (t₀ : Course) (fs₀ ns₀ m₀ os₀ : List ℕ) where
   pub order-first : OrderLong xs os₀ → OrderLoop xs budget t₀ fs₀ ns₀ m₀ os₀ budget t₀ fs₀ ns₀ m₀ os₀
-  unfolding writtenFrom
   order-first h = record {
     listed = λ v s rest g. record {
       packing = s;
@@ -137,7 +119,7 @@ module _ (xs : List ℕ) (budget : ℕ) (t₀ : Course) (fs₀ ns₀ m₀ os₀ 
     still v s rest g =
         let c = l .listed v s rest g in
         ap (drop (length (trianglesOf xs))) (c .noted .written)
-        ∙ from-past (length (trianglesOf xs)) (t₀ .front .built) (c .so-far) os₀ (omega (arith, c .noted .count, c .holds .count))
+        ∙ sets-past (length (trianglesOf xs)) os₀ (t₀ .front .built) (c .so-far) (omega (arith, c .noted .count, c .holds .count))
 
     module _ (r : Taken) (fs′ ns′ m′ os′ : List ℕ) (step : StepOf xs t fs ns m r fs′ ns′ m′) (notes : NotesOf xs t fs ns m r os os′) where
       pub order-stopped : (k : ℕ) → r ≡ T.Refused k → (e : Ran) → e ≡ R.Refused k → ListsOf xs budget t₀ fs₀ ns₀ m₀ e os₀ os′
@@ -167,9 +149,9 @@ module _ (xs : List ℕ) (budget : ℕ) (t₀ : Course) (fs₀ ns₀ m₀ os₀ 
               noted =
                   record {
                     written =
-                        n .written ∙ ap (λ (i : ℕ). writtenFrom i next os) (c .noted .count)
-                        ∙ ap (writtenFrom (t₀ .front .built + length (c .so-far)) next) (c .noted .written)
-                        ∙ from-append (t₀ .front .built) (c .so-far) next os₀;
+                        n .written ∙ ap (λ (i : ℕ). sets os i next) (c .noted .count)
+                        ∙ ap (λ (l : List ℕ). sets l (t₀ .front .built + length (c .so-far)) next) (c .noted .written)
+                        ∙ sets-append os₀ (t₀ .front .built) (c .so-far) next;
                     count = omega (arith, n .count, c .noted .count, length-append (c .so-far) next);
                   };
             }

@@ -6,7 +6,7 @@ use mathlib.Core.Bool.{Bool, true, false, false≢true}
 use mathlib.Core.List.{List, [], _∷_}
 use mathlib.Core.Path.{_≡_, refl, sym, ap, _∙_, subst}
 use lib.ListN.{length, getD, set, drop}
-use lib.Seq.{drop-at}
+use lib.Seq.{drop-at, sets}
 use lib.Dec.{eqb, leb}
 use borrow.Author.Tests.{leb-true, leb-false, eq-eqb}
 use Rattle.rules.specs.declared.Operation.{Operation}
@@ -29,7 +29,7 @@ use Rattle.cutborder.specs.declared.Taken.the-variants as T
 use Rattle.pack_theory.specs.Packing.Numbers.{entries}
 use Rattle.pack_theory.specs.Packing.Doing.{readied, doneOf, memoryOf}
 use Rattle.pack_theory.specs.Packing.Course.{Holds, Held, moveOf, flagsOf, givenBy, numbersBy, renamed, numberedThree, Chooses}
-use Rattle.pack_theory.specs.Packing.Order.{OrderLong, writtenFrom, orderOf, Notable, Notes, NotesOf}
+use Rattle.pack_theory.specs.Packing.Order.{OrderLong, orderOf, Notable, Notes, NotesOf}
 use Rattle.pack_theory.specs.Packing.Steps.{StepsTo, Beyond, Steps, StepOf, Alive, Resting, Lowest, Starts, Renames}
 use Rattle.border_theory.specs.Memory.Finish.{isComplete}
 use Rattle.pack_theory.proofs.Packing.Numbers.{entries-length}
@@ -37,7 +37,7 @@ use Rattle.pack_theory.proofs.Packing.Doing.{standing-ready}
 use Rattle.pack_theory.proofs.Packing.Live.{Lives, numbers-few, live-concludes, live-next}
 use Rattle.pack_theory.proofs.Packing.Choosing.{numbers-long, move-below, chooses}
 use Rattle.pack_theory.proofs.Packing.Starting.{Begins, start-none, start-next, start-begins}
-use Rattle.pack_theory.proofs.Packing.Order.{from-past}
+use Rattle.pack_theory.proofs.Packing.Order.{sets-past}
 
 -- the buffer's entries past the first v
 pub holds-beyond : (v : ℕ) (xs : List ℕ) (s : Packing) (t : Course) (fs ns rest m : List ℕ) → Holds v xs s t fs ns rest m → Beyond v ns rest
@@ -133,10 +133,10 @@ module _ (xs cs : List ℕ) (t : Course) (fs ns m : List ℕ) (a : Alive xs cs t
 
   module _ (os′ : List ℕ) (eo : os′ ≡ orderOf xs os (t .front .built) m (t .front .loops)) where
     entries-of : (v : ℕ) (s : Packing) (rest : List ℕ) → Holds v xs s t fs ns rest m
-        → os′ ≡ writtenFrom (t .front .built) (nextNumber s) os
+        → os′ ≡ sets os (t .front .built) (nextNumber s)
     unfolding orderOf
     entries-of v s rest h =
-        eo ∙ ap (λ (qs : List ℕ). writtenFrom (t .front .built) qs os) (sym (live-next v xs s t fs ns rest m h (a .live) .0))
+        eo ∙ ap (sets os (t .front .built)) (sym (live-next v xs s t fs ns rest m h (a .live) .0))
 
     pub alive-notes-refused : (d : Done) (k : ℕ) → d ≡ Refused k → (r : Taken) → ((j : ℕ) → d ≡ Refused j → r ≡ T.Refused j)
         → NotesOf xs t fs ns m r os os′
@@ -144,7 +144,7 @@ module _ (xs cs : List ℕ) (t : Course) (fs ns m : List ℕ) (a : Alive xs cs t
         let l = live-next v xs s t fs ns rest m h (a .live) .1 in
         subst (λ (w : Taken). Notes (length (trianglesOf xs)) s t w os os′) (sym (f k q))
         (ap (drop (length (trianglesOf xs))) (entries-of v s rest h)
-        ∙ from-past (length (trianglesOf xs)) (t .front .built) (nextNumber s) os (omega (arith, l, h .count)))
+        ∙ sets-past (length (trianglesOf xs)) os (t .front .built) (nextNumber s) (omega (arith, l, h .count)))
 
     pub alive-notes : (o : Operation) (t′ : Course) (fs′ ns′ m′ : List ℕ) → fs′ ≡ flagsOf xs fs m (t .front .loops)
         → StepOf xs t fs ns m (T.Going o t′) fs′ ns′ m′ → NotesOf xs t fs ns m (T.Going o t′) os os′
@@ -284,12 +284,11 @@ module _ (xs : List ℕ) (t : Course) (k : ℕ) (fs ns m : List ℕ) (a : Starts
 
   pub start-notes : (o : Operation) (t′ : Course) (ns′ m′ : List ℕ) → StepOf xs t fs ns m (T.Going o t′) (set fs k 1) ns′ m′
       → NotesOf xs t fs ns m (T.Going o t′) os (set os (t .front .built) k)
-  unfolding writtenFrom
   start-notes o t′ ns′ m′ step v s rest h =
       let w = step v s rest h in
       let n = next v s rest h in
       record {
-        written = sym (ap (λ (qs : List ℕ). writtenFrom (t .front .built) qs os) (n .0));
+        written = sym (ap (sets os (t .front .built)) (n .0));
         count = omega (arith, n .1, ap length (n .0), h .count, w .holds .count, ap length (w .holds .left));
       }
 

@@ -6,6 +6,7 @@ use mathlib.Core.Bool.{Bool, true, false, not}
 use mathlib.Core.List.{List}
 use mathlib.Core.Path.{_≡_, refl, sym, ap, ap₂, _∙_, subst}
 use lib.ListN.{length, set}
+use lib.Seq.{sets}
 use lib.Dec.{eqb}
 use borrow.Author.Tests.{eq-eqb, ne-eqb, le-leb, lt-leb, eqb-true, eqb-false, not-true, not-false}
 use Rattle.rules.specs.declared.Across.{Across}
@@ -48,7 +49,7 @@ use Rattle.pack_theory.specs.Packing.Numbers.{unnumbered}
 use Rattle.pack_theory.specs.Packing.Doing.{refusalAt, doneBy, memoryBy, doneOf, memoryOf}
 use Rattle.pack_theory.specs.Packing.Course.{startOf, endOf, isNumbered, placedBy, flagsBy, moveBy, moveOf, flagsOf, givenBy}
 use Rattle.pack_theory.specs.Packing.Course.{numbersBy, renamed, Chooses}
-use Rattle.pack_theory.specs.Packing.Order.{writtenFrom, orderOf, Notable}
+use Rattle.pack_theory.specs.Packing.Order.{orderOf, Notable}
 use Rattle.pack_theory.specs.Packing.Steps.{Lowest, Renames}
 use Rattle.pack_theory.specs.Packing.Finish.{countsAt, fitsBuffer, answerIf, finishAnswer, numbersIf, finishNumbers, packIf}
 use Rattle.pack_theory.specs.Packing.Finish.{finishPack, Sized}
@@ -101,15 +102,15 @@ module _ (xs cs fs ns m : List ℕ) (l : Loops) (h : Chooses xs cs fs ns m l) (f
 
   -- the order's entry k
   pub noted-none : (os : List ℕ) (k : ℕ) → r ≡ Nothing → os ≡ orderOf xs os k m l
-  unfolding orderOf writtenFrom
-  noted-none os k q = ap (λ (x : Across). writtenFrom k (numberFound x) os) (sym q ∙ across-is)
+  unfolding orderOf
+  noted-none os k q = ap (λ (x : Across). sets os k (numberFound x)) (sym q ∙ across-is)
 
   pub noted-entry : (os : List ℕ) (k : ℕ) → Notable xs os k m l → (n j c : ℕ) → r ≡ Found n j c → k < length os
   noted-entry os k w n j c q = w n j c (sym across-is ∙ q)
 
   pub noted-found : (os : List ℕ) (k n j c : ℕ) → r ≡ Found n j c → set os k n ≡ orderOf xs os k m l
-  unfolding orderOf writtenFrom
-  noted-found os k n j c q = ap (λ (x : Across). writtenFrom k (numberFound x) os) (sym q ∙ across-is)
+  unfolding orderOf
+  noted-found os k n j c q = ap (λ (x : Across). sets os k (numberFound x)) (sym q ∙ across-is)
 
   pub chosen-found : (n k c : ℕ) → r ≡ Found n k c → (mv : Move) → mv ≡ placedBy (isNumbered ns c) xs (set fs n 1) m l a b c
       → (mv ≡ moveOf xs fs ns m l) × (set fs n 1 ≡ flagsOf xs fs m l)

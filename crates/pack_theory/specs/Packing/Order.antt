@@ -1,9 +1,10 @@
 -- The order buffer while a packing is under way: for each triangle built so far, in building order, its number in the list.
 -- Assumes nothing.
 use Prim.Native.Nat.{ℕ, _+_, _≤_, _<_}
-use mathlib.Core.List.{List, [], _∷_}
+use mathlib.Core.List.{List}
 use mathlib.Core.Path.{_≡_}
-use lib.ListN.{length, set, drop}
+use lib.ListN.{length, drop}
+use lib.Seq.{sets}
 use Rattle.rules.specs.declared.Across.the-variants.{Found}
 use Rattle.rules.specs.Triangle.{trianglesOf}
 use Rattle.rules.specs.Across.{across}
@@ -21,14 +22,9 @@ use Rattle.pack_theory.specs.Packing.Course.{Holds, startOf, endOf}
 abbrev pub OrderLong : List ℕ → List ℕ → Type 0
 OrderLong xs os = length (trianglesOf xs) ≤ length os
 
--- numbers written from entry k on
-unfoldable pub writtenFrom : ℕ → List ℕ → List ℕ → List ℕ
-writtenFrom k [] os = os
-writtenFrom k (q ∷ qs) os = writtenFrom (k + 1) qs (set os k q)
-
 -- the triangle across the current edge, if there is one, is noted at entry k
 unfoldable pub orderOf : List ℕ → List ℕ → ℕ → List ℕ → Loops → List ℕ
-orderOf xs os k m l = writtenFrom k (numberFound (across (endOf l m) (startOf l m) (trianglesOf xs))) os
+orderOf xs os k m l = sets os k (numberFound (across (endOf l m) (startOf l m) (trianglesOf xs)))
 
 -- that entry is there, if it is needed
 abbrev pub Notable : List ℕ → List ℕ → ℕ → List ℕ → Loops → Type 0
@@ -36,7 +32,7 @@ Notable xs os k m l = (n j c : ℕ) → across (endOf l m) (startOf l m) (triang
 
 -- os′ is os with the numbers qs after the first k entries; that makes n of them
 pub record NotedFrom (k : ℕ) (qs : List ℕ) (n : ℕ) (os os′ : List ℕ) : Type 0 where
-  pub written : os′ ≡ writtenFrom k qs os
+  pub written : os′ ≡ sets os k qs
   pub count : n ≡ k + length qs
 
 -- what a step of the packing s of n triangles does to it; a refused one leaves what is past the first n entries
