@@ -9,7 +9,7 @@ use cutborder::proto;
 use cutborder::rng::Rng;
 use cutborder::{Answer, Level, Place, Refusal};
 
-/// The loops are those of C-14, and packing fills the order buffer of C-11.
+/// The loops are those of C-14, and packing fills the order buffer of C-11; C-12 changes no answer of a call.
 pub const LEVEL: Level = Level(14);
 
 /// The fields are those of the base: field 03 of C-13 has not landed.
@@ -58,6 +58,18 @@ pub fn random_pack(rng: &mut Rng, max_t: usize) -> Vec<u8> {
 /// A random list of building calls; the first is an accepted beginning.
 pub fn random_calls(rng: &mut Rng, max_t: usize) -> Vec<String> {
     gen::calls_at(LEVEL, rng, max_t)
+}
+
+/// A random list of t triangles with the numbers below v, 3 or more, that passes 4; an edge may be in several triangles.
+pub fn loose_list(rng: &mut Rng, v: usize, t: usize) -> Vec<u16> {
+    let mut list = Vec::with_capacity(3 * t);
+    while list.len() < 3 * t {
+        let [p, q, r] = [0; 3].map(|_| rng.below(v) as u16);
+        if p != q && q != r && r != p {
+            list.extend([p, q, r]);
+        }
+    }
+    list
 }
 
 /// Building calls in the second program's words, answered by the book.

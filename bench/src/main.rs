@@ -1,6 +1,9 @@
-//! Speed of the service as a ratio to the second program's fast engine, both in one run. `service-bench [REPEATS] [building]`
+//! Speed of the service as a ratio to the second program's fast engine, both in one run. `service-bench [REPEATS] [building|search]`
 //!
-//! Nanoseconds a triangle, the median over many calls; buffers are reused and not cleared between calls. Then the building calls.
+//! Nanoseconds a triangle, the median over many calls; buffers are reused and not cleared between calls. Then the building calls, and the
+//! search for the triangle with an edge.
+
+mod searching;
 
 use compare::expected::{self, LEVEL, LIMITS};
 use compare::Buffers;
@@ -13,17 +16,27 @@ use cutborder::{Level, Place};
 use std::hint::black_box;
 use std::time::Instant;
 
+/// A model with a handle, one without handles and rims, one with a rim, and one with a vertex that is in all triangles.
+fn grown() -> [(&'static str, Model); 4] {
+    [
+        ("torus", Model::of(&gen::grid(64, 64, true, true, || true))),
+        ("sphere", Model::of(&gen::icosphere(20))),
+        ("disc", Model::of(&gen::grid(63, 63, false, false, || true))),
+        ("fan", gen::fan(1024)),
+    ]
+}
+
 fn models() -> Vec<(String, Model)> {
-    let mut out: Vec<(String, Model)> = vec![
-        ("torus".into(), Model::of(&gen::grid(64, 64, true, true, || true))),
-        ("sphere".into(), Model::of(&gen::icosphere(20))),
-        ("disc".into(), Model::of(&gen::grid(63, 63, false, false, || true))),
-        ("fan".into(), gen::fan(1024)),
-    ];
+    let mut out: Vec<(String, Model)> = grown().map(|(name, m)| (name.into(), m)).into();
     let mut rng = Rng::new(42);
-    for i in 0..4 {
-        let m = gen::relist(&mut rng, &out[i].1);
-        out.push((format!("{} shuffled", out[i].0), m));
+    for (name, m) in grown() {
+        out.push((format!("{name} shuffled"), gen::relist(&mut rng, &m)));
+    }
+    // As the exporters list them, and the other way round.
+    for (name, m) in grown() {
+        let built = searching::as_built(&m);
+        out.push((format!("{name} backwards"), searching::backwards(&built)));
+        out.push((format!("{name} built"), built));
     }
     // Whether the cost is linear.
     for n in [8, 16, 32] {
@@ -86,9 +99,10 @@ fn medians(repeats: usize, mut ours: impl FnMut(), mut theirs: impl FnMut()) -> 
 
 fn main() {
     let repeats = std::env::args().nth(1).and_then(|a| a.parse().ok()).unwrap_or(500);
-    if std::env::args().nth(2).as_deref() == Some("building") {
-        buildings(repeats);
-        return;
+    match std::env::args().nth(2).as_deref() {
+        Some("building") => return buildings(repeats),
+        Some("search") => return searching::searches(repeats),
+        _ => {}
     }
     println!("nanoseconds a triangle, median of {repeats} calls, ours and the second program's fast engine, and their ratio");
     println!("check: refusals 1 to 7 here, linking with 1 to 6 there");
@@ -116,6 +130,8 @@ fn main() {
     }
     println!();
     buildings(repeats);
+    println!();
+    searching::searches(repeats);
 }
 
 /// Building calls: nanoseconds of a beginning, of an operation in the mean over a model's, and of the finish; of each call the least

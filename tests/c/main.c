@@ -1,5 +1,6 @@
-/* The six calls from C: M2 of the paper checked, packed, unpacked and built, and calls that are refused. */
+/* The calls from C: M2 of the paper checked, packed, unpacked and built, a list searched, and calls that are refused. */
 #include "../../include/cutborder.h"
+#include "../../include/cutborder_search.h"
 #include <stdio.h>
 #include <string.h>
 
@@ -78,9 +79,26 @@ static void builds(void) {
     EXPECT(totals[0] == 6 && totals[1] == 0 && totals[2] == 0 && euler == 2);
 }
 
+/* A list that 5 refuses, 5 to 6 being in three triangles, the last of which is triangle 2. */
+static void searches(void) {
+    static const uint16_t thrice[12] = {5, 6, 7, 10, 5, 6, 6, 9, 5, 6, 5, 8};
+    static uint16_t links[CUTBORDER_LINKS];
+    uint16_t found[3] = {7, 7, 7};
+    EXPECT(cutborder_check(11, thrice, 12) == 5);
+    memset(links, 0xaa, sizeof links);
+    /* Links of no list: any answer, and nothing else is touched. */
+    EXPECT(cutborder_search(thrice, 12, links, 5, 6, found) <= 1 && links[0] == 0xaaaa);
+    EXPECT(cutborder_link(10, thrice, 12, links) == 3 && links[0] == 0xaaaa && links[CUTBORDER_LINKS - 1] == 0xaaaa);
+    EXPECT(cutborder_link(11, thrice, 12, links) == 0);
+    EXPECT(cutborder_search(thrice, 12, links, 6, 7, found) == 1 && found[0] == 0 && found[1] == 0 && found[2] == 5);
+    EXPECT(cutborder_search(thrice, 12, links, 5, 6, found) == 1 && found[0] == 2 && found[1] == 1 && found[2] == 9);
+    EXPECT(cutborder_search(thrice, 12, links, 7, 6, found) == 0 && found[0] == 2 && found[1] == 1 && found[2] == 9);
+}
+
 int main(void) {
     EXPECT(sizeof(struct cutborder_place) == 8 && sizeof(struct cutborder_builder) == 426);
     packs();
     builds();
+    searches();
     return wrong != 0;
 }

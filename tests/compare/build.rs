@@ -1,8 +1,10 @@
-//! Links the service's static library, which `rt staticlib capi` writes.
+//! Links the static libraries that `rt staticlib capi` and `rt staticlib search` write.
 
 fn main() {
     let top = concat!(env!("CARGO_MANIFEST_DIR"), "/../../target/staticlib");
     println!("cargo:rustc-link-search=native={top}");
-    println!("cargo:rustc-link-lib=static=capi");
-    println!("cargo:rerun-if-changed={top}/libcapi.a");
+    for library in ["capi", "search"] {
+        println!("cargo:rustc-link-lib=static={library}");
+        println!("cargo:rerun-if-changed={top}/lib{library}.a");
+    }
 }

@@ -16,7 +16,7 @@ ghost use Rattle.rules.specs.Triangle.{tri, distinct, trianglesOf, corners};
 ghost use Rattle.rules.specs.Check.{allBelow, allDistinct, allUsed, checks};
 ghost use Rattle.rules.specs.Answer.{checkedAnswer};
 ghost use Rattle.mesh_theory.specs.Chains.Linked.{Chains, Sound, Linked};
-ghost use Rattle.mesh_theory.specs.Chains.Checks.{fitsSize, checkChains, Answers};
+ghost use Rattle.mesh_theory.specs.Chains.Checks.{fitsSize, checkNumbers, checkChains, Answers};
 
 // 6: each vertex below v is in a triangle.
 fn all_used(chains: &Links, v: usize) -> bool
@@ -121,11 +121,9 @@ fn check_chains(v: usize, list: &[u16], chains: &mut Links) -> Checked
     Checked::Accepted
 }
 
-// The first refusal of 1 to 7 that the list meets, for a model of v vertices, or its acceptance. Chains that held no
-// triangle then hold those of an accepted list.
-pub fn check_into(v: usize, list: &[u16], chains: &mut Links) -> Checked
-    requires { ⌜ Chains (now list) 0 (now chains) ⌝ }
-    ensures { λ r. ⌜ Answers (Rattle.rules.specs.Check.check v (now (list .entry))) (now (list .entry)) r (now (chains .exit)) ⌝ }
+// The first refusal of 1 to 4 that the list meets, for a model of v vertices, or that it passes them.
+pub fn check_numbers(v: usize, list: &[u16]) -> Checked
+    ensures { λ r. ⌜ r ≡ checkNumbers v (now (list .entry)) ⌝ }
 {
     if !is_list_size(list.len()) {
         return Checked::Refused(1);
@@ -139,7 +137,20 @@ pub fn check_into(v: usize, list: &[u16], chains: &mut Links) -> Checked
     if !all_distinct(list) {
         return Checked::Refused(4);
     }
-    check_chains(v, list, chains)
+    Checked::Accepted
+}
+
+// The first refusal of 1 to 7 that the list meets, for a model of v vertices, or its acceptance. Chains that held no
+// triangle then hold those of an accepted list.
+pub fn check_into(v: usize, list: &[u16], chains: &mut Links) -> Checked
+    requires { ⌜ Chains (now list) 0 (now chains) ⌝ }
+    ensures { λ r. ⌜ Answers (Rattle.rules.specs.Check.check v (now (list .entry))) (now (list .entry)) r (now (chains .exit)) ⌝ }
+{
+    let first = check_numbers(v, list);
+    match first {
+        Checked::Refused(n) => Checked::Refused(n),
+        Checked::Accepted => check_chains(v, list, chains),
+    }
 }
 
 // The same without the chains.

@@ -10,5 +10,6 @@ pub mod Once
 pub mod OneFan
 pub mod OneRun
 pub mod Only
+pub mod Search
 pub mod Tests
 pub mod Turning

@@ -2,4 +2,5 @@
 pub mod Corner
 pub mod Finding
 pub mod Passing
+pub mod Search
 pub mod Ways

@@ -3239,6 +3239,15 @@ lookRows =
     -- the last of two
     record { list = (5 ∷ 6 ∷ 7 ∷ 6 ∷ 5 ∷ 8 ∷ 7 ∷ 6 ∷ 8 ∷ 5 ∷ 6 ∷ 9 ∷ []); from = 5; to = 6; told = (3 ∷ 2 ∷ 9 ∷ []) }
     ∷
+    -- the last of three
+    record { list = (5 ∷ 6 ∷ 7 ∷ 10 ∷ 5 ∷ 6 ∷ 6 ∷ 9 ∷ 5 ∷ 6 ∷ 5 ∷ 8 ∷ []); from = 5; to = 6; told = (2 ∷ 1 ∷ 9 ∷ []) }
+    ∷
+    -- a vertex to itself
+    record { list = (5 ∷ 6 ∷ 7 ∷ 10 ∷ 5 ∷ 6 ∷ 6 ∷ 9 ∷ 5 ∷ 6 ∷ 5 ∷ 8 ∷ []); from = 6; to = 6; told = [] }
+    ∷
+    -- a number of no triangle
+    record { list = (5 ∷ 6 ∷ 7 ∷ 10 ∷ 5 ∷ 6 ∷ 6 ∷ 9 ∷ 5 ∷ 6 ∷ 5 ∷ 8 ∷ []); from = 11; to = 5; told = [] }
+    ∷
     []
 
 pub table : T (allRight packRight packRows && allRight unpackRight unpackRows && allRight callsRight callRows

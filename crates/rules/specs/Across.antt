@@ -19,7 +19,7 @@ inTriangle x y t =
       ]
     ]
 
--- the triangle that has x→y, by its number in the list; of several the last
+-- the triangle that has x→y, by its number in the list: looked for from the last triangle to the first, so that of several it is the last
 unfoldable pub across : ℕ → ℕ → List Triangle → Across
 across x y [] = Nothing
 across x y (t ∷ ts) = elim (across x y ts) [ Found n k z ↦ Found (suc n) k z | Nothing ↦ inTriangle x y t ]

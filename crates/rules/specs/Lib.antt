@@ -59,6 +59,9 @@
 --   "find the triangle that has b→a" | Across: across | "M2"
 --   C-11: "tells, besides c, the number of the input triangle and the corner" | Across: inTriangle, across | "a first edge" to "none"
 --   C-11: "Everything that looks across an edge takes this answer" | Choice: chooseAt, turnIn, turnOut | (the code of corners::across)
+--   C-12: "shall work from the last triangle to the first" | Across: across | "the last of two" to "a number of no triangle"
+--   C-12: "the last with that edge, none exactly if none has it" | Searched in crates/mesh_theory/specs/Fans/Search | (`searched`)
+--   C-12: "a list that passes 1 to 4" | PassesFour in crates/mesh_theory/specs/Fans/Passing | (`four-passed`)
 --   "If there is none, border. If its c has no new .., new" | Choice: chooseAt, has | "M3"
 --   "The right one is that from whose open edges .." | Right: RightPlace | right-place
 --   what finds it | Choice: choosePlace, turnIn, turnOut | "split to c that has an earlier place in the loop: .."

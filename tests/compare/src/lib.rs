@@ -4,6 +4,7 @@
 pub mod expected;
 pub mod kinds;
 
+use cutborder::across::Across;
 use cutborder::book::{Finish, Spot};
 use cutborder::ops::{Counts, Op};
 use cutborder::plain::PackRooms;
@@ -71,7 +72,14 @@ extern "C" {
         model: *mut [u16; 5],
         euler: *mut i32,
     ) -> u32;
+    // The search alone, of the library `search`.
+    fn cutborder_link(v: usize, list: *const u16, len: usize, links: *mut Links) -> u32;
+    fn cutborder_search(list: *const u16, len: usize, links: *const Links, p: u16, q: u16, found: *mut [u16; 3]) -> u32;
 }
+
+/// The links of a list: for each vertex its latest corner, for each corner the one before it.
+pub const LINKS: usize = 4_096 + 24_576;
+pub type Links = [u16; LINKS];
 
 /// What the memory for results holds before a call: a refusal leaves it so.
 const BEFORE: (u16, i32) = (7_777, -7_777);
@@ -129,6 +137,26 @@ pub fn pack(v: usize, list: &[u16], lent: PackRooms) -> Result<usize, Refusal> {
     let n = unsafe { cutborder_pack(v, list.as_ptr(), list.len(), ns.0, ns.1, bs.0, bs.1, os.0, os.1, ps.0, ps.1, &mut size) };
     verdict(n, size == u32::from(BEFORE.0))?;
     Ok(size as usize)
+}
+
+/// Links a list for searching: refusals 1 to 4.
+pub fn link(v: usize, list: &[u16], links: &mut Links) -> Result<(), Refusal> {
+    verdict(unsafe { cutborder_link(v, list.as_ptr(), list.len(), links) }, true)
+}
+
+/// Searches a list, as it was linked, for p→q.
+pub fn search(list: &[u16], links: &Links, p: u16, q: u16) -> Option<Across> {
+    let mut found = [BEFORE.0; 3];
+    match unsafe { cutborder_search(list.as_ptr(), list.len(), links, p, q, &mut found) } {
+        0 => {
+            assert_eq!(found, [BEFORE.0; 3], "nothing found, and something written");
+            None
+        }
+        n => {
+            assert_eq!(n, 1);
+            Some(Across { triangle: found[0].into(), corner: found[1].into(), c: found[2] })
+        }
+    }
 }
 
 /// A builder with its state and its buffers: a triangle buffer and a list of place records.

@@ -4,6 +4,7 @@
 
 mod building;
 mod packings;
+mod searching;
 
 use compare::expected::{self, LEVEL};
 use compare::kinds::{self, Kinds};
@@ -94,7 +95,7 @@ fn spoil(rng: &mut Rng, m: &mut Model, way: usize) {
                     *x = p;
                 }
             }
-            m.v -= 1;
+            m.v = m.v.saturating_sub(1);
         }
     }
 }
@@ -227,6 +228,8 @@ fn main() {
     let scale = scale as usize;
     println!("models of the paper: {} right", paper());
     part("lists", || lists(&mut rng, 2_000 * scale));
+    part("searches", || searching::lists(&mut rng, 1_000 * scale));
+    println!("    with links that are not the list's: {} answered", searching::foreign(&mut rng, 500 * scale));
     part("byte strings", || strings(&mut rng, 5_000 * scale));
     let mut kinds = Kinds::new();
     part("unpacks", || unpacks(&mut rng, 4_000 * scale, &mut kinds));

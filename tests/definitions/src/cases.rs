@@ -1,4 +1,4 @@
-//! Random cases: models, damaged lists, packs, damaged packs and lists of calls.
+//! Random cases: models, damaged lists, packs, damaged packs, lists of calls, and looks across an edge.
 
 use crate::antt;
 use crate::expected::{self, LIMITS};
@@ -59,6 +59,16 @@ pub fn building(rng: &mut Rng, max_t: usize) -> Building {
     Building::new(&short(300, || expected::random_calls(rng, max_t), |c| c))
 }
 
+/// A list that passes 1 to 4, in which edges may occur more than once, and a look across every edge that it could have, and some more.
+pub fn looks(rng: &mut Rng) -> String {
+    let v = rng.range(3, 6);
+    let t = rng.range(1, 14);
+    let list = expected::loose_list(rng, v, t);
+    let ends = 0..=v as u16;
+    let rows: Vec<String> = ends.clone().flat_map(|p| ends.clone().map(move |q| (p, q))).map(|(p, q)| antt::look(&list, p, q)).collect();
+    format!("{} ∷ []", rows.join("\n    ∷ "))
+}
+
 /// A theorem for each case, so that a refusal names it.
 pub fn module(seed: u64, count: usize) -> String {
     let (uses, unfolding) = prelude(&Home::Outside, &[]);
@@ -67,10 +77,11 @@ pub fn module(seed: u64, count: usize) -> String {
     for i in 0..count {
         let mut r = rng.fork();
         let max_t = [4, 8, 14, 20][r.below(4)];
-        let (kind, right, row) = match i % 3 {
+        let (kind, right, row) = match i % 4 {
             0 => ("PackRow", "packRight", antt::packing(&packing(&mut r, max_t))),
             1 => ("UnpackRow", "unpackRight", antt::unpacking(&unpacking(&mut r, max_t))),
-            _ => ("CallRow", "callsRight", antt::building(&building(&mut r, max_t))),
+            2 => ("CallRow", "callsRight", antt::building(&building(&mut r, max_t))),
+            _ => ("List LookRow", "allRight lookRight", looks(&mut r)),
         };
         out += &format!("\nabbrev row{i} : {kind}\nrow{i} =\n    {row}\n\npub case{i} : T ({right} row{i})\n{unfolding}\ncase{i} = tt\n");
     }

@@ -288,11 +288,23 @@ fn packs() -> Vec<(String, String)> {
         .collect()
 }
 
-/// Looks across an edge: the three edges of a triangle, one that no triangle has, and one that two have.
+/// Looks across an edge: the three edges of a triangle, one that no triangle has, one that two have, one that three have (as their first,
+/// their second and their third edge, with a triangle after them that has its opposite), an edge from a vertex to itself, and a vertex
+/// that is in no triangle.
 fn looks() -> Vec<(String, String)> {
-    let list = [5, 6, 7, 6, 5, 8, 7, 6, 8, 5, 6, 9];
-    let edges = [("a first edge", 6, 5), ("a second edge", 6, 8), ("a third edge", 7, 5), ("none", 5, 7), ("the last of two", 5, 6)];
-    edges.iter().map(|&(name, p, q)| (name.to_owned(), antt::look(&list, p, q))).collect()
+    let twice = [5, 6, 7, 6, 5, 8, 7, 6, 8, 5, 6, 9];
+    let thrice = [5, 6, 7, 10, 5, 6, 6, 9, 5, 6, 5, 8];
+    let edges = [
+        ("a first edge", twice, 6, 5),
+        ("a second edge", twice, 6, 8),
+        ("a third edge", twice, 7, 5),
+        ("none", twice, 5, 7),
+        ("the last of two", twice, 5, 6),
+        ("the last of three", thrice, 5, 6),
+        ("a vertex to itself", thrice, 6, 6),
+        ("a number of no triangle", thrice, 11, 5),
+    ];
+    edges.iter().map(|&(name, list, p, q)| (name.to_owned(), antt::look(&list, p, q))).collect()
 }
 
 /// A list of rows, each with its remark.

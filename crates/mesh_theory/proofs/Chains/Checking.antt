@@ -7,19 +7,21 @@ use mathlib.Core.List.{List}
 use mathlib.Core.Path.{_≡_, refl, sym, ap, _∙_}
 use lib.ListN.{length}
 use lib.Dec.{eqb, leb}
-use borrow.Author.Tests.{eqb-true, leb-true, le-leb, lt-leb, not-true, not-false}
+use borrow.Author.Tests.{leb-true, le-leb, lt-leb, not-true, not-false}
 use Rattle.rules.specs.declared.Checked.{Checked}
 use Rattle.rules.specs.declared.Checked.the-variants.{Accepted, Refused}
 use Rattle.rules.specs.Limits.{maxNumbers, minVertices, maxVertices, between, vertexRange}
 use Rattle.rules.specs.Triangle.{trianglesOf}
 use Rattle.rules.specs.Check.{allBelow, allDistinct, passes, checkTriangles, check}
+use Rattle.mesh_theory.specs.Fans.Passing.{firstFour, tested, PassesFour}
 use Rattle.mesh_theory.specs.Chains.Linked.{Sound}
-use Rattle.mesh_theory.specs.Chains.Checks.{fitsSize, checkChains, Answers}
+use Rattle.mesh_theory.specs.Chains.Checks.{fitsSize, checkNumbers, checkChains, Answers}
+use Rattle.mesh_theory.proofs.Fans.Checks.{tested-accepted, tested-number, fits-thirds}
 use Rattle.mesh_theory.proofs.Chains.Listing.{below-each}
 use Rattle.counting.proofs.Bools.{and-left, and-right}
 
 -- the tests of 1 to 4, and then those that need the chains
-pub check-is : (v : ℕ) (xs : List ℕ)
+check-is : (v : ℕ) (xs : List ℕ)
     → check v xs
     ≡ passes (fitsSize (length xs)) 1
     (passes (vertexRange v) 2
@@ -76,18 +78,57 @@ pub range-most : (v : ℕ) (b : Bool) → b ≡ vertexRange v → not b ≡ fals
 range-most v b e f = between-high minVertices v maxVertices (sym e ∙ not-false b f)
 
 pub size-long : (n : ℕ) (b : Bool) → b ≡ fitsSize n → not b ≡ false → n ≡ 3 * (n / 3)
-size-long n b e f = omega (arith, eqb-true (n % 3) 0 (and-right (between 1 n maxNumbers) (eqb (n % 3) 0) (sym e ∙ not-false b f)))
+size-long n b e f = fits-thirds n (sym e ∙ not-false b f)
 
--- a list that has passed 1 to 4
-pub sound-is : (v : ℕ) (xs : List ℕ) (a b c d : Bool) → a ≡ fitsSize (length xs) → not a ≡ false → b ≡ vertexRange v
-    → not b ≡ false
-    → c ≡ allBelow v xs → not c ≡ false → d ≡ allDistinct (trianglesOf xs) → not d ≡ false → Sound xs
-sound-is v xs a b c d e f g h i j k l =
-    let m = range-most v b g h in
-    let s : fitsSize (length xs) ≡ true = sym e ∙ not-false a f in
+-- 1 to 4 as the code tests them: they refuse for all seven, or they pass, and 5 to 7 are asked
+on-refused : (b : Bool) (n m : ℕ) (c d : Checked) → (c ≡ Refused m → d ≡ Refused m) → passes b n c ≡ Refused m
+    → passes b n d ≡ Refused m
+unfolding passes
+on-refused true n m c d f h = f h
+on-refused false n m c d f h = h
+
+on-accepted : (b : Bool) (n : ℕ) (c d e : Checked) → (c ≡ Accepted → d ≡ e) → passes b n c ≡ Accepted → passes b n d ≡ e
+unfolding passes
+on-accepted true n c d e f h = f h
+on-accepted false n c d e f h = let z : _≡_ {A = ℕ} 0 1 = ap isAccepted h in absurd (omega arith)
+
+pub numbers-refuse : (v : ℕ) (xs : List ℕ) (n : ℕ) → checkNumbers v xs ≡ Refused n → Refused n ≡ check v xs
+unfolding checkNumbers tested
+numbers-refuse v xs n h =
+    sym
+    (check-is v xs
+    ∙ on-refused _ 1 n _ _
+    (on-refused _ 2 n _ _
+    (on-refused _ 3 n _ _
+    (on-refused _ 4 n _ _ (λ e. let z : _≡_ {A = ℕ} 1 0 = ap isAccepted e in absurd (omega arith))))) h)
+
+pub numbers-low : (v : ℕ) (xs : List ℕ) (n : ℕ) → checkNumbers v xs ≡ Refused n → (1 ≤ n) × (n ≤ 4)
+unfolding checkNumbers
+numbers-low v xs n h = let k = tested-number 1 n (firstFour v xs) h in (k .0, omega (arith, k .1))
+
+pub numbers-pass : (v : ℕ) (xs : List ℕ) → checkNumbers v xs ≡ Accepted → checkChains v (trianglesOf xs) ≡ check v xs
+unfolding checkNumbers tested
+numbers-pass v xs h =
+    sym
+    (check-is v xs
+    ∙ on-accepted _ 1 _ _ _ (on-accepted _ 2 _ _ _ (on-accepted _ 3 _ _ _ (on-accepted _ 4 _ _ _ (λ e. refl)))) h)
+
+pub numbers-four : (v : ℕ) (xs : List ℕ) → checkNumbers v xs ≡ Accepted → PassesFour v xs
+unfolding checkNumbers
+numbers-four v xs h =
+    let k = tested-accepted 1 (firstFour v xs) .0 h in
+    record { size = k .0; range = k .1 .0; below = k .1 .1 .0; distinct = k .1 .1 .1 .0 }
+
+pub four-most : {v : ℕ} {xs : List ℕ} → PassesFour v xs → v ≤ maxVertices
+four-most {v} p = between-high minVertices v maxVertices (p .range)
+
+-- a list that passes 1 to 4 can be linked
+pub four-sound : {v : ℕ} {xs : List ℕ} → PassesFour v xs → Sound xs
+four-sound {v} {xs} p =
+    let m = four-most p in
     record {
-      long = size-long (length xs) a e f;
-      most = between-high 1 (length xs) maxNumbers (and-left (between 1 (length xs) maxNumbers) (eqb (length xs % 3) 0) s);
-      below = λ n p. omega (arith, below-each v xs (sym i ∙ not-false c j) n p);
-      distinct = sym k ∙ not-false d l;
+      long = fits-thirds (length xs) (p .size);
+      most = between-high 1 (length xs) maxNumbers (and-left (between 1 (length xs) maxNumbers) (eqb (length xs % 3) 0) (p .size));
+      below = λ n h. omega (arith, below-each v xs (p .below) n h);
+      distinct = p .distinct;
     }

@@ -130,6 +130,14 @@ sound-differs {xs} t s h =
     let d = all-distinct (firstTriangles m xs) .0 (ap allDistinct (first-all m xs (s .long)) ∙ s .distinct) _ _ _ i in
     rw (after-first t, before-first t) at d
 
+-- one triangle more is linked
+pub sound-linked : {xs cs : List ℕ} (t : ℕ) → Sound xs → t < length xs / 3 → Chains xs (3 * t) cs → (cs′ : List ℕ)
+    → cs′ ≡ relinked cs t (getD xs (3 * t) 0) (getD xs (3 * t + 1) 0) (getD xs (3 * t + 2) 0) → Chains xs (3 * (t + 1)) cs′
+sound-linked {xs} {cs} t s h k cs′ e =
+    let below = s .below in
+    triangle-linked xs t cs k (omega (arith, s .long)) _ _ _ refl refl refl (omega (arith, s .most)) (below (3 * t) (omega arith))
+    (below (3 * t + 1) (omega arith)) (below (3 * t + 2) (omega arith)) cs′ e
+
 module _ {xs cs : List ℕ} (t : ℕ) (k : Linking xs t cs) (more : t < length xs / 3) where
   fits : 3 * t + 3 ≤ length xs
   fits = omega (arith, k .sound .long)
@@ -150,11 +158,7 @@ module _ {xs cs : List ℕ} (t : ℕ) (k : Linking xs t cs) (more : t < length x
       record {
         sound = s;
         upto = omega arith;
-        chains =
-            triangle-linked xs t cs (k .chains) fits (getD xs (3 * t) 0) (getD xs (3 * t + 1) 0)
-            (getD xs (3 * t + 2) 0) refl refl refl
-            (omega (arith, s .most)) (s .below (3 * t) (omega arith)) (s .below (3 * t + 1) (omega arith))
-            (s .below (3 * t + 2) (omega arith)) cs′ e;
+        chains = sound-linked t s more (k .chains) cs′ e;
         once =
             subst (λ (n : ℕ). noneTwice (edgesOf (firstTriangles n xs)) ≡ true) u
             (once-more xs t fits new (sound-differs t s more) (k .once));

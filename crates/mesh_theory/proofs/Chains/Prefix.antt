@@ -1,6 +1,6 @@
 -- The first triangles of a list, one more at a time, and what is counted and found among them.
 -- Assumes nothing.
-use Prim.Native.Nat.{ℕ, zero, suc, _+_, _*_, _≤_}
+use Prim.Native.Nat.{ℕ, zero, suc, _+_, _*_, _/_, _≤_}
 use native.Mathlib.Omega.{arith}
 use mathlib.Core.List.{List, [], _∷_, _++_}
 use mathlib.Core.Path.{_≡_, refl, sym, ap, _∙_}
@@ -27,6 +27,26 @@ take-three xs m h =
     let a : m + 1 ≡ suc m = omega arith in
     let b : m + 2 ≡ suc (suc m) = omega arith in
     rw (drop-cons xs m 0 (omega arith), drop-cons xs (suc m) 0 (omega arith), drop-cons xs (suc (suc m)) 0 (omega arith), a, b)
+
+-- how many there are, and each by its number
+pub triangles-length : (xs : List ℕ) → length (trianglesOf xs) ≡ length xs / 3
+unfolding trianglesOf
+triangles-length [] = refl
+triangles-length (x ∷ []) = refl
+triangles-length (x ∷ (y ∷ [])) = refl
+triangles-length (x ∷ (y ∷ (z ∷ xs))) = omega (arith, triangles-length xs)
+
+pub triangle-at : (xs : List ℕ) (n : ℕ) (d : Triangle) → 3 * n + 3 ≤ length xs → getD (trianglesOf xs) n d ≡ triangleAt xs n
+unfolding trianglesOf
+triangle-at [] n d h = absurd (omega arith)
+triangle-at (x ∷ []) n d h = absurd (omega arith)
+triangle-at (x ∷ (y ∷ [])) n d h = absurd (omega arith)
+triangle-at (x ∷ (y ∷ (z ∷ xs))) zero d h = refl
+triangle-at (x ∷ (y ∷ (z ∷ xs))) (suc n) d h =
+    let e : 3 * suc n ≡ suc (suc (suc (3 * n))) = omega arith in
+    let f : 3 * suc n + 1 ≡ suc (suc (suc (3 * n + 1))) = omega arith in
+    let g : 3 * suc n + 2 ≡ suc (suc (suc (3 * n + 2))) = omega arith in
+    rw (f, g, e) (triangle-at xs n d (omega arith))
 
 -- one more triangle
 pub first-more : (n : ℕ) (xs : List ℕ) → 3 * n + 3 ≤ length xs

@@ -119,7 +119,7 @@ place-sides x y [] d n l = absurd (omega arith)
 place-sides x y (t ∷ ts) d zero l = omega (arith, uses-cons x y t ts)
 place-sides x y (t ∷ ts) d (suc n) l = omega (arith, uses-cons x y t ts, place-sides x y ts d n (omega arith))
 
-later-sides : (x y : ℕ) (us vs : List Triangle) (t d : Triangle) (m : ℕ) → length us < m → m < length (us ++ (t ∷ vs))
+pub later-sides : (x y : ℕ) (us vs : List Triangle) (t d : Triangle) (m : ℕ) → length us < m → m < length (us ++ (t ∷ vs))
     → sidesOf x y (getD (us ++ (t ∷ vs)) m d) ≤ uses x y vs
 later-sides x y us vs t d zero k l = absurd (omega arith)
 later-sides x y [] vs t d (suc m) k l = place-sides x y vs d m (omega arith)

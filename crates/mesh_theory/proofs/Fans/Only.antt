@@ -28,7 +28,7 @@ corner-hits {t} {x} {y} (at-p a b c) h = omega (arith, hit-eq x y (t .p) (t .q) 
 corner-hits {t} {x} {y} (at-q a b c) h = omega (arith, hit-eq x y (t .q) (t .r) a b)
 corner-hits {t} {x} {y} (at-r a b c) h = omega (arith, hit-eq x y (t .r) (t .p) a b)
 
-rot-corner : {t u : Triangle} {x y z w : ℕ} → t ≡ u → (a : Rot t x y z) (b : Rot u x y w) → sidesOf x y u ≤ 1
+pub rot-corner : {t u : Triangle} {x y z w : ℕ} → t ≡ u → (a : Rot t x y z) (b : Rot u x y w) → sidesOf x y u ≤ 1
     → (third a ≡ third b) × (z ≡ w)
 rot-corner {t} {u} {x} {y} e a b h =
     let f : Triangle → ℕ = λ v. hit x y (v .r) (v .p) + 2 * hit x y (v .p) (v .q) in
@@ -37,7 +37,7 @@ rot-corner {t} {u} {x} {y} e a b h =
       omega (arith, rot-sum a, rot-sum b, ap (λ (v : Triangle). v .p + v .q + v .r) e),
     )
 
-rot-sides : {t : Triangle} {x y z : ℕ} → Rot t x y z → 1 ≤ sidesOf x y t
+pub rot-sides : {t : Triangle} {x y z : ℕ} → Rot t x y z → 1 ≤ sidesOf x y t
 rot-sides {t} {x} {y} {z} r = omega (arith, uses-rot x y [] r, uses-cons x y t [], sides-yes x y z)
 
 -- the triangle of a list that has x→y, if it is used once

@@ -12,11 +12,16 @@ use Rattle.rules.specs.Limits.{maxNumbers, between}
 use Rattle.rules.specs.Triangle.{corners, edgesOf}
 use Rattle.rules.specs.Fan.{oneFanEach}
 use Rattle.rules.specs.Check.{noneTwice, allUsed, passes}
+use Rattle.mesh_theory.specs.Fans.Passing.{firstFour, tested}
 use Rattle.mesh_theory.specs.Chains.Linked.{Linked}
 
 -- 1, of the list's length
 abbrev pub fitsSize : ℕ → Bool
 fitsSize n = between 1 n maxNumbers && eqb (n % 3) 0
+
+-- 1 to 4
+unfoldable pub checkNumbers : ℕ → List ℕ → Checked
+checkNumbers v xs = tested 1 (firstFour v xs)
 
 -- 5 to 7
 unfoldable pub checkChains : ℕ → List Triangle → Checked

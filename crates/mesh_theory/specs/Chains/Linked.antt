@@ -16,6 +16,8 @@ use Rattle.rules.specs.Count.{unjoined}
 use Rattle.rules.specs.Across.{across}
 use Rattle.rules.specs.Check.{allDistinct, noneTwice}
 use Rattle.mesh_theory.specs.Fans.Corner.{Different}
+use Rattle.mesh_theory.specs.Fans.Passing.{PassesFour}
+use Rattle.mesh_theory.specs.Fans.Search.{Searched}
 use Rattle.mesh_theory.specs.Chains.Corner.{firstTriangles, latest, degree, isFree, isNew}
 
 -- how many entries the array has
@@ -59,10 +61,11 @@ pub record Older (cs : List ℕ) (c r : ℕ) : Type 0 where
   pub older : (xs : List ℕ) (n : ℕ) → Chains xs n cs → c < n → r ≡ latest (getD xs c 0) xs c
 
 -- r is the triangle that has x→y, of several the last, among the first triangles of the list, as many as the chains hold; none is
--- found from a vertex to itself
+-- found from a vertex to itself. C-12: in a list that passes 1 to 4, all of it in the chains, r is what 02 says, for any x and y
 pub record Finds (xs cs : List ℕ) (x y : ℕ) (r : Across) : Type 0 where
   pub itself : x ≡ y → r ≡ Nothing
   pub found : (n : ℕ) → Chains xs (3 * n) cs → (x ≡ y → ⊥) → r ≡ across x y (firstTriangles n xs)
+  pub searched : (v : ℕ) → PassesFour v xs → Chains xs (length xs) cs → Searched xs x y r
 
 -- b tells whether x→y, or each directed edge of the triangle p q r, is free among the triangles that the chains hold
 abbrev pub FreeIs : List ℕ → List ℕ → ℕ → ℕ → Bool → Type 0

@@ -21,6 +21,10 @@ tests v xs =
     ∷ (vertexRange v
     ∷ (allBelow v xs ∷ (allDistinct ts ∷ (noneTwice (edgesOf ts) ∷ (allUsed v (corners ts) ∷ (oneFanEach v ts ∷ []))))))
 
+-- 1 to 4 alone
+abbrev pub firstFour : ℕ → List ℕ → List Bool
+firstFour v xs = sizeFits xs ∷ (vertexRange v ∷ (allBelow v xs ∷ (allDistinct (trianglesOf xs) ∷ [])))
+
 -- tests in a row, of which the first has the number n
 unfoldable pub tested : ℕ → List Bool → Checked
 tested n [] = Accepted
@@ -35,6 +39,13 @@ abbrev pub FirstFails : ℕ → List Bool → Type 0
 FirstFails k [] = ⊥
 FirstFails zero (b ∷ bs) = b ≡ false
 FirstFails (suc k) (b ∷ bs) = (b ≡ true) × FirstFails k bs
+
+-- a list that passes 1 to 4
+pub record PassesFour (v : ℕ) (xs : List ℕ) : Type 0 where
+  pub size : sizeFits xs ≡ true
+  pub range : vertexRange v ≡ true
+  pub below : allBelow v xs ≡ true
+  pub distinct : allDistinct (trianglesOf xs) ≡ true
 
 -- a list that is accepted
 pub record Passes (v : ℕ) (xs : List ℕ) : Type 0 where

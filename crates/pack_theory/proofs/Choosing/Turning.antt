@@ -22,8 +22,8 @@ use Rattle.mesh_theory.proofs.Fans.Once.{once-tests}
 use Rattle.mesh_theory.proofs.Fans.Finding.{across-found, across-nothing, found-in, found-below}
 use Rattle.choice_theory.specs.Spots.{Unused}
 use Rattle.mesh_theory.specs.Chains.Linked.{Finds, Linked}
-use Rattle.mesh_theory.proofs.Chains.Prefix.{length-first}
-use Rattle.mesh_theory.proofs.Chains.Finding.{linked-first, linked-found}
+use Rattle.mesh_theory.proofs.Chains.Prefix.{triangles-length}
+use Rattle.mesh_theory.proofs.Chains.Finding.{linked-found}
 use Rattle.cutborder.specs.declared.Turned.{Turned}
 use Rattle.pack_theory.specs.Choosing.Choosable.{flagOf, unbuiltOf}
 use Rattle.pack_theory.specs.Choosing.Turning.{EndsIn, EndsOut}
@@ -37,10 +37,6 @@ turned x b = record { last = x; across = b }
 pub once-of : (xs cs : List ℕ) → Linked xs cs → Once (trianglesOf xs)
 once-of xs cs k = once-tests (trianglesOf xs) .1 (k .sound .distinct, k .once)
 
-pub triangles-length : (xs cs : List ℕ) → Linked xs cs → length (trianglesOf xs) ≡ length xs / 3
-triangles-length xs cs k =
-    sym (ap (length {A = Triangle}) (linked-first xs cs k)) ∙ length-first (length xs / 3) xs (omega (arith, k .sound .long))
-
 -- a triangle that is found has a flag
 pub number-below : (xs cs : List ℕ) → Linked xs cs → (x y : ℕ) (r : Across) (n k z : ℕ) → (x ≡ y → ⊥) → Finds xs cs x y r → r ≡ Found n k z
     → n < maxTriangles
@@ -48,7 +44,7 @@ number-below xs cs linked x y r n k z d f e =
     let ts : List Triangle = trianglesOf xs in
     let q : across x y ts ≡ Found n k z = sym (linked-found xs cs linked x y r f d) ∙ e in
     let b = found-below ts (across-found x y ts n k z q) in
-    omega (arith, b, triangles-length xs cs linked, linked .sound .most)
+    omega (arith, b, triangles-length xs, linked .sound .most)
 
 module _ (xs cs flags : List ℕ) (linked : Linked xs cs) where
   abbrev M : List Triangle
@@ -141,7 +137,7 @@ module _ (xs cs flags : List ℕ) (linked : Linked xs cs) where
     stand = stand-found b a M n k c found
 
     few : length ts ≤ length xs / 3
-    few = omega (arith, unbuilt-length flags 0 M, triangles-length xs cs linked)
+    few = omega (arith, unbuilt-length flags 0 M, triangles-length xs)
 
     pub in-turned : (r : Turned) → EndsIn xs flags c b r → r .last ≡ turnIn (length ts) c b ts
     in-turned r h =

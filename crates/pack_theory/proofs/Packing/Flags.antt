@@ -7,17 +7,18 @@ use mathlib.Core.List.{List, [], _∷_, _++_}
 use mathlib.Core.Path.{_≡_, refl, sym, ap, _∙_, subst}
 use mathlib.Core.Logic.{_⊎_, inl, inr}
 use lib.ListN.{length, getD, set, take, drop, take-append-drop, drop-of-length-le}
-use lib.Seq.{getD-set-same, getD-set-other, length-take-le}
+use lib.Seq.{getD-set-same, getD-set-other, length-take-le, drop-cons}
 use lib.Dec.{eqb}
 use borrow.Author.Tests.{eqb-true, eqb-false, eq-eqb, ne-eqb}
 use Rattle.rules.specs.declared.Triangle.{Triangle}
 use Rattle.rules.specs.declared.Across.{Across}
 use Rattle.rules.specs.declared.Across.the-variants.{Found, Nothing}
 use Rattle.rules.specs.Across.{inTriangle, across}
-use Rattle.rules.specs.Triangle.{trianglesOf, at-p, In, Free}
+use Rattle.rules.specs.Triangle.{tri, trianglesOf, at-p, In, Free}
 use Rattle.rules.specs.Choice.{dropTriangle}
 use Rattle.mesh_theory.specs.Fans.Corner.{Once}
 use Rattle.mesh_theory.specs.Chains.Corner.{triangleAt}
+use Rattle.mesh_theory.proofs.Chains.Prefix.{triangles-length, triangle-at}
 use Rattle.choice_theory.proofs.Turning.Ways.{Told, told, across-none, look}
 use Rattle.choice_theory.proofs.Turning.Links.{free-rot}
 use Rattle.pack_theory.specs.Choosing.Choosable.{flagOf, unbuilt}
@@ -156,16 +157,10 @@ found-below x y (t ∷ ts) n k z h = go (across x y ts) refl (λ m j w e. found-
 -- triangle k of a list of numbers
 triangle-drop : (k : ℕ) (xs : List ℕ) → k < length (trianglesOf xs)
     → drop k (trianglesOf xs) ≡ triangleAt xs k ∷ drop (suc k) (trianglesOf xs)
-unfolding trianglesOf
-triangle-drop k [] h = absurd (omega arith)
-triangle-drop k (x ∷ []) h = absurd (omega arith)
-triangle-drop k (x ∷ (y ∷ [])) h = absurd (omega arith)
-triangle-drop zero (x ∷ (y ∷ (z ∷ xs))) h = refl
-triangle-drop (suc k) (x ∷ (y ∷ (z ∷ xs))) h =
-    let e : 3 * suc k ≡ suc (suc (suc (3 * k))) = omega arith in
-    let f : suc (suc (suc (3 * k))) + 1 ≡ suc (suc (suc (3 * k + 1))) = omega arith in
-    let g : suc (suc (suc (3 * k))) + 2 ≡ suc (suc (suc (3 * k + 2))) = omega arith in
-    rw (e, f, g) (triangle-drop k xs (omega arith))
+triangle-drop k xs h =
+    let d = tri 0 0 0 in
+    drop-cons (trianglesOf xs) k d h
+    ∙ ap (λ (t : Triangle). t ∷ drop (suc k) (trianglesOf xs)) (triangle-at xs k d (omega (arith, triangles-length xs)))
 
 -- the first edge of a triangle is found in it, in a list that has no edge twice
 across-own : (before : List Triangle) (t : Triangle) (after : List Triangle) → Once (before ++ (t ∷ after))
