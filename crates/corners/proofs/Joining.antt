@@ -1,138 +1,20 @@
 -- The walk down the chain of x meets y at each triangle that joins them.
 -- Assumes nothing.
-use Prim.Native.Nat.{ℕ, zero, suc, _+_, _*_, _-_, _≤_, _<_}
+use Prim.Native.Nat.{ℕ, zero, suc, _*_, _-_, _≤_, _<_}
 use native.Mathlib.Omega.{arith}
 use mathlib.Core.Bool.{Bool, true, false, _&&_}
 use mathlib.Core.List.{List}
 use mathlib.Core.Path.{_≡_, refl, sym, ap, _∙_, subst}
-use lib.ListN.{length, getD}
+use lib.ListN.{getD}
 use lib.Dec.{eqb}
-use borrow.Author.Tests.{eqb-false, eq-eqb, ne-eqb}
-use Rattle.rules.specs.Triangle.{edgesOf, trianglesOf}
-use Rattle.rules.specs.Count.{hit, count, uses}
+use borrow.Author.Tests.{eq-eqb, ne-eqb}
+use Rattle.rules.specs.Count.{same, uses}
 use Rattle.mesh_theory.specs.Chains.Corner.{cornerAfter, cornerBefore, firstTriangles, latest}
 use Rattle.mesh_theory.specs.Chains.Linked.{Chains, Newest, Older, UnjoinedIs}
-use Rattle.mesh_theory.proofs.Chains.Prefix.{uses-more}
-use Rattle.mesh_theory.proofs.Chains.Walking.{after-first, after-second, after-third, before-first, before-second, before-third}
-use Rattle.mesh_theory.proofs.Chains.Walking.{latest-below, latest-has, latest-other}
-use Rattle.counting.proofs.Counts.{same-no, hit-yes, hit-from, hit-to}
-
--- how many corners below c the edge x→y leaves, and how many with x the edge y→x enters
-unfoldable pub out : ℕ → ℕ → List ℕ → ℕ → ℕ
-out x y xs zero = 0
-out x y xs (suc c) = hit x y (getD xs c 0) (getD xs (cornerAfter c) 0) + out x y xs c
-
-unfoldable pub into : ℕ → ℕ → List ℕ → ℕ → ℕ
-into x y xs zero = 0
-into x y xs (suc c) = hit y x (getD xs (cornerBefore c) 0) (getD xs c 0) + into x y xs c
-
-out-step : (x y : ℕ) (xs : List ℕ) (c k : ℕ) → cornerAfter c ≡ k → out x y xs (suc c) ≡ hit x y (getD xs c 0) (getD xs k 0) + out x y xs c
-unfolding out
-out-step x y xs c k e = ap (λ (i : ℕ). hit x y (getD xs c 0) (getD xs i 0) + out x y xs c) e
-
-into-step : (x y : ℕ) (xs : List ℕ) (c k : ℕ) → cornerBefore c ≡ k
-    → into x y xs (suc c) ≡ hit y x (getD xs k 0) (getD xs c 0) + into x y xs c
-unfolding into
-into-step x y xs c k e = ap (λ (i : ℕ). hit y x (getD xs i 0) (getD xs c 0) + into x y xs c) e
-
--- over whole triangles they are the uses of the two edges
-out-uses : (x y : ℕ) (xs : List ℕ) (n : ℕ) → 3 * n ≤ length xs → out x y xs (3 * n) ≡ uses x y (firstTriangles n xs)
-unfolding out count edgesOf trianglesOf
-out-uses x y xs zero h = refl
-out-uses x y xs (suc n) h =
-    let e : 3 * suc n ≡ suc (3 * n + 2) = omega arith in
-    let e₂ : 3 * n + 2 ≡ suc (3 * n + 1) = omega arith in
-    let e₁ : 3 * n + 1 ≡ suc (3 * n) = omega arith in
-    let d₃ = ap (out x y xs) e ∙ out-step x y xs (3 * n + 2) (3 * n) (after-third n) in
-    let d₂ = ap (out x y xs) e₂ ∙ out-step x y xs (3 * n + 1) (3 * n + 2) (after-second n) in
-    let d₁ = ap (out x y xs) e₁ ∙ out-step x y xs (3 * n) (3 * n + 1) (after-first n) in
-    omega (arith, d₃, d₂, d₁, uses-more x y n xs (omega arith), out-uses x y xs n (omega arith))
-
-into-uses : (x y : ℕ) (xs : List ℕ) (n : ℕ) → 3 * n ≤ length xs → into x y xs (3 * n) ≡ uses y x (firstTriangles n xs)
-unfolding into count edgesOf trianglesOf
-into-uses x y xs zero h = refl
-into-uses x y xs (suc n) h =
-    let e : 3 * suc n ≡ suc (3 * n + 2) = omega arith in
-    let e₂ : 3 * n + 2 ≡ suc (3 * n + 1) = omega arith in
-    let e₁ : 3 * n + 1 ≡ suc (3 * n) = omega arith in
-    let d₃ = ap (into x y xs) e ∙ into-step x y xs (3 * n + 2) (3 * n + 1) (before-third n) in
-    let d₂ = ap (into x y xs) e₂ ∙ into-step x y xs (3 * n + 1) (3 * n) (before-second n) in
-    let d₁ = ap (into x y xs) e₁ ∙ into-step x y xs (3 * n) (3 * n + 2) (before-first n) in
-    omega (arith, d₃, d₂, d₁, uses-more y x n xs (omega arith), into-uses x y xs n (omega arith))
-
--- a corner adds nothing that has not x, or has y neither after it nor before it
-module _ (x y : ℕ) (xs : List ℕ) (c : ℕ) where
-  out-other : (getD xs c 0 ≡ x → ⊥) → out x y xs (suc c) ≡ out x y xs c
-  out-other h =
-      omega (
-        arith,
-        out-step x y xs c (cornerAfter c) refl,
-        hit-from x y (getD xs c 0) (getD xs (cornerAfter c) 0),
-        same-no x (getD xs c 0) (λ e. h (sym e)),
-      )
-
-  into-other : (getD xs c 0 ≡ x → ⊥) → into x y xs (suc c) ≡ into x y xs c
-  into-other h =
-      omega (
-        arith,
-        into-step x y xs c (cornerBefore c) refl,
-        hit-to y x (getD xs (cornerBefore c) 0) (getD xs c 0),
-        same-no x (getD xs c 0) (λ e. h (sym e)),
-      )
-
-  out-not : (getD xs (cornerAfter c) 0 ≡ y → ⊥) → out x y xs (suc c) ≡ out x y xs c
-  out-not h =
-      omega (
-        arith,
-        out-step x y xs c (cornerAfter c) refl,
-        hit-to x y (getD xs c 0) (getD xs (cornerAfter c) 0),
-        same-no y (getD xs (cornerAfter c) 0) (λ e. h (sym e)),
-      )
-
-  into-not : (getD xs (cornerBefore c) 0 ≡ y → ⊥) → into x y xs (suc c) ≡ into x y xs c
-  into-not h =
-      omega (
-        arith,
-        into-step x y xs c (cornerBefore c) refl,
-        hit-from y x (getD xs (cornerBefore c) 0) (getD xs c 0),
-        same-no y (getD xs (cornerBefore c) 0) (λ e. h (sym e)),
-      )
-
-  out-yes : getD xs c 0 ≡ x → getD xs (cornerAfter c) 0 ≡ y → 1 ≤ out x y xs (suc c)
-  out-yes e f = rw (← e, ← f)
-      (omega (
-        arith,
-        out-step (getD xs c 0) (getD xs (cornerAfter c) 0) xs c (cornerAfter c) refl,
-        hit-yes (getD xs c 0)
-            (getD xs (cornerAfter c) 0),
-      ))
-
-  into-yes : getD xs c 0 ≡ x → getD xs (cornerBefore c) 0 ≡ y → 1 ≤ into x y xs (suc c)
-  into-yes e f = rw (← e, ← f)
-      (omega (
-        arith,
-        into-step (getD xs c 0) (getD xs (cornerBefore c) 0) xs c (cornerBefore c) refl,
-        hit-yes (getD xs (cornerBefore c) 0)
-            (getD xs c 0),
-      ))
-
--- nothing is passed over between a vertex's corners
-latest-same : (x y : ℕ) (xs : List ℕ) (n : ℕ)
-    → (out x y xs (latest x xs n) ≡ out x y xs n) × (into x y xs (latest x xs n) ≡ into x y xs n)
-unfolding latest
-latest-same x y xs zero = (refl, refl)
-latest-same x y xs (suc c) = go (eqb (getD xs c 0) x) refl (latest-same x y xs c)
-  where
-    go : (b : Bool) → eqb (getD xs c 0) x ≡ b
-        → (out x y xs (latest x xs c) ≡ out x y xs c) × (into x y xs (latest x xs c) ≡ into x y xs c)
-        → (out x y xs (latest x xs (suc c)) ≡ out x y xs (suc c)) × (into x y xs (latest x xs (suc c)) ≡ into x y xs (suc c))
-    go true e i = rw (latest, e) (refl, refl)
-    go false e i =
-        let f = eqb-false (getD xs c 0) x e in
-        let l = latest-other x xs c f in (
-          ap (out x y xs) l ∙ i .0 ∙ sym (out-other x y xs c f),
-          ap (into x y xs) l ∙ i .1 ∙ sym (into-other x y xs c f),
-        )
+use Rattle.mesh_theory.proofs.Chains.Walking.{latest-below, latest-has}
+use Rattle.mesh_theory.proofs.Chains.Leaving.{out, into, out-uses, into-uses, out-here, into-here, latest-leaves, latest-enters}
+use Rattle.mesh_theory.proofs.Chains.Leaving.{none-out, none-into}
+use Rattle.counting.proofs.Counts.{same-no, same-yes}
 
 -- the walk stands at c: corner c - 1 has x, and y was not met
 pub record Still (xs : List ℕ) (n x y c : ℕ) : Type 0 where
@@ -147,8 +29,12 @@ before c = omega arith
 still-latest : (xs : List ℕ) (m n x y : ℕ) → m ≤ n → out x y xs m ≡ out x y xs n → into x y xs m ≡ into x y xs n
     → Still xs n x y (latest x xs m)
 still-latest xs m n x y l e f =
-    let s = latest-same x y xs m in
-    record { bound = omega (arith, latest-below x xs m); has = go (latest x xs m) refl; leaves = s .0 ∙ e; enters = s .1 ∙ f }
+    record {
+      bound = omega (arith, latest-below x xs m);
+      has = go (latest x xs m) refl;
+      leaves = latest-leaves x y xs m ∙ e;
+      enters = latest-enters x y xs m ∙ f;
+    }
   where
     go : (k : ℕ) → latest x xs m ≡ k → 0 < k → getD xs (k - 1) 0 ≡ x
     go zero q h = absurd (omega arith)
@@ -162,26 +48,28 @@ still-more xs n x y (suc c) d s h a b e =
     let a′ : getD xs (cornerAfter c) 0 ≡ y → ⊥ = rw (before c) at a in
     let b′ : getD xs (cornerBefore c) 0 ≡ y → ⊥ = rw (before c) at b in
     let e′ : d ≡ latest (getD xs c 0) xs c = rw (before c) at e in
+    let no-after = same-no y (getD xs (cornerAfter c) 0) (λ q. a′ (sym q)) in
+    let no-before = same-no y (getD xs (cornerBefore c) 0) (λ q. b′ (sym q)) in
     rw (e′, i)
-    (still-latest xs c n x y (omega (arith, s .bound)) (sym (out-not x y xs c a′) ∙ s .leaves) (sym (into-not x y xs c b′) ∙ s .enters))
+    (still-latest xs c n x y (omega (arith, s .bound)) (omega (arith, out-here x y xs c i, no-after, s .leaves))
+    (omega (arith, into-here x y xs c i, no-before, s .enters)))
 
 still-after : (xs : List ℕ) (n x y c : ℕ) → Still xs n x y c → 0 < c → getD xs (cornerAfter (c - 1)) 0 ≡ y → 1 ≤ out x y xs n
 still-after xs n x y zero s h e = absurd (omega arith)
 still-after xs n x y (suc c) s h e =
     let i : getD xs c 0 ≡ x = rw (before c) at (s .has h) in
     let e′ : getD xs (cornerAfter c) 0 ≡ y = rw (before c) at e in
-    omega (arith, s .leaves, out-yes x y xs c i e′)
+    omega (arith, s .leaves, out-here x y xs c i, ap (same y) e′, same-yes y)
 
 still-before : (xs : List ℕ) (n x y c : ℕ) → Still xs n x y c → 0 < c → getD xs (cornerBefore (c - 1)) 0 ≡ y → 1 ≤ into x y xs n
 still-before xs n x y zero s h e = absurd (omega arith)
 still-before xs n x y (suc c) s h e =
     let i : getD xs c 0 ≡ x = rw (before c) at (s .has h) in
     let e′ : getD xs (cornerBefore c) 0 ≡ y = rw (before c) at e in
-    omega (arith, s .enters, into-yes x y xs c i e′)
+    omega (arith, s .enters, into-here x y xs c i, ap (same y) e′, same-yes y)
 
 still-none : (xs : List ℕ) (n x y c : ℕ) → Still xs n x y c → c ≤ 0 → (out x y xs n ≡ 0) × (into x y xs n ≡ 0)
-unfolding out into
-still-none xs n x y zero s h = (sym (s .leaves), sym (s .enters))
+still-none xs n x y zero s h = (sym (s .leaves) ∙ none-out x y xs, sym (s .enters) ∙ none-into x y xs)
 still-none xs n x y (suc c) s h = absurd (omega arith)
 
 -- the walk, whatever number of triangles the chains hold

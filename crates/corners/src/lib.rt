@@ -8,8 +8,7 @@ ghost use mathlib.Core.Path.{_≡_};
 ghost use lib.ListN.{length};
 ghost use Rattle.rules.specs.Limits.{maxNumbers, maxVertices};
 ghost use Rattle.mesh_theory.specs.Chains.Corner.{cornerAfter, cornerBefore, seenFrom};
-ghost use Rattle.mesh_theory.specs.Chains.Linked.{Chains, Finds, Newest, Older, linked, linkable, relinked, Sound, AllLinked};
-ghost use Rattle.mesh_theory.specs.Chains.Linked.{FreeIs, NewIs, UnjoinedIs};
+ghost use Rattle.mesh_theory.specs.Chains.Linked.{Chains, Finds, Newest, Older, linked, linkable, relinked, Sound, UnjoinedIs};
 
 // The chains of the corners of each vertex, the latest corner first: the entry of vertex v stands at v, that of corner c at
 // VERTICES + c. An entry is 1 more than a corner, or 0 for none. All zeros are the chains of no triangle.
@@ -132,17 +131,6 @@ pub fn link(chains: &mut Links, t: usize, p: u16, q: u16, r: u16)
     }
 }
 
-// Whether no triangle in the chains has p→q.
-pub fn is_free(list: &[u16], chains: &Links, p: u16, q: u16) -> bool
-    ensures { λ b. ⌜ FreeIs (now (list .entry)) (now (chains .entry)) p q b ⌝ }
-{
-    let a = across(list, chains, p, q);
-    match a {
-        Across::Found(_, _, _) => false,
-        Across::Nothing => true,
-    }
-}
-
 // Whether no triangle in the chains joins x and y, either way round: one that does has a corner at x, with y next to it.
 pub fn is_unjoined(list: &[u16], chains: &Links, x: u16, y: u16) -> bool
     ensures { λ b. ⌜ UnjoinedIs (now (list .entry)) (now (chains .entry)) x y b ⌝ }
@@ -161,23 +149,10 @@ pub fn is_unjoined(list: &[u16], chains: &Links, x: u16, y: u16) -> bool
     true
 }
 
-// Whether no triangle in the chains has a directed edge of the triangle p q r.
-fn is_new(list: &[u16], chains: &Links, p: u16, q: u16, r: u16) -> bool
-    ensures { λ b. ⌜ NewIs (now (list .entry)) (now (chains .entry)) p q r b ⌝ }
-{
-    if !is_free(list, chains, p, q) {
-        return false;
-    }
-    if !is_free(list, chains, q, r) {
-        return false;
-    }
-    is_free(list, chains, r, p)
-}
-
-// 5: no directed edge occurs twice. Links the triangles of the list, all of them if so, else those before the first at fault.
-pub fn link_all(list: &[u16], chains: &mut Links) -> bool
+// Links the triangles of the list, the last one last, to chains that hold none. Whether an edge occurs twice is not asked.
+pub fn link_each(list: &[u16], chains: &mut Links)
     requires { ⌜ Sound (now list) × Chains (now list) 0 (now chains) ⌝ }
-    ensures { λ b. ⌜ AllLinked (now (list .entry)) b (now (chains .exit)) ⌝ }
+    ensures { λ _. ⌜ Chains (now (list .entry)) (length (now (list .entry))) (now (chains .exit)) ⌝ }
 {
     let n = list.len() / 3;
     let mut t = 0;
@@ -185,11 +160,7 @@ pub fn link_all(list: &[u16], chains: &mut Links) -> bool
         let p = list[3 * t];
         let q = list[3 * t + 1];
         let r = list[3 * t + 2];
-        if !is_new(list, chains, p, q, r) {
-            return false;
-        }
         link(chains, t, p, q, r);
         t += 1;
     }
-    true
 }

@@ -1,1 +1,3 @@
 pub mod Noting
+pub mod Stamping
+pub mod Zeros

@@ -21,6 +21,7 @@ use Rattle.mesh_theory.specs.Chains.Turn.{leftBack, leftOn}
 use Rattle.mesh_theory.proofs.Chains.Walking.{lastWith, At, at-found, at-more, latest-with, Counting, counting-all}
 use Rattle.mesh_theory.proofs.Chains.Finding.{with-across, linked-first}
 use Rattle.mesh.specs.Turns.{noted, Fresh, Note, absent, present, Noted, AllNoted}
+use Rattle.mesh.proofs.Zeros.{same-all}
 
 -- what one note changes
 module _ (ns : List ℕ) (v y z : ℕ) where
@@ -222,11 +223,6 @@ module _ (xs cs : List ℕ) (linked : Linked xs cs) (v : ℕ) where
       go (present t i j q l) = absurd (s t)
 
 -- notes of zeros are about no vertex
-same-all : (n i z : ℕ) → getD (replicate n z) i z ≡ z
-same-all zero i z = refl
-same-all (suc n) zero z = refl
-same-all (suc n) (suc i) z = same-all n i z
-
 pub zeros-fresh : (n u : ℕ) → n ≡ 2 * maxVertices → Fresh (replicate n 0) u
 zeros-fresh n u l = (length-replicate n 0 ∙ l, λ y w e. absurd (omega (arith, e, same-all n (2 * y) 0)))
 

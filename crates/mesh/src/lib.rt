@@ -1,9 +1,11 @@
 // Triangle lists: why one is refused, 1 to 7. The meaning of the contracts stands in rules/specs/ and mesh_theory/specs/.
 pub mod fans; // 7 and 20
+mod once; // 5
 
 use crate::fans::all_fans;
+use crate::once::all_once;
 use corners::Links;
-use corners::link_all;
+use corners::link_each;
 use rules::CORNERS;
 use rules::Checked;
 use rules::VERTICES;
@@ -15,7 +17,8 @@ ghost use Rattle.rules.specs.Limits.{maxVertices, vertexRange};
 ghost use Rattle.rules.specs.Triangle.{tri, distinct, trianglesOf, corners};
 ghost use Rattle.rules.specs.Check.{allBelow, allDistinct, allUsed, checks};
 ghost use Rattle.rules.specs.Answer.{checkedAnswer};
-ghost use Rattle.mesh_theory.specs.Chains.Linked.{Chains, Sound, Linked};
+ghost use Rattle.mesh_theory.specs.Fans.Passing.{PassesFour};
+ghost use Rattle.mesh_theory.specs.Chains.Linked.{Chains, Linked};
 ghost use Rattle.mesh_theory.specs.Chains.Checks.{fitsSize, checkNumbers, checkChains, Answers};
 
 // 6: each vertex below v is in a triangle.
@@ -106,10 +109,11 @@ fn all_distinct(list: &[u16]) -> bool
 
 // 5 to 7.
 fn check_chains(v: usize, list: &[u16], chains: &mut Links) -> Checked
-    requires { ⌜ Sound (now list) × Chains (now list) 0 (now chains) × (v ≤ maxVertices) ⌝ }
+    requires { ⌜ PassesFour v (now list) × Chains (now list) 0 (now chains) ⌝ }
     ensures { λ r. ⌜ Answers (checkChains v (trianglesOf (now (list .entry)))) (now (list .entry)) r (now (chains .exit)) ⌝ }
 {
-    if !link_all(list, chains) {
+    link_each(list, chains);
+    if !all_once(list, chains, v) {
         return Checked::Refused(5);
     }
     if !all_used(chains, v) {

@@ -2,9 +2,9 @@
 pub mod Checking
 pub mod Fans
 pub mod Finding
+pub mod Leaving
 pub mod Linking
 pub mod Listing
-pub mod Once
 pub mod Order
 pub mod Prefix
 pub mod Turning

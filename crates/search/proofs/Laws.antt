@@ -1,20 +1,19 @@
 -- What linking and searching promise, one law for each way through.
 -- Assumes nothing.
-use Prim.Native.Nat.{ℕ, _+_, _*_, _/_, _≤_, _<_}
+use Prim.Native.Nat.{ℕ, _≤_, _<_}
 use native.Mathlib.Omega.{arith}
 use mathlib.Core.List.{List}
 use mathlib.Core.Path.{_≡_, refl, sym, ap, _∙_, subst}
-use lib.ListN.{length, getD}
+use lib.ListN.{length}
 use borrow.Author.Tests.{le-leb, lt-leb}
 use Rattle.rules.specs.declared.Across.{Across}
 use Rattle.rules.specs.declared.Checked.{Checked}
 use Rattle.rules.specs.declared.Checked.the-variants.{Accepted, Refused}
 use Rattle.rules.specs.Check.{check}
 use Rattle.mesh_theory.specs.Chains.Checks.{checkNumbers}
-use Rattle.mesh_theory.specs.Chains.Linked.{Chains, Sound, Finds, relinked}
+use Rattle.mesh_theory.specs.Chains.Linked.{Chains, Finds}
 use Rattle.mesh_theory.proofs.Fans.Checks.{four-passed}
 use Rattle.mesh_theory.proofs.Chains.Checking.{numbers-refuse, numbers-low, numbers-four}
-use Rattle.mesh_theory.proofs.Chains.Listing.{sound-linked}
 use Rattle.search.specs.Searching.{ofFour, LinkGives, told, foundIn, SearchGives}
 
 -- `ofFour` of a refusal of 1 to 4, and of any other answer
@@ -40,20 +39,6 @@ link-passed v xs cs cs′ h k = record {
   linked = λ e. k;
   kept = λ e. absurd (e refl);
 }
-
--- one triangle after the other
-pub record LinkedUpTo (xs : List ℕ) (t : ℕ) (cs : List ℕ) : Type 0 where
-  pub sound : Sound xs
-  pub chains : Chains xs (3 * t) cs
-
-pub up-to-more : {xs cs : List ℕ} (t : ℕ) → LinkedUpTo xs t cs → t < length xs / 3 → (cs′ : List ℕ)
-    → cs′ ≡ relinked cs t (getD xs (3 * t) 0) (getD xs (3 * t + 1) 0) (getD xs (3 * t + 2) 0) → LinkedUpTo xs (t + 1) cs′
-up-to-more t k h cs′ e = record { sound = k .sound; chains = sound-linked t (k .sound) h (k .chains) cs′ e }
-
-pub up-to-all : {xs cs : List ℕ} (t : ℕ) → LinkedUpTo xs t cs → length xs / 3 ≤ t → Chains xs (length xs) cs
-up-to-all {xs} {cs} t k h =
-    let e : 3 * t ≡ length xs = omega (arith, k .sound .long, k .chains .within) in
-    subst (λ (n : ℕ). Chains xs n cs) e (k .chains)
 
 -- an answer that is told
 pub searching : {xs cs : List ℕ} {x y : ℕ} (r a : Across) (before : List ℕ) → Finds xs cs x y r → r ≡ a

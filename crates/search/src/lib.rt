@@ -2,32 +2,13 @@
 // of edges. 5 to 7 are not tested. The contracts cite specs/Searching.antt.
 use corners::Links;
 use corners::across;
-use corners::link;
+use corners::link_each;
 use mesh::check_numbers;
 use rules::Across;
 use rules::CORNERS;
 use rules::Checked;
 use rules::VERTICES;
-ghost use lib.ListN.{length};
-ghost use Rattle.mesh_theory.specs.Chains.Linked.{Chains, Sound};
 ghost use Rattle.search.specs.Searching.{LinkGives, SearchGives};
-
-// Links each triangle of the list, the last one last. Unlike `link_all` of corners it does not ask whether an edge occurs twice.
-fn link_each(list: &[u16], links: &mut Links)
-    requires { ⌜ Sound (now list) ⌝ }
-    ensures { λ _. ⌜ Chains (now (list .entry)) (length (now (list .entry))) (now (links .exit)) ⌝ }
-{
-    *links = [0u16; VERTICES + CORNERS];
-    let n = list.len() / 3;
-    let mut t = 0;
-    while t < n {
-        let p = list[3 * t];
-        let q = list[3 * t + 1];
-        let r = list[3 * t + 2];
-        link(links, t, p, q, r);
-        t += 1;
-    }
-}
 
 // Links a list of a model of v vertices, for searching: refusals 1 to 4.
 #[no_mangle]
@@ -38,6 +19,7 @@ pub extern "C" fn cutborder_link(v: usize, list: &[u16], links: &mut Links) -> u
     match first {
         Checked::Refused(n) => n as u32,
         Checked::Accepted => {
+            *links = [0u16; VERTICES + CORNERS];
             link_each(list, links);
             0
         }

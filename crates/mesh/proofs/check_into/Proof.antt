@@ -1,8 +1,8 @@
--- `mesh::check_into` meets its contract: 1 to 4, then 5 to 7; a list that passes 1 to 4 can be linked.
+-- `mesh::check_into` meets its contract: 1 to 4, then 5 to 7.
 -- Assumes nothing.
 use mathlib.Core.Path.{sym, _∙_}
 use borrow.Author.Needs.{needs}
-use Rattle.mesh_theory.proofs.Chains.Checking.{numbers-refuse, numbers-pass, numbers-four, four-most, four-sound, answers-no, answers-on}
+use Rattle.mesh_theory.proofs.Chains.Checking.{numbers-refuse, numbers-pass, numbers-four, answers-no, answers-on}
 use Rattle.mesh.proofs.check_into.Statement.{statement}
 use Rattle.mesh.proofs.check_into.Tie as tie
 
@@ -19,8 +19,7 @@ check-chains-requires : tie.Need-check-chains-requires
 check-chains-requires c κs =
     let t = c .before in
     let k = t .before .before in
-    let p = numbers-four _ _ (sym (k .check-numbers .ensures) ∙ t .enum-told .given .1) in
-    (four-sound p, k .before .before .pre, four-most p)
+    (numbers-four _ _ (sym (k .check-numbers .ensures) ∙ t .enum-told .given .1), k .before .before .pre)
 
 returns : tie.Need-returns
 returns c =

@@ -4,17 +4,17 @@ use Prim.Native.Nat.{ℕ, _*_, _/_, _%_, _≤_, _<_}
 use native.Mathlib.Omega.{arith}
 use mathlib.Core.Bool.{Bool, true, false, _&&_, not}
 use mathlib.Core.List.{List}
-use mathlib.Core.Path.{_≡_, refl, sym, ap, _∙_}
+use mathlib.Core.Path.{_≡_, refl, sym, ap, _∙_, subst}
 use lib.ListN.{length}
 use lib.Dec.{eqb, leb}
 use borrow.Author.Tests.{leb-true, le-leb, lt-leb, not-true, not-false}
 use Rattle.rules.specs.declared.Checked.{Checked}
 use Rattle.rules.specs.declared.Checked.the-variants.{Accepted, Refused}
 use Rattle.rules.specs.Limits.{maxNumbers, minVertices, maxVertices, between, vertexRange}
-use Rattle.rules.specs.Triangle.{trianglesOf}
-use Rattle.rules.specs.Check.{allBelow, allDistinct, passes, checkTriangles, check}
+use Rattle.rules.specs.Triangle.{trianglesOf, edgesOf}
+use Rattle.rules.specs.Check.{allBelow, allDistinct, noneTwice, passes, checkTriangles, check}
 use Rattle.mesh_theory.specs.Fans.Passing.{firstFour, tested, PassesFour}
-use Rattle.mesh_theory.specs.Chains.Linked.{Sound}
+use Rattle.mesh_theory.specs.Chains.Linked.{Chains, Sound, Linked}
 use Rattle.mesh_theory.specs.Chains.Checks.{fitsSize, checkNumbers, checkChains, Answers}
 use Rattle.mesh_theory.proofs.Fans.Checks.{tested-accepted, tested-number, fits-thirds}
 use Rattle.mesh_theory.proofs.Chains.Listing.{below-each}
@@ -132,3 +132,10 @@ four-sound {v} {xs} p =
       below = λ n h. omega (arith, below-each v xs (p .below) n h);
       distinct = p .distinct;
     }
+
+-- .. and, once linked, where no directed edge occurs twice, it can be looked up in
+pub all-linked : {v : ℕ} {xs cs : List ℕ} → PassesFour v xs → Chains xs (length xs) cs → (b : Bool)
+    → b ≡ noneTwice (edgesOf (trianglesOf xs)) → not b ≡ false → Linked xs cs
+all-linked {v} {xs} {cs} p k b e n =
+    let s = four-sound p in
+    record { sound = s; once = sym e ∙ not-false b n; chains = subst (λ (m : ℕ). Chains xs m cs) (s .long) k }

@@ -2,25 +2,18 @@
 -- Assumes nothing.
 use Prim.Native.Nat.{ℕ, zero, suc, _+_, _*_, _/_, _≤_, _<_}
 use native.Mathlib.Omega.{arith}
-use mathlib.Core.Bool.{Bool, true, false, _&&_, not, true≢false}
+use mathlib.Core.Bool.{Bool, true, false, _&&_, not}
 use mathlib.Core.List.{List, [], _∷_}
 use mathlib.Core.Path.{_≡_, refl, sym, ap, _∙_, subst}
 use lib.ListN.{length, getD, drop, drop-of-length-le}
 use lib.Seq.{drop-cons}
 use lib.Dec.{eqb, ltb}
 use borrow.Author.Tests.{eq-eqb, ne-eqb, ltb-true, lt-ltb, le-ltb, not-true, not-false}
-use Rattle.rules.specs.declared.Triangle.{Triangle}
-use Rattle.rules.specs.Triangle.{tri, distinct, trianglesOf, edgesOf}
-use Rattle.rules.specs.Check.{allBelow, allDistinct, noneTwice}
-use Rattle.mesh_theory.specs.Fans.Corner.{Different}
-use Rattle.mesh_theory.proofs.Fans.Tests.{all-distinct}
-use Rattle.mesh_theory.specs.Chains.Corner.{firstTriangles, triangleAt, isNew}
-use Rattle.mesh_theory.specs.Chains.Linked.{Chains, NewIs, Sound, AllLinked, relinked}
-use Rattle.mesh_theory.proofs.Chains.Prefix.{first-all}
-use Rattle.mesh_theory.proofs.Chains.Walking.{after-first, before-first}
+use Rattle.rules.specs.Triangle.{tri, distinct, trianglesOf}
+use Rattle.rules.specs.Check.{allBelow, allDistinct}
+use Rattle.mesh_theory.specs.Chains.Corner.{triangleAt}
+use Rattle.mesh_theory.specs.Chains.Linked.{Chains, Sound, relinked}
 use Rattle.mesh_theory.proofs.Chains.Linking.{triangle-linked}
-use Rattle.mesh_theory.proofs.Chains.Once.{once-more, once-not, once-none}
-use Rattle.mesh_theory.proofs.Chains.Fans.{corner-in}
 use Rattle.counting.proofs.Bools.{and-left, and-right, and-no, and-yes}
 
 -- 3: u tells whether the first i numbers are below v
@@ -112,72 +105,23 @@ module _ (xs : List ℕ) (t : ℕ) (same : allDistinct (trianglesOf (drop (3 * t
   unfolding allDistinct trianglesOf
   distinct-all h = sym (ap (λ (ys : List ℕ). allDistinct (trianglesOf ys)) (drop-of-length-le xs h)) ∙ same
 
--- the linking of a whole list: its first t triangles are linked, and no directed edge occurs twice among them
-pub record Linking (xs : List ℕ) (t : ℕ) (cs : List ℕ) : Type 0 where
-  pub sound : Sound xs
-  pub upto : 3 * t ≤ length xs
-  pub chains : Chains xs (3 * t) cs
-  pub once : noneTwice (edgesOf (firstTriangles t xs)) ≡ true
-
-pub linking-none : {xs cs : List ℕ} → Sound xs → Chains xs 0 cs → Linking xs 0 cs
-linking-none {xs} s k = record { sound = s; upto = omega arith; chains = k; once = once-none xs }
-
-pub sound-differs : {xs : List ℕ} (t : ℕ) → Sound xs → t < length xs / 3
-    → Different (getD xs (3 * t) 0) (getD xs (3 * t + 1) 0) (getD xs (3 * t + 2) 0)
-sound-differs {xs} t s h =
-    let m = length xs / 3 in
-    let i = corner-in xs m (3 * t) (omega (arith, s .long)) (omega arith) in
-    let d = all-distinct (firstTriangles m xs) .0 (ap allDistinct (first-all m xs (s .long)) ∙ s .distinct) _ _ _ i in
-    rw (after-first t, before-first t) at d
-
--- one triangle more is linked
-pub sound-linked : {xs cs : List ℕ} (t : ℕ) → Sound xs → t < length xs / 3 → Chains xs (3 * t) cs → (cs′ : List ℕ)
+-- the linking of a whole list, one triangle after the other
+sound-linked : {xs cs : List ℕ} (t : ℕ) → Sound xs → t < length xs / 3 → Chains xs (3 * t) cs → (cs′ : List ℕ)
     → cs′ ≡ relinked cs t (getD xs (3 * t) 0) (getD xs (3 * t + 1) 0) (getD xs (3 * t + 2) 0) → Chains xs (3 * (t + 1)) cs′
 sound-linked {xs} {cs} t s h k cs′ e =
     let below = s .below in
     triangle-linked xs t cs k (omega (arith, s .long)) _ _ _ refl refl refl (omega (arith, s .most)) (below (3 * t) (omega arith))
     (below (3 * t + 1) (omega arith)) (below (3 * t + 2) (omega arith)) cs′ e
 
-module _ {xs cs : List ℕ} (t : ℕ) (k : Linking xs t cs) (more : t < length xs / 3) where
-  fits : 3 * t + 3 ≤ length xs
-  fits = omega (arith, k .sound .long)
+pub record LinkedUpTo (xs : List ℕ) (t : ℕ) (cs : List ℕ) : Type 0 where
+  pub sound : Sound xs
+  pub chains : Chains xs (3 * t) cs
 
-  is-new : (b : Bool) → NewIs xs cs (getD xs (3 * t) 0) (getD xs (3 * t + 1) 0) (getD xs (3 * t + 2) 0) b
-      → b ≡ isNew (firstTriangles t xs) (triangleAt xs t)
-  is-new b h = h t (k .chains) (sound-differs t (k .sound) more)
+pub up-to-more : {xs cs : List ℕ} (t : ℕ) → LinkedUpTo xs t cs → t < length xs / 3 → (cs′ : List ℕ)
+    → cs′ ≡ relinked cs t (getD xs (3 * t) 0) (getD xs (3 * t + 1) 0) (getD xs (3 * t + 2) 0) → LinkedUpTo xs (t + 1) cs′
+up-to-more t k h cs′ e = record { sound = k .sound; chains = sound-linked t (k .sound) h (k .chains) cs′ e }
 
-  pub linking-more : (b : Bool) → NewIs xs cs (getD xs (3 * t) 0) (getD xs (3 * t + 1) 0) (getD xs (3 * t + 2) 0) b
-      → not b ≡ false
-      → (cs′ : List ℕ) → cs′ ≡ relinked cs t (getD xs (3 * t) 0) (getD xs (3 * t + 1) 0) (getD xs (3 * t + 2) 0)
-      → Linking xs (t + 1) cs′
-  linking-more b h n cs′ e =
-      let new = sym (is-new b h) ∙ not-false b n in
-      let s = k .sound in
-      let f = fits in
-      let u : suc t ≡ t + 1 = omega arith in
-      record {
-        sound = s;
-        upto = omega arith;
-        chains = sound-linked t s more (k .chains) cs′ e;
-        once =
-            subst (λ (n : ℕ). noneTwice (edgesOf (firstTriangles n xs)) ≡ true) u
-            (once-more xs t fits new (sound-differs t s more) (k .once));
-      }
-
-  pub linking-not : (b : Bool) → NewIs xs cs (getD xs (3 * t) 0) (getD xs (3 * t + 1) 0) (getD xs (3 * t + 2) 0) b → not b ≡ true
-      → (cs′ : List ℕ) → AllLinked xs false cs′
-  linking-not b h n cs′ = record {
-    answer = once-not xs t fits (sym (is-new b h) ∙ not-true b n);
-    chained = λ e. absurd (true≢false (sym e));
-  }
-
-pub linking-all : {xs cs : List ℕ} (t : ℕ) → Linking xs t cs → length xs / 3 ≤ t → AllLinked xs true cs
-linking-all {xs} {cs} t k h =
-    let s = k .sound in
-    let e : t ≡ length xs / 3 = omega (arith, s .long, k .upto) in
-    let o : noneTwice (edgesOf (trianglesOf xs)) ≡ true =
-    subst (λ (ts : List Triangle). noneTwice (edgesOf ts) ≡ true) (first-all t xs (omega (arith, s .long))) (k .once) in
-    record {
-      answer = sym o;
-      chained = λ i. record { sound = s; once = o; chains = subst (λ (n : ℕ). Chains xs (3 * n) cs) e (k .chains) };
-    }
+pub up-to-all : {xs cs : List ℕ} (t : ℕ) → LinkedUpTo xs t cs → length xs / 3 ≤ t → Chains xs (length xs) cs
+up-to-all {xs} {cs} t k h =
+    let e : 3 * t ≡ length xs = omega (arith, k .sound .long, k .chains .within) in
+    subst (λ (n : ℕ). Chains xs n cs) e (k .chains)

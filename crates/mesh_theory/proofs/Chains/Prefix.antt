@@ -3,8 +3,8 @@
 use Prim.Native.Nat.{ℕ, zero, suc, _+_, _*_, _/_, _≤_}
 use native.Mathlib.Omega.{arith}
 use mathlib.Core.List.{List, [], _∷_, _++_}
-use mathlib.Core.Path.{_≡_, refl, sym, ap, _∙_}
-use lib.ListN.{length, getD, take, drop, length-append, take-append-drop}
+use mathlib.Core.Path.{_≡_, refl, ap, _∙_}
+use lib.ListN.{length, getD, take, drop, length-append}
 use lib.Seq.{take-add, drop-cons, length-take-le, take-all}
 use Rattle.rules.specs.declared.Triangle.{Triangle}
 use Rattle.rules.specs.Triangle.{tri, trianglesOf, corners, edgesOf}
@@ -79,20 +79,6 @@ pub occurs-append : (v : ℕ) (ts us : List Triangle)
 unfolding occurs corners
 occurs-append v [] us = omega arith
 occurs-append v (t ∷ ts) us = omega (arith, occurs-append v ts us)
-
--- the rest of the triangles stand after the first
-pub first-rest : (n : ℕ) (xs : List ℕ) → 3 * n ≤ length xs → firstTriangles n xs ++ trianglesOf (drop (3 * n) xs) ≡ trianglesOf xs
-first-rest n xs h =
-    sym (triangles-append n (take (3 * n) xs) (drop (3 * n) xs) (length-take-le (3 * n) xs h)) ∙ ap trianglesOf
-    (take-append-drop (3 * n) xs)
-
-pub first-uses : (x y n : ℕ) (xs : List ℕ) → 3 * n ≤ length xs → uses x y (firstTriangles n xs) ≤ uses x y (trianglesOf xs)
-first-uses x y n xs h =
-    omega (
-      arith,
-      uses-append x y (firstTriangles n xs) (trianglesOf (drop (3 * n) xs)),
-      ap (λ (ts : List Triangle). uses x y ts) (first-rest n xs h),
-    )
 
 pub uses-more : (x y n : ℕ) (xs : List ℕ) → 3 * n + 3 ≤ length xs
     → uses x y (firstTriangles (suc n) xs) ≡ uses x y (firstTriangles n xs) + uses x y (triangleAt xs n ∷ [])

@@ -1,7 +1,7 @@
 -- Corners of a list of numbers: corner c is position c, of triangle c / 3. What is found by going down from a corner.
 -- Assumes nothing.
 use Prim.Native.Nat.{ℕ, zero, suc, _+_, _*_, _-_, _/_, _%_}
-use mathlib.Core.Bool.{Bool, true, false, _&&_}
+use mathlib.Core.Bool.{true, false}
 use mathlib.Core.List.{List}
 use lib.ListN.{getD, take}
 use lib.Dec.{eqb}
@@ -9,7 +9,6 @@ use Rattle.rules.specs.declared.Triangle.{Triangle}
 use Rattle.rules.specs.declared.Across.{Across}
 use Rattle.rules.specs.declared.Across.the-variants.{Found}
 use Rattle.rules.specs.Triangle.{tri, trianglesOf}
-use Rattle.rules.specs.Count.{uses}
 
 -- the corner after c in its triangle, and the one before
 unfoldable pub cornerAfter : ℕ → ℕ
@@ -38,11 +37,3 @@ degree v xs (suc c) = elim (eqb (getD xs c 0) v) [ true ↦ suc (degree v xs c) 
 -- the triangle of corner c, seen across the directed edge that leaves that corner
 unfoldable pub seenFrom : List ℕ → ℕ → Across
 seenFrom xs c = Found (c / 3) (cornerBefore c % 3) (getD xs (cornerBefore c) 0)
-
--- none of the triangles has x→y
-unfoldable pub isFree : ℕ → ℕ → List Triangle → Bool
-isFree x y ts = eqb (uses x y ts) 0
-
--- none of them has one of t's directed edges
-unfoldable pub isNew : List Triangle → Triangle → Bool
-isNew ts t = isFree (t .p) (t .q) ts && (isFree (t .q) (t .r) ts && isFree (t .r) (t .p) ts)

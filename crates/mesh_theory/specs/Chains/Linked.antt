@@ -11,14 +11,13 @@ use lib.Dec.{ltb}
 use Rattle.rules.specs.declared.Across.{Across}
 use Rattle.rules.specs.declared.Across.the-variants.{Nothing}
 use Rattle.rules.specs.Limits.{maxNumbers, maxTriangles, maxVertices}
-use Rattle.rules.specs.Triangle.{tri, trianglesOf, edgesOf}
+use Rattle.rules.specs.Triangle.{trianglesOf, edgesOf}
 use Rattle.rules.specs.Count.{unjoined}
 use Rattle.rules.specs.Across.{across}
 use Rattle.rules.specs.Check.{allDistinct, noneTwice}
-use Rattle.mesh_theory.specs.Fans.Corner.{Different}
 use Rattle.mesh_theory.specs.Fans.Passing.{PassesFour}
 use Rattle.mesh_theory.specs.Fans.Search.{Searched}
-use Rattle.mesh_theory.specs.Chains.Corner.{firstTriangles, latest, degree, isFree, isNew}
+use Rattle.mesh_theory.specs.Chains.Corner.{firstTriangles, latest, degree}
 
 -- how many entries the array has
 abbrev pub room : ℕ
@@ -67,13 +66,6 @@ pub record Finds (xs cs : List ℕ) (x y : ℕ) (r : Across) : Type 0 where
   pub found : (n : ℕ) → Chains xs (3 * n) cs → (x ≡ y → ⊥) → r ≡ across x y (firstTriangles n xs)
   pub searched : (v : ℕ) → PassesFour v xs → Chains xs (length xs) cs → Searched xs x y r
 
--- b tells whether x→y, or each directed edge of the triangle p q r, is free among the triangles that the chains hold
-abbrev pub FreeIs : List ℕ → List ℕ → ℕ → ℕ → Bool → Type 0
-FreeIs xs cs x y b = (n : ℕ) → Chains xs (3 * n) cs → (x ≡ y → ⊥) → b ≡ isFree x y (firstTriangles n xs)
-
-abbrev pub NewIs : List ℕ → List ℕ → ℕ → ℕ → ℕ → Bool → Type 0
-NewIs xs cs p q r b = (n : ℕ) → Chains xs (3 * n) cs → Different p q r → b ≡ isNew (firstTriangles n xs) (tri p q r)
-
 -- b tells, among the triangles that the chains hold, whether x and y are not joined
 abbrev pub UnjoinedIs : List ℕ → List ℕ → ℕ → ℕ → Bool → Type 0
 UnjoinedIs xs cs x y b = (n : ℕ) → Chains xs (3 * n) cs → (x ≡ y → ⊥) → b ≡ unjoined x y (edgesOf (firstTriangles n xs))
@@ -94,8 +86,3 @@ pub record Linked (xs cs : List ℕ) : Type 0 where
   pub sound : Sound xs
   pub once : noneTwice (edgesOf (trianglesOf xs)) ≡ true
   pub chains : Chains xs (3 * (length xs / 3)) cs
-
--- r tells whether no directed edge of the list occurs twice; if so, cs holds its chains
-pub record AllLinked (xs : List ℕ) (r : Bool) (cs : List ℕ) : Type 0 where
-  pub answer : r ≡ noneTwice (edgesOf (trianglesOf xs))
-  pub chained : r ≡ true → Linked xs cs

@@ -1,8 +1,10 @@
--- `search::cutborder_link` meets its contract: a refusal leaves the links, and a list that passes 1 to 4 can be linked.
+-- `search::cutborder_link` meets its contract: a refusal leaves the links, and a list that passes 1 to 4 can be linked; zeros are
+-- the chains of no triangle.
 -- Assumes nothing.
-use mathlib.Core.Path.{sym, _∙_}
+use mathlib.Core.Path.{refl, sym, _∙_}
 use borrow.Author.Needs.{needs}
 use Rattle.mesh_theory.proofs.Chains.Checking.{numbers-four, four-sound}
+use Rattle.mesh_theory.proofs.Chains.Linking.{zeros-none}
 use Rattle.search.proofs.Laws.{link-refused, link-passed}
 use Rattle.search.proofs.cutborder_link.Statement.{statement}
 use Rattle.search.proofs.cutborder_link.Tie as tie
@@ -21,8 +23,10 @@ enum-told c = search needs
 
 link-each-requires : tie.Need-link-each-requires
 link-each-requires c κs =
-    let t = c .before in
-    four-sound (numbers-four _ _ (sym (t .before .before .check-numbers .ensures) ∙ t .enum-told .given .1))
+    let t = c .before .before in (
+      four-sound (numbers-four _ _ (sym (t .before .before .check-numbers .ensures) ∙ t .enum-told .given .1)),
+      zeros-none _ _ refl,
+    )
 
 returns : tie.Need-returns
 returns c =
@@ -31,7 +35,7 @@ returns c =
 
 returns-2 : tie.Need-returns-2
 returns-2 c =
-    let t = c .before .before in
+    let t = c .before .before .before in
     link-passed _ _ _ _ (sym (t .before .before .check-numbers .ensures) ∙ t .enum-told .given .1) (c .link-each .ensures)
 
 pub cutborder-link-spec : {M : Type 1} → statement M

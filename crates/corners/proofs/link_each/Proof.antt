@@ -1,23 +1,23 @@
--- `mesh::link_all` meets its contract.
--- The loop's invariant: the first t triangles are linked, and no directed edge occurs twice among them. The measure is what is left of n.
+-- `corners::link_each` meets its contract.
+-- The loop's invariant: the first t triangles are linked. The measure is what is left of n.
 -- Assumes nothing.
 use Prim.Native.Nat.{_-_, _/_}
 use native.Mathlib.Omega.{arith}
 use mathlib.Core.Path.{_≡_, refl}
 use lib.ListN.{length}
 use borrow.Author.Needs.{needs}
-use Rattle.mesh_theory.proofs.Chains.Listing.{Linking, linking-none, linking-more, linking-not, linking-all}
-use Rattle.corners.proofs.link_all.Statement.{statement}
-use Rattle.corners.proofs.link_all.Tie as tie
+use Rattle.mesh_theory.proofs.Chains.Listing.{LinkedUpTo, up-to-more, up-to-all}
+use Rattle.corners.proofs.link_each.Statement.{statement}
+use Rattle.corners.proofs.link_each.Tie as tie
 
 abbrev Inv-loop : tie.InvT-loop
-Inv-loop list chains₀ n t₀ chains t = (n ≡ length list / 3) × Linking list t chains
+Inv-loop list chains₀ n t₀ chains t = (n ≡ length list / 3) × LinkedUpTo list t chains
 
 abbrev μ-loop : tie.MeasureT-loop
 μ-loop list chains₀ n t₀ chains t = n - t
 
 loop-holds : tie.Need-loop-holds Inv-loop μ-loop
-loop-holds c = (refl, linking-none (c .before .pre .0) (c .before .pre .1))
+loop-holds c = (refl, record { sound = c .before .pre .0; chains = c .before .pre .1 })
 
 mul-p : tie.Need-mul-p Inv-loop μ-loop
 mul-p c = omega arith
@@ -52,15 +52,6 @@ mul-r-2 c = omega arith
 shared-slice-read-r : tie.Need-shared-slice-read-r Inv-loop μ-loop
 shared-slice-read-r c = omega arith
 
-is-new-requires : tie.Need-is-new-requires Inv-loop μ-loop
-is-new-requires c κs = search needs
-
-returns : tie.Need-returns Inv-loop μ-loop
-returns c =
-    let k = c .before in
-    let b = k .before .before .before .before .before in
-    linking-not _ (b .before .loop .inv .1) (search needs) _ (k .is-new .ensures) (c .if1 .taken) _
-
 link-requires : tie.Need-link-requires Inv-loop μ-loop
 link-requires c κs = search needs
 
@@ -72,19 +63,15 @@ loop-less c = omega arith
 
 loop-again : tie.Need-loop-again Inv-loop μ-loop
 loop-again c =
-    let l = c .before .before in
-    let k = l .before in
-    let b = k .before .before .before .before .before in (
-      b .before .loop .inv .0,
-      linking-more _ (b .before .loop .inv .1) (search needs) _ (k .is-new .ensures) (l .if1 .left) _
-          (c .link .ensures),
-    )
+    let b = c .before .before .before .before .before in
+    let i = b .before .loop .inv in
+    (i .0, up-to-more _ (i .1) (search needs) _ (c .link .ensures))
 
-returns-2 : tie.Need-returns-2 Inv-loop μ-loop
-returns-2 c = linking-all _ (c .before .loop .inv .1) (search needs)
+returns : tie.Need-returns Inv-loop μ-loop
+returns c = up-to-all _ (c .before .loop .inv .1) (search needs)
 
-pub link-all-spec : {M : Type 1} → statement M
-link-all-spec =
+pub link-each-spec : {M : Type 1} → statement M
+link-each-spec =
     tie.close
     (tie.spec
     Inv-loop
@@ -101,10 +88,8 @@ link-all-spec =
     add-r
     mul-r-2
     shared-slice-read-r
-    is-new-requires
-    returns
     link-requires
     add-t
     loop-less
     loop-again
-    returns-2)
+    returns)
