@@ -1,38 +1,36 @@
-// 7 and 20: turning about a vertex, to see whether its triangles form one fan.
+// 7 and 20: turning about a vertex, to see whether its triangles form one fan. Its corners are noted first, so that turning searches
+// nothing.
 use corners::Links;
-use corners::across;
 use corners::corner_after;
 use corners::corner_before;
 use corners::newest;
 use corners::older;
-use rules::Across;
 use rules::VERTICES;
 ghost use Prim.Native.Nat.{_+_, _*_, _≤_, _<_};
+ghost use mathlib.Core.List.{List};
 ghost use mathlib.Core.Path.{_≡_};
+ghost use Rattle.rules.specs.declared.Triangle.{Triangle};
 ghost use Rattle.rules.specs.Limits.{maxVertices};
 ghost use Rattle.rules.specs.Triangle.{trianglesOf};
 ghost use Rattle.rules.specs.Fan.{about, oneRun, oneFanEach};
 ghost use Rattle.mesh_theory.specs.Chains.Linked.{Newest, Linked};
 ghost use Rattle.mesh_theory.specs.Chains.Turn.{leftOn, leftBack};
-ghost use Rattle.mesh.specs.Turns.{noted, Fresh, Noted, AllNoted, UnmetAt, Unmet};
+ghost use Rattle.mesh.specs.Turns.{noted, Fresh, Within, Noted, AllNoted, UnmetAt, Unmet};
 
-// Notes for turning about a vertex: at 2y, 1 more than the vertex v about which y was noted last; at 2y + 1 the third vertex of the
-// triangle that has v→y.
-type Notes = [u16; 2 * VERTICES];
+// Notes for turning about a vertex: note j stands at 2j, 1 more than the vertex v about which it was written last, and at 2j + 1, the
+// third vertex of the triangle that has an edge at v. Note 2y is of v→y, note 2y + 1 of y→v.
+type Notes = [u16; 4 * VERTICES];
 
 // The vertices whose fans are to be tested: the entry of vertex v stands at v, and is 0 where its triangles are known to form one fan.
 pub type Met = [u16; VERTICES];
 
-// Notes z as the third vertex at v→y, unless one is noted.
-fn note(notes: &mut Notes, v: u16, y: u16, z: u16)
-    requires { ⌜ (v < maxVertices) × (y < maxVertices) ⌝ }
-    ensures { λ _. ⌜ now (notes .exit) ≡ noted (now (notes .entry)) v y z ⌝ }
+// Writes z into note j about v.
+fn note(notes: &mut Notes, v: u16, j: usize, z: u16)
+    requires { ⌜ (v < maxVertices) × (j < 2 * maxVertices) ⌝ }
+    ensures { λ _. ⌜ now (notes .exit) ≡ noted (now (notes .entry)) v j z ⌝ }
 {
-    if notes[2 * (y as usize)] == v + 1 {
-        return;
-    }
-    notes[2 * (y as usize)] = v + 1;
-    notes[2 * (y as usize) + 1] = z;
+    notes[2 * j] = v + 1;
+    notes[2 * j + 1] = z;
 }
 
 // Notes all triangles about v, whose chain begins at the entry c: how many they are.
@@ -46,37 +44,36 @@ fn note_all(list: &[u16], chains: &Links, notes: &mut Notes, v: u16, c: usize) -
     while 0 < d {
         let y = list[corner_after(d - 1)];
         let z = list[corner_before(d - 1)];
-        note(notes, v, y, z);
+        note(notes, v, 2 * (y as usize), z);
+        note(notes, v, 2 * (z as usize) + 1, y);
         n += 1;
         d = older(chains, d - 1);
     }
     n
 }
 
-// How many of n triangles about v are left after turning back from the edge x→v as far as it goes.
-fn turn_back(list: &[u16], chains: &Links, v: u16, x: u16, n: usize) -> usize
-    requires { ⌜ Linked (now list) (now chains) × (x ≡ v → ⊥) ⌝ }
-    ensures { λ r. ⌜ r ≡ leftBack (trianglesOf (now (list .entry))) v x n ⌝ }
+// How many of n triangles about v are left after turning back by the notes from the edge x→v as far as it goes.
+fn turn_back(notes: &Notes, v: u16, x: u16, n: usize) -> usize
+    requires { ⌜ (v < maxVertices) × (x < maxVertices) × Within (now notes) v ⌝ }
+    ensures { λ r. ⌜ ((ts : List Triangle) → Noted ts v (now (notes .entry)) → r ≡ leftBack ts v x n) ⌝ }
 {
     let mut left = n;
     let mut from = x;
     while 0 < left {
-        let a = across(list, chains, from, v);
-        let Across::Found(_, _, z) = a else {
+        let j = 2 * (from as usize) + 1;
+        if notes[2 * j] != v + 1 {
             return left;
-        };
-        from = z;
+        }
+        from = notes[2 * j + 1];
         left -= 1;
     }
     left
 }
 
-// The same after turning on from the edge v→y by the notes: a closed fan comes round to x; where an open one ends, it turns back
-// from x.
-fn turn_on(list: &[u16], chains: &Links, notes: &Notes, v: u16, x: u16, y: u16, n: usize) -> usize
-    requires { ⌜ Linked (now list) (now chains) × Noted (now list) v (now notes) × (v < maxVertices) × (y < maxVertices) ⌝ }
-    requires { ⌜ (v ≡ x → ⊥) × (v ≡ y → ⊥) ⌝ }
-    ensures { λ r. ⌜ r ≡ leftOn (trianglesOf (now (list .entry))) v x y n ⌝ }
+// The same after turning on from the edge v→y: a closed fan comes round to x; where an open one ends, it turns back from x.
+fn turn_on(notes: &Notes, v: u16, x: u16, y: u16, n: usize) -> usize
+    requires { ⌜ (v < maxVertices) × (x < maxVertices) × (y < maxVertices) × Within (now notes) v ⌝ }
+    ensures { λ r. ⌜ ((ts : List Triangle) → Noted ts v (now (notes .entry)) → r ≡ leftOn ts v x y n) ⌝ }
 {
     let mut left = n;
     let mut to = y;
@@ -84,10 +81,11 @@ fn turn_on(list: &[u16], chains: &Links, notes: &Notes, v: u16, x: u16, y: u16, 
         if to == x {
             return left;
         }
-        if notes[2 * (to as usize)] != v + 1 {
-            return turn_back(list, chains, v, x, left);
+        let j = 2 * (to as usize);
+        if notes[2 * j] != v + 1 {
+            return turn_back(notes, v, x, left);
         }
-        to = notes[2 * (to as usize) + 1];
+        to = notes[2 * j + 1];
         left -= 1;
     }
     left
@@ -106,7 +104,7 @@ fn is_fan(list: &[u16], chains: &Links, notes: &mut Notes, v: u16) -> bool
     let n = note_all(list, chains, notes, v, c);
     let x = list[corner_after(c - 1)];
     let y = list[corner_before(c - 1)];
-    turn_on(list, chains, notes, v, x, y, n - 1) == 0
+    turn_on(notes, v, x, y, n - 1) == 0
 }
 
 // 7: no vertex below v has more than one fan.
@@ -114,7 +112,7 @@ pub fn all_fans(list: &[u16], chains: &Links, v: usize) -> bool
     requires { ⌜ Linked (now list) (now chains) × (v ≤ maxVertices) ⌝ }
     ensures { λ b. ⌜ b ≡ oneFanEach v (trianglesOf (now (list .entry))) ⌝ }
 {
-    let mut notes = [0u16; 2 * VERTICES];
+    let mut notes = [0u16; 4 * VERTICES];
     let mut u = v;
     while 0 < u {
         u -= 1;
@@ -144,7 +142,7 @@ pub fn met_fans(list: &[u16], chains: &Links, met: &Met, v: usize) -> bool
     requires { ⌜ Unmet (now list) (now met) v ⌝ }
     ensures { λ b. ⌜ b ≡ oneFanEach v (trianglesOf (now (list .entry))) ⌝ }
 {
-    let mut notes = [0u16; 2 * VERTICES];
+    let mut notes = [0u16; 4 * VERTICES];
     let mut u = v;
     while 0 < u {
         u -= 1;

@@ -10,7 +10,6 @@ use lib.ListN.{length, getD}
 use lib.Dec.{eqb, ltb}
 use borrow.Author.Tests.{eqb-true, eqb-false, eq-eqb, ne-eqb, ltb-true, ltb-false, not-true, not-false}
 use Rattle.rules.specs.declared.Triangle.{Triangle}
-use Rattle.rules.specs.declared.Across.{Across}
 use Rattle.rules.specs.declared.Across.the-variants.{Found, Nothing}
 use Rattle.rules.specs.Limits.{maxVertices}
 use Rattle.rules.specs.Triangle.{Edge, edge, edgesOf, corners, trianglesOf, at-p, at-q, at-r, In, here, there}
@@ -21,15 +20,14 @@ use Rattle.rules.specs.Fan.{about, turnOn, turnBack, isNil, oneRun, oneFanEach,
 use Rattle.mesh_theory.specs.Fans.Ways.{total}
 use Rattle.mesh_theory.proofs.Fans.Counting.{length-total, hits, count-total}
 use Rattle.mesh_theory.proofs.Fans.OneRun.{chain-run, run-chained}
-use Rattle.mesh_theory.proofs.Fans.Tests.{all-distinct}
 use Rattle.mesh_theory.proofs.Fans.OneFan.{run-fan, any-order, one-fan}
 use Rattle.mesh_theory.proofs.Fans.About.{in-about}
-use Rattle.mesh_theory.proofs.Fans.Finding.{across-found, found-in, in-append}
+use Rattle.mesh_theory.proofs.Fans.Finding.{in-append}
 use Rattle.mesh_theory.specs.Chains.Corner.{cornerAfter, cornerBefore, firstTriangles, triangleAt, latest, degree}
-use Rattle.mesh_theory.specs.Chains.Linked.{Linked, Finds, Newest, CountsFrom}
+use Rattle.mesh_theory.specs.Chains.Linked.{Linked, Newest, CountsFrom}
 use Rattle.mesh_theory.specs.Chains.Turn.{leftBack, leftOn}
 use Rattle.mesh_theory.proofs.Chains.Prefix.{first-more}
-use Rattle.mesh_theory.proofs.Chains.Finding.{linked-first, linked-found}
+use Rattle.mesh_theory.proofs.Chains.Finding.{linked-first}
 use Rattle.mesh_theory.proofs.Chains.Walking.{after-first, after-second, after-third, before-first, before-second, before-third}
 use Rattle.mesh_theory.proofs.Chains.Walking.{latest-has, latest-below, latest-none, latest-some}
 use Rattle.mesh_theory.proofs.Chains.Used.{occurs-degree, used-none, used-here, used-not}
@@ -158,15 +156,6 @@ module _ (xs cs : List ℕ) (linked : Linked xs cs) where
       ap (λ (k : ℕ). eqb k 0) (g ∙ ap (λ (k : ℕ). leftOn (trianglesOf xs) v x y (k - 1)) (f ∙ all-degree v))
       ∙ run-left v (trianglesOf xs) (linked .sound .distinct) (linked .once) x y (corner-of v c h e)
 
-  -- the first triangle's other vertices are not v
-  pub corner-differs : (v c : ℕ) → 0 < c → c ≡ latest v xs (3 * (length xs / 3))
-      → (v ≡ getD xs (cornerAfter (c - 1)) 0 → ⊥) × (v ≡ getD xs (cornerBefore (c - 1)) 0 → ⊥)
-  corner-differs v c h e =
-      let d =
-      all-distinct (trianglesOf xs) .0 (linked .sound .distinct) v (getD xs (cornerAfter (c - 1)) 0)
-      (getD xs (cornerBefore (c - 1)) 0) (corner-of v c h e) in
-      (d .x-y, λ q. d .z-x (sym q))
-
   -- a vertex with an empty chain has no triangle about it
   pub fan-none : (v c : ℕ) → c ≡ 0 → c ≡ latest v xs (3 * (length xs / 3)) → true ≡ oneRun (about v (trianglesOf xs))
   unfolding oneRun
@@ -195,59 +184,45 @@ module _ (xs cs : List ℕ) (linked : Linked xs cs) where
       subst (λ (ts : List Triangle). true ≡ allUsed u (corners ts)) (linked-first xs cs linked)
       (sym (used-none xs (length xs / 3) (linked .chains .within) u h))
 
-  -- one look-up on, and one back
-  pub on-stop : (v x y n : ℕ) → 0 < n → y ≡ x → n ≡ leftOn (trianglesOf xs) v x y n
-  unfolding leftOn
-  on-stop v x y zero h e = absurd (omega arith)
-  on-stop v x y (suc n) h e = sym (rw (leftOn, eq-eqb y x e))
+-- one look-up on, and one back
+module _ (ts : List Triangle) (v x : ℕ) where
+  one-left : (n : ℕ) → suc n - 1 ≡ n
+  one-left n = omega arith
 
-  pub on-none : (v x y n : ℕ) → n ≤ 0 → n ≡ leftOn (trianglesOf xs) v x y n
+  pub on-none : (y n : ℕ) → n ≤ 0 → n ≡ leftOn ts v x y n
   unfolding leftOn
-  on-none v x y zero h = refl
-  on-none v x y (suc n) h = absurd (omega arith)
+  on-none y zero h = refl
+  on-none y (suc n) h = absurd (omega arith)
 
-  pub on-more : (v x y n : ℕ) (r : Across) (i j z : ℕ) → 0 < n → (y ≡ x → ⊥) → (v ≡ y → ⊥) → Finds xs cs v y r → r ≡ Found i j z
-      → (leftOn (trianglesOf xs) v x z (n - 1) ≡ leftOn (trianglesOf xs) v x y n) × (v ≡ z → ⊥)
+  pub on-stop : (y n : ℕ) → 0 < n → y ≡ x → n ≡ leftOn ts v x y n
   unfolding leftOn
-  on-more v x y zero r i j z h a b f e = absurd (omega arith)
-  on-more v x y (suc n) r i j z h a b f e =
-      let q : across v y (trianglesOf xs) ≡ Found i j z = sym (linked-found xs cs linked v y r f b) ∙ e in
-      let d =
-      all-distinct (trianglesOf xs) .0 (linked .sound .distinct) v y z
-      (found-in (trianglesOf xs) (across-found v y (trianglesOf xs) i j z q)) in
-      (ap (leftOn (trianglesOf xs) v x z) (before n) ∙ sym (rw (leftOn, ne-eqb y x a, q)), λ k. d .z-x (sym k))
+  on-stop y zero h e = absurd (omega arith)
+  on-stop y (suc n) h e = sym (rw (leftOn, eq-eqb y x e))
 
-  pub on-back : (v x y n : ℕ) (r : Across) (m : ℕ) → 0 < n → (y ≡ x → ⊥) → (v ≡ y → ⊥) → Finds xs cs v y r → r ≡ Nothing
-      → m ≡ leftBack (trianglesOf xs) v x n → m ≡ leftOn (trianglesOf xs) v x y n
+  pub on-more : (y n i j z : ℕ) → 0 < n → (y ≡ x → ⊥) → across v y ts ≡ Found i j z → leftOn ts v x z (n - 1) ≡ leftOn ts v x y n
   unfolding leftOn
-  on-back v x y zero r m h a b f e g = absurd (omega arith)
-  on-back v x y (suc n) r m h a b f e g =
-      let q : across v y (trianglesOf xs) ≡ Nothing = sym (linked-found xs cs linked v y r f b) ∙ e in
-      g ∙ sym (rw (leftOn, ne-eqb y x a, q))
+  on-more y zero i j z h d e = absurd (omega arith)
+  on-more y (suc n) i j z h d e = ap (leftOn ts v x z) (one-left n) ∙ sym (rw (leftOn, ne-eqb y x d, e))
 
-  pub back-none : (v x n : ℕ) → n ≤ 0 → n ≡ leftBack (trianglesOf xs) v x n
+  pub on-back : (y n r : ℕ) → 0 < n → (y ≡ x → ⊥) → across v y ts ≡ Nothing → r ≡ leftBack ts v x n → r ≡ leftOn ts v x y n
+  unfolding leftOn
+  on-back y zero r h d e k = absurd (omega arith)
+  on-back y (suc n) r h d e k = k ∙ sym (rw (leftOn, ne-eqb y x d, e))
+
+  pub back-none : (n : ℕ) → n ≤ 0 → n ≡ leftBack ts v x n
   unfolding leftBack
-  back-none v x zero h = refl
-  back-none v x (suc n) h = absurd (omega arith)
+  back-none zero h = refl
+  back-none (suc n) h = absurd (omega arith)
 
-  pub back-stop : (v x n : ℕ) (r : Across) → 0 < n → (x ≡ v → ⊥) → Finds xs cs x v r → r ≡ Nothing
-      → n ≡ leftBack (trianglesOf xs) v x n
+  pub back-stop : (n : ℕ) → 0 < n → across x v ts ≡ Nothing → n ≡ leftBack ts v x n
   unfolding leftBack
-  back-stop v x zero r h b f e = absurd (omega arith)
-  back-stop v x (suc n) r h b f e =
-      let q : across x v (trianglesOf xs) ≡ Nothing = sym (linked-found xs cs linked x v r f b) ∙ e in
-      sym (rw (leftBack, q))
+  back-stop zero h e = absurd (omega arith)
+  back-stop (suc n) h e = sym (rw (leftBack, e))
 
-  pub back-more : (v x n : ℕ) (r : Across) (i j z : ℕ) → 0 < n → (x ≡ v → ⊥) → Finds xs cs x v r → r ≡ Found i j z
-      → (leftBack (trianglesOf xs) v z (n - 1) ≡ leftBack (trianglesOf xs) v x n) × (z ≡ v → ⊥)
+  pub back-more : (n i j z : ℕ) → 0 < n → across x v ts ≡ Found i j z → leftBack ts v z (n - 1) ≡ leftBack ts v x n
   unfolding leftBack
-  back-more v x zero r i j z h b f e = absurd (omega arith)
-  back-more v x (suc n) r i j z h b f e =
-      let q : across x v (trianglesOf xs) ≡ Found i j z = sym (linked-found xs cs linked x v r f b) ∙ e in
-      let d =
-      all-distinct (trianglesOf xs) .0 (linked .sound .distinct) x v z
-      (found-in (trianglesOf xs) (across-found x v (trianglesOf xs) i j z q)) in
-      (ap (leftBack (trianglesOf xs) v z) (before n) ∙ sym (rw (leftBack, q)), λ k. d .y-z (sym k))
+  back-more zero i j z h e = absurd (omega arith)
+  back-more (suc n) i j z h e = ap (leftBack ts v z) (one-left n) ∙ sym (rw (leftBack, e))
 
 -- the test at one vertex: its latest corner is c - 1, whose triangle's next corners are k and m, and n corners have it
 module _ (xs cs : List ℕ) (linked : Linked xs cs) (v c : ℕ) (newest : Newest xs cs v c) where
@@ -267,11 +242,6 @@ module _ (xs cs : List ℕ) (linked : Linked xs cs) (v c : ℕ) (newest : Newest
         omega (arith, count-is, latest-some v xs (3 * (length xs / 3)) l)
 
     module _ (k m : ℕ) (after : k ≡ cornerAfter (c - 1)) (last : m ≡ cornerBefore (c - 1)) where
-      pub fan-differs : (v ≡ getD xs k 0 → ⊥) × (v ≡ getD xs m 0 → ⊥)
-      fan-differs =
-          let d = corner-differs xs cs linked v c (omega arith) latest-is in
-          (λ e. d .0 (e ∙ ap (λ (i : ℕ). getD xs i 0) after), λ e. d .1 (e ∙ ap (λ (i : ℕ). getD xs i 0) last))
-
       pub fan-test : (r : ℕ) → r ≡ leftOn (trianglesOf xs) v (getD xs k 0) (getD xs m 0) (n - 1)
           → eqb r 0 ≡ oneRun (about v (trianglesOf xs))
       fan-test r e =

@@ -56,7 +56,7 @@ with-other : (x y : ℕ) (xs : List ℕ) (c : ℕ) → eqb (getD xs c 0) x ≡ f
 unfolding lastWith
 with-other x y xs c e = rw (lastWith, e)
 
-pub latest-with : (x y : ℕ) (xs : List ℕ) (n : ℕ) → lastWith x y xs (latest x xs n) ≡ lastWith x y xs n
+latest-with : (x y : ℕ) (xs : List ℕ) (n : ℕ) → lastWith x y xs (latest x xs n) ≡ lastWith x y xs n
 unfolding latest
 latest-with x y xs zero = refl
 latest-with x y xs (suc c) = go (eqb (getD xs c 0) x) refl (latest-with x y xs c)

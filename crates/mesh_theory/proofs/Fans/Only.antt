@@ -7,14 +7,15 @@ use mathlib.Core.List.{List, [], _∷_}
 use mathlib.Core.Path.{_≡_, refl, sym, ap, _∙_, subst}
 use lib.ListN.{length, getD}
 use Rattle.rules.specs.declared.Triangle.{Triangle}
-use Rattle.rules.specs.declared.Across.the-variants.{Found}
+use Rattle.rules.specs.declared.Across.{Across}
+use Rattle.rules.specs.declared.Across.the-variants.{Found, Nothing}
 use Rattle.rules.specs.Count.{hit, uses}
 use Rattle.rules.specs.Across.{across}
 use Rattle.rules.specs.Triangle.{Rot, at-p, at-q, at-r, In, here, there}
 use Rattle.mesh_theory.specs.Fans.Corner.{third}
 use Rattle.mesh_theory.specs.Fans.Finding.{SameFound}
 use Rattle.mesh_theory.proofs.Fans.Corners.{sides, sidesOf, rot-sum, rot-third, uses-rot, uses-cons, sides-yes, in-uses}
-use Rattle.mesh_theory.proofs.Fans.Finding.{across-found, found-below, found-place, place-sides}
+use Rattle.mesh_theory.proofs.Fans.Finding.{across-found, across-nothing, found-in, found-below, found-place, place-sides}
 use Rattle.counting.proofs.Counts.{hit-yes}
 
 -- two corners of a triangle tell which the third is
@@ -57,6 +58,16 @@ one-place {x} {y} (t ∷ ts) d o (suc m) zero k l a b =
     absurd (omega (arith, uses-cons x y t ts, rot-sides a, rot-sides b, place-sides x y ts d m (omega arith)))
 one-place {x} {y} (t ∷ ts) d o (suc m) (suc n) k l a b =
     ap suc (one-place ts d (omega (arith, uses-cons x y t ts)) m n (omega arith) (omega arith) a b)
+
+-- it is found
+pub in-found : {x y z : ℕ} (ts : List Triangle) → uses x y ts ≤ 1 → In x y z ts → (n : ℕ) × (k : ℕ) × (across x y ts ≡ Found n k z)
+in-found {x} {y} {z} ts o i = go (across x y ts) refl
+  where
+    go : (a : Across) → across x y ts ≡ a → (n : ℕ) × (k : ℕ) × (across x y ts ≡ Found n k z)
+    go Nothing e = absurd (omega (arith, in-uses i, across-nothing x y ts .0 e))
+    go (Found n k w) e =
+        let w-z = in-third ts o (found-in ts (across-found x y ts n k w e)) i in
+        (n, k, e ∙ ap (Found n k) w-z)
 
 -- a triangle of the list that has x→y is the one found
 pub across-only : (x y : ℕ) (ts : List Triangle) (n k z : ℕ) → uses x y ts ≤ 1 → across x y ts ≡ Found n k z

@@ -21,7 +21,7 @@ abbrev μ-loop : tie.MeasureT-loop
 μ-loop list chains v notes₀ u₀ notes u = u
 
 loop-holds : tie.Need-loop-holds Inv-loop μ-loop
-loop-holds c = (search needs, refl, zeros-fresh 8192 _ refl)
+loop-holds c = (search needs, refl, zeros-fresh 16384 _ refl)
 
 sub-u : tie.Need-sub-u Inv-loop μ-loop
 sub-u c = omega arith

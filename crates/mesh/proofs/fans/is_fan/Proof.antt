@@ -2,8 +2,8 @@
 -- Assumes nothing.
 use native.Mathlib.Omega.{arith}
 use borrow.Author.Needs.{needs}
-use Rattle.mesh_theory.proofs.Chains.Fans.{fan-empty, fan-some, fan-differs, fan-test}
-use Rattle.mesh.proofs.Noting.{corner-below, fresh-before}
+use Rattle.mesh_theory.proofs.Chains.Fans.{fan-empty, fan-some, fan-test}
+use Rattle.mesh.proofs.Noting.{fresh-before}
 use Rattle.mesh.proofs.fans.is_fan.Statement.{statement}
 use Rattle.mesh.proofs.fans.is_fan.Tie as tie
 
@@ -52,15 +52,13 @@ sub-turn-on c =
 turn-on-requires : tie.Need-turn-on-requires
 turn-on-requires c κs =
     let a = c .before .before .before .before .before in
-    let b = a .before .before .before in
-    let s = b .before .before in
-    let d =
-    fan-differs _ _ (s .pre .0) _ _ (b .newest .ensures) (a .before .before .if1 .left) _ (a .note-all .ensures .counts) _ _
-    (c .before .before .before .before .corner-after .ensures .0) (c .before .before .corner-before .ensures .0) in
-    let y =
-    corner-below (s .args .list .now) (s .args .chains .now) (s .pre .0) (s .args .v) (c .before .before .corner-before .result)
-    (omega arith) in
-    ((s .pre .0, a .note-all .ensures .notes, s .pre .1, y), (d .0, d .1))
+    let s = a .before .before .before .before .before in
+    let below = s .pre .0 .sound .below in (
+      s .pre .1,
+      below (c .before .before .before .before .corner-after .result) (omega arith),
+      below (c .before .before .corner-before .result) (omega arith),
+      a .note-all .ensures .within,
+    )
 
 returns-2 : tie.Need-returns-2
 returns-2 c =
@@ -68,7 +66,7 @@ returns-2 c =
     let b = a .before .before .before in (
       fan-test _ _ (b .before .before .pre .0) _ _ (b .newest .ensures) (a .before .before .if1 .left) _ (a .note-all .ensures .counts) _ _
           (c .before .before .before .before .before .corner-after .ensures .0) (c .before .before .before .corner-before .ensures .0) _
-          (c .turn-on .ensures),
+          (c .turn-on .ensures _ (a .note-all .ensures .notes)),
       a .note-all .ensures .fresh,
     )
 

@@ -7,7 +7,7 @@ use lib.ListN.{length}
 use borrow.Author.Needs.{needs}
 use Rattle.rules.specs.Limits.{maxNumbers}
 use Rattle.mesh_theory.proofs.Chains.Walking.{Counting, counting-start, counting-more}
-use Rattle.mesh.proofs.Noting.{Noting, noting-start, noting-next, noting-all, corner-below}
+use Rattle.mesh.proofs.Noting.{Noting, noting-start, noting-next, noting-all}
 use Rattle.mesh.proofs.fans.note_all.Statement.{statement}
 use Rattle.mesh.proofs.fans.note_all.Tie as tie
 
@@ -52,13 +52,47 @@ mul-z c = omega arith
 shared-slice-read-z : tie.Need-shared-slice-read-z Inv-loop μ-loop
 shared-slice-read-z c = omega arith
 
+cast-note : tie.Need-cast-note Inv-loop μ-loop
+cast-note c =
+    let k = c .before .before .before .before in
+    let s = k .before .before .before .before in
+    omega (arith, s .pre .0 .0 .sound .below (k .corner-after .result) (omega arith))
+
+mul-note : tie.Need-mul-note Inv-loop μ-loop
+mul-note c =
+    let k = c .before .before .before .before in
+    let s = k .before .before .before .before in
+    omega (arith, s .pre .0 .0 .sound .below (k .corner-after .result) (omega arith))
+
 note-requires : tie.Need-note-requires Inv-loop μ-loop
 note-requires c κs =
-    let s = c .before .before .before .before .before .before .before .before in (
-      s .pre .0 .1,
-      corner-below (s .args .list .now) (s .args .chains .now) (s .pre .0 .0) (s .args .v)
-          (c .before .before .before .before .corner-after .result) (omega arith),
-    )
+    let k = c .before .before .before .before in
+    let s = k .before .before .before .before in
+    (s .pre .0 .1, omega (arith, s .pre .0 .0 .sound .below (k .corner-after .result) (omega arith)))
+
+cast-note-2 : tie.Need-cast-note-2 Inv-loop μ-loop
+cast-note-2 c =
+    let h = c .before .before .before .before in
+    let s = h .before .before .before .before .before .before in
+    omega (arith, s .pre .0 .0 .sound .below (h .corner-before .result) (omega arith))
+
+mul-note-2 : tie.Need-mul-note-2 Inv-loop μ-loop
+mul-note-2 c =
+    let h = c .before .before .before .before in
+    let s = h .before .before .before .before .before .before in
+    omega (arith, s .pre .0 .0 .sound .below (h .corner-before .result) (omega arith))
+
+add-note : tie.Need-add-note Inv-loop μ-loop
+add-note c =
+    let h = c .before .before .before .before in
+    let s = h .before .before .before .before .before .before in
+    omega (arith, s .pre .0 .0 .sound .below (h .corner-before .result) (omega arith))
+
+note-requires-2 : tie.Need-note-requires-2 Inv-loop μ-loop
+note-requires-2 c κs =
+    let h = c .before .before .before .before in
+    let s = h .before .before .before .before .before .before in
+    (s .pre .0 .1, omega (arith, s .pre .0 .0 .sound .below (h .corner-before .result) (omega arith)))
 
 add-n : tie.Need-add-n Inv-loop μ-loop
 add-n c = omega arith
@@ -74,8 +108,10 @@ loop-less c = omega arith
 
 loop-again : tie.Need-loop-again Inv-loop μ-loop
 loop-again c =
-    let k = c .before .before .before .before .before .before in
-    let h = c .before .before .before .before in
+    let g = c .before in
+    let f = g .before .before in
+    let h = f .before .before .before in
+    let k = h .before .before in
     let l = k .before .before in
     let s = l .before .before in (
       search needs,
@@ -83,9 +119,9 @@ loop-again c =
       counting-more _ _ _ (l .loop .inv .2) (k .before .loop-test .taken) (c .older .ensures),
       noting-next (s .args .list .now) (s .args .chains .now) (s .pre .0 .0) (s .args .v) (l .loop .d) (s .args .c)
           (k .corner-after .result)
-          (c .older .result) (h .corner-before .result) (l .loop .n) (l .loop .notes) _ (s .pre .1 .0) (l .loop .inv .2) (l .loop .inv .3)
-          (k .before .loop-test .taken) (k .corner-after .ensures .0) (omega arith) (h .corner-before .ensures .0) (omega arith)
-          (c .before .note .ensures) (c .older .ensures),
+          (c .older .result) (h .corner-before .result) (l .loop .n) (l .loop .notes) _ _ (s .pre .1 .0) (l .loop .inv .2)
+          (l .loop .inv .3) (k .before .loop-test .taken) (k .corner-after .ensures .0) (omega arith) (h .corner-before .ensures .0)
+          (omega arith) (f .note .ensures) (g .note2 .ensures) (c .older .ensures),
     )
 
 returns : tie.Need-returns Inv-loop μ-loop
@@ -111,7 +147,13 @@ note-all-spec =
     corner-before-requires
     mul-z
     shared-slice-read-z
+    cast-note
+    mul-note
     note-requires
+    cast-note-2
+    mul-note-2
+    add-note
+    note-requires-2
     add-n
     sub-older
     older-requires
