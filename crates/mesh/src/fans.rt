@@ -17,8 +17,8 @@ ghost use Rattle.mesh_theory.specs.Chains.Linked.{Newest, Linked};
 ghost use Rattle.mesh_theory.specs.Chains.Turn.{leftOn, leftBack};
 ghost use Rattle.mesh.specs.Turns.{noted, Fresh, Within, Noted, AllNoted, UnmetAt, Unmet};
 
-// Notes for turning about a vertex: note j stands at 2j, 1 more than the vertex v about which it was written last, and at 2j + 1, the
-// third vertex of the triangle that has an edge at v. Note 2y is of v→y, note 2y + 1 of y→v.
+// Notes for turning about a vertex. Note j has two numbers: at 2j, 1 more than the vertex v about which it was written last; at 2j + 1,
+// the third vertex of the triangle that has an edge at v. Note 2y is of the edge v→y, note 2y + 1 of y→v.
 type Notes = [u16; 4 * VERTICES];
 
 // The vertices whose fans are to be tested: the entry of vertex v stands at v, and is 0 where its triangles are known to form one fan.

@@ -1,6 +1,6 @@
 -- `mesh::all_once` meets its contract.
--- The loop's invariant: no directed edge leaves a vertex below u twice, and no stamp is of another vertex. The measure is what is left of
--- v.
+-- The loop's invariant: no directed edge leaves a vertex below u twice, and all stamps are of such vertices. The measure is what is left
+-- of v.
 -- Assumes nothing.
 use Prim.Native.Nat.{_≤_, _-_}
 use native.Mathlib.Omega.{arith}
