@@ -7,7 +7,7 @@ use cutborder::ops::{Counts, Op};
 use cutborder::plain::{self, Chosen, Given, PackRooms, Trace};
 use cutborder::proto;
 use cutborder::rng::Rng;
-use cutborder::{Answer, Level, Place, Refusal};
+use cutborder::{gen02, volume, Answer, Level, Place, Refusal};
 
 /// The loops are those of C-14, and packing fills the order buffer of C-11; C-12 changes no answer of a call.
 pub const LEVEL: Level = Level(14);
@@ -30,6 +30,12 @@ pub fn pack(v: u64, list: &[u16], rooms: PackRooms) -> Result<usize, Refusal> {
     plain::pack_at(LEVEL, v, list, Given::default(), rooms, &mut Trace::default())
 }
 
+/// Packing with positions by old vertex. This, `unpack_whole` and `measure` are C-13's, of which the definitions are there.
+pub fn pack_whole(v: u64, list: &[u16], positions: &[i32], rooms: PackRooms) -> Result<usize, Refusal> {
+    let given = Given { positions: Some(positions), ..Given::default() };
+    plain::pack_at(LEVEL, v, list, given, rooms, &mut Trace::default())
+}
+
 /// The counts and the operations of a pack, or 12.
 pub fn fields(bytes: &[u8]) -> Result<(Counts, &[u8]), Refusal> {
     Fields::split(FIELDS, bytes).map(|f| (f.counts, f.ops))
@@ -38,6 +44,16 @@ pub fn fields(bytes: &[u8]) -> Result<(Counts, &[u8]), Refusal> {
 pub fn unpack(bytes: &[u8], triangles: &mut [u16], places: &mut [Place]) -> Result<Answer, Refusal> {
     fields(bytes)?;
     plain::unpack_at(LEVEL, bytes, triangles, places)
+}
+
+/// Unpacking a pack that may have positions.
+pub fn unpack_whole(bytes: &[u8], triangles: &mut [u16], places: &mut [Place]) -> Result<Answer, Refusal> {
+    plain::unpack_at(LEVEL, bytes, triangles, places)
+}
+
+/// The volume call: what unpacking answers, and six times the volume.
+pub fn measure(bytes: &[u8], triangles: &mut [u16], places: &mut [Place]) -> Result<(Answer, i64), Refusal> {
+    volume::volume(LEVEL, bytes, triangles, places)
 }
 
 /// A beginning.
@@ -53,6 +69,34 @@ pub fn packed(m: &Model) -> Option<Vec<u8>> {
 /// A random pack, sound or not.
 pub fn random_pack(rng: &mut Rng, max_t: usize) -> Vec<u8> {
     gen::pack_at(LEVEL, rng, max_t)
+}
+
+/// A random pack, sound or not, that may have positions.
+pub fn random_whole_pack(rng: &mut Rng) -> Vec<u8> {
+    let unfit = if rng.chance(1, 6) { unfit_pack(rng) } else { None };
+    unfit.unwrap_or_else(|| gen02::pack(LEVEL, rng))
+}
+
+/// A sound pack but for its positions: their length is wrong, or one is out of range.
+fn unfit_pack(rng: &mut Rng) -> Option<Vec<u8>> {
+    let bytes = gen02::good_pack(LEVEL, rng)?;
+    let fields = Fields::split(LEVEL, &bytes).ok()?;
+    let mut positions = fields.positions?.to_vec();
+    match rng.below(5) {
+        0 => positions.truncate(rng.below(positions.len())),
+        1 => positions.push(0),
+        2 => positions.extend([0; 6]),
+        _ => {
+            let i = 2 * rng.below(positions.len() / 2);
+            positions[i..i + 2].copy_from_slice(&[[8, 0], [0xf7, 0xff], [0x7f, 0xff], [0x80, 0]][rng.below(4)]);
+        }
+    }
+    Some(Fields { positions: Some(&positions), ..fields }.bytes())
+}
+
+/// The triangles that a pack states which may have positions, if its fields are there.
+pub fn stated_triangles(bytes: &[u8]) -> Option<usize> {
+    Fields::split(LEVEL, bytes).ok().map(|f| f.counts.t as usize)
 }
 
 /// A random list of building calls; the first is an accepted beginning.

@@ -75,13 +75,13 @@ module _ (v : ℕ) (xs : List ℕ) (r : PackBuffers) (n : ℕ) (p : PackedBy mos
   met : (x : ℕ) → x < v → Met x (c .built)
   met x l = let m = good .met x l in (m .0, m .1, all x (m .0) (m .1) (m .2))
 
-  numbered : (x : ℕ) → x < v → has x (p .last .numbered) ≡ true
+  pub numbered : (x : ℕ) → x < v → has x (p .last .numbered) ≡ true
   numbered x l = c .fits .numbers .numbered x (met x l)
 
-  count : length (p .last .numbered) ≡ v
+  pub count : length (p .last .numbered) ≡ v
   count = numbered-all most v ts good os s c
 
-  number-is : (x : ℕ) → x < v → newNumber (pack v xs r) x ≡ indexOf x (p .last .numbered)
+  pub number-is : (x : ℕ) → x < v → newNumber (pack v xs r) x ≡ indexOf x (p .last .numbered)
   number-is x l =
       let ns = newNumbers v (s .numbered) in
       ap (λ (k : PackResult). getD (k .buffers .numbering) x 0) (p .result)

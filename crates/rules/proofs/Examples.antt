@@ -1,5 +1,5 @@
 -- Small examples of what the tables do not reach: the model's open edges, the state last returned, an open and a closed fan, the right
--- place, a record that is a place, and what a start leaves.
+-- place, a record that is a place, what a start leaves, signed numbers that no position has, and the limits of packing with positions.
 -- Assumes nothing.
 use Prim.Native.Nat.{ℕ, zero, suc, _+_, _≤_, _<_}
 use native.Mathlib.Omega.{arith}
@@ -7,6 +7,7 @@ use mathlib.Core.Bool.{Bool, true, false, _&&_}
 use mathlib.Core.List.{List, [], _∷_}
 use mathlib.Core.Path.{_≡_, refl}
 use lib.ListN.{replicate}
+use lib.IntN.{ℤ, pos, negsuc}
 use lib.Dec.{T, eqb}
 use borrow.Author.Tests.{eqb-true}
 use Rattle.rules.specs.declared.Triangle.{Triangle}
@@ -28,6 +29,10 @@ use Rattle.rules.specs.Machine.{test, done}
 use Rattle.rules.specs.Places.{ringsAfter}
 use Rattle.rules.specs.View.{placeAt, follow, followed, nodes, placesOf, loopsOf, placeNodes, placeRings, trianglesBuilt, view}
 use Rattle.rules.specs.Sound.{sizesOf, apart, placesFit, loopsFit, linksFit, sound, soundElse}
+use Rattle.rules.specs.Grid.{signedOf}
+use Rattle.rules.specs.Later.{Given}
+use Rattle.rules.specs.Pack.{PackBuffers, most}
+use Rattle.rules.specs.PackWhole.{packWhole, packWholeWithin}
 use Rattle.rules.specs.Build.{operates, begunBuilder, emptyBuilder, InLoop, NoPlace, OperatedBy}
 use Rattle.rules.proofs.Rows.{place, counts}
 use Rattle.rules.proofs.States.{builder, parts, good, whole}
@@ -127,3 +132,12 @@ start-leaves = record {
   current-past = refl;
   sizes-past = refl;
 }
+
+-- in 16 bits: the largest number, the smallest, and -1
+pub signed-ends : (signedOf 32767 ≡ pos 32767) × (signedOf 32768 ≡ negsuc 32767) × (signedOf 65535 ≡ negsuc 0)
+unfolding signedOf
+signed-ends = (refl, refl, refl)
+
+-- packing with positions is within the limits of the rules
+pub whole-within : (v : ℕ) (xs : List ℕ) (g : Given (List ℤ)) (r : PackBuffers) → packWhole v xs g r ≡ packWholeWithin most v xs g r
+whole-within v xs g r = refl

@@ -12,10 +12,11 @@ use Rattle.rules.specs.Triangle.{tri}
 use Rattle.rules.specs.Answer.{refusal, accepted, triangle, no-triangle, numbers, packed}
 use Rattle.rules.specs.Book.{begin, operate, finish}
 use Rattle.rules.specs.Pack.{most}
-use Rattle.rules.proofs.Rows.{PackRow, UnpackRow, CallRow, FieldsRow, LookRow}
-use Rattle.rules.proofs.Rows.{place, packLent, unpackLent, lengths, counts, totalsOf, modelOf}
-use Rattle.rules.proofs.Rows.{equal, equalPlaces, equalAnswers, packRight, unpackRight, writtenRing, writtenRings, writtenEdges}
-use Rattle.rules.proofs.Rows.{callsRight, fieldsRight, lookRight, allRight}
+use Rattle.rules.specs.Later.{not-given, given}
+use Rattle.rules.proofs.Rows.{PackRow, UnpackRow, CallRow, FieldsRow, LookRow, WholePackRow, WholeRow}
+use Rattle.rules.proofs.Rows.{place, packLent, unpackLent, unpackTold, volumeTold, lengths, counts, totalsOf, modelOf}
+use Rattle.rules.proofs.Rows.{equal, equalPlaces, equalAnswers, packRight, unpackRight, wholePackRight, wholeRight, writtenRing}
+use Rattle.rules.proofs.Rows.{writtenRings, writtenEdges, callsRight, fieldsRight, lookRight, allRight}
 use Rattle.rules.specs.Triangle.{trianglesOf, corners, edgesOf}
 use Rattle.rules.specs.Count.{same, hit, occurs, count, different, pairs}
 use Rattle.rules.specs.Fan.{about, leaving, entering, turnOn, turnBack, oneRun, oneFanEach}
@@ -30,10 +31,15 @@ use Rattle.rules.specs.Calls.{answers, afterAll, logAll}
 use Rattle.rules.specs.Bits.{bits, valueOf, bitsOfBytes, bytesWithin, readNumber, allZero}
 use Rattle.rules.specs.Code.{operationBits, operationsBits, kindIn, readOperation}
 use Rattle.rules.specs.Fields.{packBytes, takeField, fieldsOf}
+use Rattle.rules.specs.Grid.{allInGrid, signedOf, positionBytes, positionsFrom}
+use Rattle.rules.specs.Later.{laterPart, partsOf}
+use Rattle.rules.specs.Volume.{determinant, sixVolumes}
 use Rattle.rules.specs.Choice.{has, dropTriangle, turnIn, turnOut, edgeIn, spotOf, choosePlace, limited, taking, chooseAt, chooseIn}
 use Rattle.rules.specs.Order.{orderBy}
 use Rattle.rules.specs.Pack.{chooseAll, indexOf, newNumbers, packChosen, packChecked}
 use Rattle.rules.specs.Unpack.{runAll, numbersOf, unpackRun, unpackFields}
+use Rattle.rules.specs.PackWhole.{positionsOf, wholeChosen, wholeChecked}
+use Rattle.rules.specs.UnpackWhole.{thenTested, unpackParts, measured}
 use Rattle.rules.specs.View.{follow, followed, nodes, placesOf, openAmong, loopsOf, placeNodes, placeRings, trianglesBuilt, view}
 use Rattle.rules.specs.Sound.{sizesOf, apart, placesFit, loopsFit, linksFit, soundElse, sound}
 
@@ -3250,15 +3256,914 @@ lookRows =
     ∷
     []
 
+unfoldable pub wholePackRows : List WholePackRow
+wholePackRows =
+    -- positions: M1: accepted
+    record {
+      limits = most;
+      vertices = 3;
+      list = (0 ∷ 1 ∷ 2 ∷ []);
+      positions = given (negsuc 1399 ∷ negsuc 677 ∷ pos 118 ∷ pos 988 ∷ pos 1932 ∷ negsuc 1145 ∷ negsuc 53 ∷ pos 1112 ∷ negsuc 1743 ∷ []);
+      lent = packLent (7 ∷ 7 ∷ 7 ∷ 7 ∷ []) (replicate 1024 (place 3 1 2 true)) (replicate 43 5) (9 ∷ 9 ∷ []);
+      answer = packed 37;
+      left = packLent (0 ∷ 1 ∷ 2 ∷ 7 ∷ []) (replicate 1024 (place 0 0 0 false))
+          (1 ∷ 0 ∷ 8 ∷ 0 ∷ 3 ∷ 0 ∷ 1 ∷ 0 ∷ 3 ∷ 0 ∷ 1 ∷ 2 ∷ 0 ∷ 2 ∷ 237 ∷ 176 ∷ 3 ∷ 0 ∷ 18 ∷ 250 ∷ 136 ∷ 253 ∷ 90 ∷ 0 ∷ 118 ∷ 3 ∷ 220 ∷ 7
+          ∷ 140 ∷ 251 ∷ 134 ∷ 255 ∷ 202 ∷ 4 ∷ 88 ∷ 249 ∷ 48 ∷ 5 ∷ 5 ∷ 5 ∷ 5 ∷ 5 ∷ 5 ∷ [])
+          (0 ∷ 9 ∷ []);
+    }
+    ∷
+    -- positions: M2: accepted
+    record {
+      limits = most;
+      vertices = 4;
+      list = (0 ∷ 1 ∷ 2 ∷ 1 ∷ 0 ∷ 3 ∷ 2 ∷ 1 ∷ 3 ∷ 0 ∷ 2 ∷ 3 ∷ []);
+      positions = given
+          (negsuc 1399 ∷ negsuc 677 ∷ pos 118 ∷ pos 988 ∷ pos 1932 ∷ negsuc 1145 ∷ negsuc 53 ∷ pos 1112 ∷ negsuc 1743 ∷ negsuc 429 ∷ pos 958
+          ∷ negsuc 1675 ∷ []);
+      lent = packLent (7 ∷ 7 ∷ 7 ∷ 7 ∷ 7 ∷ []) (replicate 1024 (place 3 1 2 true)) (replicate 52 5) (9 ∷ 9 ∷ 9 ∷ 9 ∷ 9 ∷ []);
+      answer = packed 43;
+      left = packLent (0 ∷ 1 ∷ 2 ∷ 3 ∷ 7 ∷ []) (replicate 1024 (place 0 0 0 false))
+          ((1 ∷ 0 ∷ 8 ∷ 0 ∷ 4 ∷ 0 ∷ 4 ∷ 0 ∷ 4 ∷ 0 ∷ 1 ∷ 2 ∷ 0 ∷ 2 ∷ 224 ∷ 208 ∷ 3 ∷ 0 ∷ 24 ∷ 250 ∷ 136 ∷ 253 ∷ 90 ∷ 0 ∷ 118 ∷ 3 ∷ 220 ∷ 7
+          ∷ 140 ∷ 251 ∷ 134 ∷ 255 ∷ 202 ∷ 4 ∷ 88 ∷ 249 ∷ 48 ∷ 254 ∷ 82 ∷ 3 ∷ 190 ∷ 249 ∷ 116 ∷ []) ++ replicate 9 5)
+          (0 ∷ 1 ∷ 2 ∷ 3 ∷ 9 ∷ []);
+    }
+    ∷
+    -- positions: M3: accepted
+    record {
+      limits = most;
+      vertices = 4;
+      list = (0 ∷ 1 ∷ 2 ∷ 1 ∷ 0 ∷ 3 ∷ []);
+      positions = given
+          (negsuc 1399 ∷ negsuc 677 ∷ pos 118 ∷ pos 988 ∷ pos 1932 ∷ negsuc 1145 ∷ negsuc 53 ∷ pos 1112 ∷ negsuc 1743 ∷ negsuc 429 ∷ pos 958
+          ∷ negsuc 1675 ∷ []);
+      lent = packLent (7 ∷ 7 ∷ 7 ∷ 7 ∷ 7 ∷ []) (replicate 1024 (place 3 1 2 true)) (replicate 50 5) (9 ∷ 9 ∷ 9 ∷ []);
+      answer = packed 44;
+      left = packLent (0 ∷ 1 ∷ 2 ∷ 3 ∷ 7 ∷ []) (replicate 1024 (place 0 0 0 false))
+          (1 ∷ 0 ∷ 8 ∷ 0 ∷ 4 ∷ 0 ∷ 2 ∷ 0 ∷ 4 ∷ 0 ∷ 1 ∷ 2 ∷ 0 ∷ 3 ∷ 225 ∷ 182 ∷ 192 ∷ 3 ∷ 0 ∷ 24 ∷ 250 ∷ 136 ∷ 253 ∷ 90 ∷ 0 ∷ 118 ∷ 3 ∷ 220
+          ∷ 7 ∷ 140 ∷ 251 ∷ 134 ∷ 255 ∷ 202 ∷ 4 ∷ 88 ∷ 249 ∷ 48 ∷ 254 ∷ 82 ∷ 3 ∷ 190 ∷ 249 ∷ 116 ∷ 5 ∷ 5 ∷ 5 ∷ 5 ∷ 5 ∷ 5 ∷ [])
+          (0 ∷ 1 ∷ 9 ∷ []);
+    }
+    ∷
+    -- positions: M4: accepted
+    record {
+      limits = most;
+      vertices = 3;
+      list = (0 ∷ 1 ∷ 2 ∷ 1 ∷ 0 ∷ 2 ∷ []);
+      positions = given (negsuc 1399 ∷ negsuc 677 ∷ pos 118 ∷ pos 988 ∷ pos 1932 ∷ negsuc 1145 ∷ negsuc 53 ∷ pos 1112 ∷ negsuc 1743 ∷ []);
+      lent = packLent (7 ∷ 7 ∷ 7 ∷ 7 ∷ []) (replicate 1024 (place 3 1 2 true)) (replicate 44 5) (9 ∷ 9 ∷ 9 ∷ []);
+      answer = packed 36;
+      left = packLent (0 ∷ 1 ∷ 2 ∷ 7 ∷ []) (replicate 1024 (place 0 0 0 false))
+          ((1 ∷ 0 ∷ 8 ∷ 0 ∷ 3 ∷ 0 ∷ 2 ∷ 0 ∷ 3 ∷ 0 ∷ 1 ∷ 2 ∷ 0 ∷ 1 ∷ 244 ∷ 3 ∷ 0 ∷ 18 ∷ 250 ∷ 136 ∷ 253 ∷ 90 ∷ 0 ∷ 118 ∷ 3 ∷ 220 ∷ 7 ∷ 140
+          ∷ 251 ∷ 134 ∷ 255 ∷ 202 ∷ 4 ∷ 88 ∷ 249 ∷ 48 ∷ []) ++ replicate 8 5)
+          (0 ∷ 1 ∷ 9 ∷ []);
+    }
+    ∷
+    -- positions: M5: accepted
+    record {
+      limits = most;
+      vertices = 6;
+      list = (0 ∷ 1 ∷ 2 ∷ 3 ∷ 4 ∷ 5 ∷ []);
+      positions = given
+          (negsuc 1399 ∷ negsuc 677 ∷ pos 118 ∷ pos 988 ∷ pos 1932 ∷ negsuc 1145 ∷ negsuc 53 ∷ pos 1112 ∷ negsuc 1743 ∷ negsuc 429 ∷ pos 958
+          ∷ negsuc 1675 ∷ negsuc 139 ∷ pos 1470 ∷ negsuc 941 ∷ pos 816 ∷ negsuc 1447 ∷ pos 458 ∷ []);
+      lent = packLent (7 ∷ 7 ∷ 7 ∷ 7 ∷ 7 ∷ 7 ∷ 7 ∷ []) (replicate 1024 (place 3 1 2 true)) (replicate 62 5) (9 ∷ 9 ∷ 9 ∷ []);
+      answer = packed 56;
+      left = packLent (0 ∷ 1 ∷ 2 ∷ 3 ∷ 4 ∷ 5 ∷ 7 ∷ []) (replicate 1024 (place 0 0 0 false))
+          (1 ∷ 0 ∷ 8 ∷ 0 ∷ 6 ∷ 0 ∷ 2 ∷ 0 ∷ 3 ∷ 0 ∷ 1 ∷ 2 ∷ 0 ∷ 3 ∷ 237 ∷ 190 ∷ 219 ∷ 3 ∷ 0 ∷ 36 ∷ 250 ∷ 136 ∷ 253 ∷ 90 ∷ 0 ∷ 118 ∷ 3 ∷ 220
+          ∷ 7 ∷ 140 ∷ 251 ∷ 134 ∷ 255 ∷ 202 ∷ 4 ∷ 88 ∷ 249 ∷ 48 ∷ 254 ∷ 82 ∷ 3 ∷ 190 ∷ 249 ∷ 116 ∷ 255 ∷ 116 ∷ 5 ∷ 190 ∷ 252 ∷ 82 ∷ 3 ∷ 48
+          ∷ 250 ∷ 88 ∷ 1 ∷ 202 ∷ 5 ∷ 5 ∷ 5 ∷ 5 ∷ 5 ∷ 5 ∷ [])
+          (0 ∷ 1 ∷ 9 ∷ []);
+    }
+    ∷
+    -- positions: two pieces, vertices in the order 3 5 4 2 0 1: accepted
+    record {
+      limits = most;
+      vertices = 6;
+      list = (3 ∷ 5 ∷ 4 ∷ 2 ∷ 0 ∷ 1 ∷ []);
+      positions = given
+          (negsuc 1399 ∷ negsuc 677 ∷ pos 118 ∷ pos 988 ∷ pos 1932 ∷ negsuc 1145 ∷ negsuc 53 ∷ pos 1112 ∷ negsuc 1743 ∷ negsuc 429 ∷ pos 958
+          ∷ negsuc 1675 ∷ negsuc 139 ∷ pos 1470 ∷ negsuc 941 ∷ pos 816 ∷ negsuc 1447 ∷ pos 458 ∷ []);
+      lent = packLent (7 ∷ 7 ∷ 7 ∷ 7 ∷ 7 ∷ 7 ∷ 7 ∷ []) (replicate 1024 (place 3 1 2 true)) (replicate 62 5) (9 ∷ 9 ∷ 9 ∷ []);
+      answer = packed 56;
+      left = packLent (4 ∷ 5 ∷ 3 ∷ 0 ∷ 2 ∷ 1 ∷ 7 ∷ []) (replicate 1024 (place 0 0 0 false))
+          (1 ∷ 0 ∷ 8 ∷ 0 ∷ 6 ∷ 0 ∷ 2 ∷ 0 ∷ 3 ∷ 0 ∷ 1 ∷ 2 ∷ 0 ∷ 3 ∷ 237 ∷ 190 ∷ 219 ∷ 3 ∷ 0 ∷ 36 ∷ 254 ∷ 82 ∷ 3 ∷ 190 ∷ 249 ∷ 116 ∷ 3 ∷ 48
+          ∷ 250 ∷ 88 ∷ 1 ∷ 202 ∷ 255 ∷ 116 ∷ 5 ∷ 190 ∷ 252 ∷ 82 ∷ 255 ∷ 202 ∷ 4 ∷ 88 ∷ 249 ∷ 48 ∷ 250 ∷ 136 ∷ 253 ∷ 90 ∷ 0 ∷ 118 ∷ 3 ∷ 220
+          ∷ 7 ∷ 140 ∷ 251 ∷ 134 ∷ 5 ∷ 5 ∷ 5 ∷ 5 ∷ 5 ∷ 5 ∷ [])
+          (0 ∷ 1 ∷ 9 ∷ []);
+    }
+    ∷
+    -- positions: a tetrahedron, vertices in the order 2 0 3 1: accepted
+    record {
+      limits = most;
+      vertices = 4;
+      list = (2 ∷ 0 ∷ 3 ∷ 0 ∷ 2 ∷ 1 ∷ 3 ∷ 0 ∷ 1 ∷ 2 ∷ 3 ∷ 1 ∷ []);
+      positions = given
+          (negsuc 1399 ∷ negsuc 677 ∷ pos 118 ∷ pos 988 ∷ pos 1932 ∷ negsuc 1145 ∷ negsuc 53 ∷ pos 1112 ∷ negsuc 1743 ∷ negsuc 429 ∷ pos 958
+          ∷ negsuc 1675 ∷ []);
+      lent = packLent (7 ∷ 7 ∷ 7 ∷ 7 ∷ 7 ∷ []) (replicate 1024 (place 3 1 2 true)) (replicate 52 5) (9 ∷ 9 ∷ 9 ∷ 9 ∷ 9 ∷ []);
+      answer = packed 43;
+      left = packLent (1 ∷ 3 ∷ 0 ∷ 2 ∷ 7 ∷ []) (replicate 1024 (place 0 0 0 false))
+          ((1 ∷ 0 ∷ 8 ∷ 0 ∷ 4 ∷ 0 ∷ 4 ∷ 0 ∷ 4 ∷ 0 ∷ 1 ∷ 2 ∷ 0 ∷ 2 ∷ 224 ∷ 208 ∷ 3 ∷ 0 ∷ 24 ∷ 255 ∷ 202 ∷ 4 ∷ 88 ∷ 249 ∷ 48 ∷ 250 ∷ 136 ∷ 253
+          ∷ 90 ∷ 0 ∷ 118 ∷ 254 ∷ 82 ∷ 3 ∷ 190 ∷ 249 ∷ 116 ∷ 3 ∷ 220 ∷ 7 ∷ 140 ∷ 251 ∷ 134 ∷ []) ++ replicate 9 5)
+          (0 ∷ 1 ∷ 2 ∷ 3 ∷ 9 ∷ []);
+    }
+    ∷
+    -- positions: torus of seven vertices: accepted
+    record {
+      limits = most;
+      vertices = 7;
+      list =
+          (0 ∷ 1 ∷ 3 ∷ 1 ∷ 2 ∷ 4 ∷ 2 ∷ 3 ∷ 5 ∷ 3 ∷ 4 ∷ 6 ∷ 4 ∷ 5 ∷ 0 ∷ 5 ∷ 6 ∷ 1 ∷ 6 ∷ 0 ∷ 2 ∷ 1 ∷ 0 ∷ 5 ∷ 2 ∷ 1 ∷ 6 ∷ 3 ∷ 2 ∷ 0 ∷ 4 ∷ 3 ∷ 1
+          ∷ 5 ∷ 4 ∷ 2 ∷ 6 ∷ 5 ∷ 3 ∷ 0 ∷ 6 ∷ 4 ∷ []);
+      positions = given
+          (negsuc 1399 ∷ negsuc 677 ∷ pos 118 ∷ pos 988 ∷ pos 1932 ∷ negsuc 1145 ∷ negsuc 53 ∷ pos 1112 ∷ negsuc 1743 ∷ negsuc 429 ∷ pos 958
+          ∷ negsuc 1675 ∷ negsuc 139 ∷ pos 1470 ∷ negsuc 941 ∷ pos 816 ∷ negsuc 1447 ∷ pos 458 ∷ negsuc 1657 ∷ pos 396 ∷ negsuc 1571 ∷ []);
+      lent = packLent (replicate 8 7) (replicate 1024 (place 3 1 2 true)) (replicate 80 5) (replicate 15 9);
+      answer = packed 69;
+      left = packLent (0 ∷ 1 ∷ 5 ∷ 2 ∷ 6 ∷ 3 ∷ 4 ∷ 7 ∷ []) (replicate 1024 (place 0 0 0 false))
+          ((1 ∷ 0 ∷ 8 ∷ 0 ∷ 7 ∷ 0 ∷ 14 ∷ 0 ∷ 8 ∷ 0 ∷ 2 ∷ 2 ∷ 0 ∷ 10 ∷ 224 ∷ 0 ∷ 96 ∷ 7 ∷ 128 ∷ 128 ∷ 69 ∷ 64 ∷ 14 ∷ 154 ∷ 3 ∷ 0 ∷ 42 ∷ 250
+          ∷ 136 ∷ 253 ∷ 90 ∷ 0 ∷ 118 ∷ 3 ∷ 220 ∷ 7 ∷ 140 ∷ 251 ∷ 134 ∷ 254 ∷ 82 ∷ 3 ∷ 190 ∷ 249 ∷ 116 ∷ 3 ∷ 48 ∷ 250 ∷ 88 ∷ 1 ∷ 202 ∷ 249
+          ∷ 134 ∷ 1 ∷ 140 ∷ 249 ∷ 220 ∷ 255 ∷ 202 ∷ 4 ∷ 88 ∷ 249 ∷ 48 ∷ 255 ∷ 116 ∷ 5 ∷ 190 ∷ 252 ∷ 82 ∷ []) ++ replicate 11 5)
+          (0 ∷ 7 ∷ 5 ∷ 8 ∷ 1 ∷ 10 ∷ 3 ∷ 13 ∷ 6 ∷ 9 ∷ 2 ∷ 12 ∷ 11 ∷ 4 ∷ 9 ∷ []);
+    }
+    ∷
+    -- positions: the smallest and the largest: accepted
+    record {
+      limits = most;
+      vertices = 3;
+      list = (0 ∷ 1 ∷ 2 ∷ []);
+      positions = given (negsuc 2047 ∷ pos 2047 ∷ negsuc 0 ∷ pos 0 ∷ pos 255 ∷ pos 256 ∷ pos 2047 ∷ negsuc 256 ∷ negsuc 2047 ∷ []);
+      lent = packLent (7 ∷ 7 ∷ 7 ∷ 7 ∷ []) (replicate 1025 (place 3 1 2 true)) (replicate 43 5) (9 ∷ 9 ∷ []);
+      answer = packed 37;
+      left = packLent (0 ∷ 1 ∷ 2 ∷ 7 ∷ []) (replicate 1024 (place 0 0 0 false) ++ (place 3 1 2 true ∷ []))
+          (1 ∷ 0 ∷ 8 ∷ 0 ∷ 3 ∷ 0 ∷ 1 ∷ 0 ∷ 3 ∷ 0 ∷ 1 ∷ 2 ∷ 0 ∷ 2 ∷ 237 ∷ 176 ∷ 3 ∷ 0 ∷ 18 ∷ 248 ∷ 0 ∷ 7 ∷ 255 ∷ 255 ∷ 255 ∷ 0 ∷ 0 ∷ 0 ∷ 255
+          ∷ 1 ∷ 0 ∷ 7 ∷ 255 ∷ 254 ∷ 255 ∷ 248 ∷ 0 ∷ 5 ∷ 5 ∷ 5 ∷ 5 ∷ 5 ∷ 5 ∷ [])
+          (0 ∷ 9 ∷ []);
+    }
+    ∷
+    -- positions: not given: accepted
+    record {
+      limits = most;
+      vertices = 3;
+      list = (0 ∷ 1 ∷ 2 ∷ []);
+      positions = not-given;
+      lent = packLent (7 ∷ 7 ∷ 7 ∷ 7 ∷ []) (replicate 1024 (place 3 1 2 true)) (replicate 43 5) (9 ∷ 9 ∷ []);
+      answer = packed 16;
+      left = packLent (0 ∷ 1 ∷ 2 ∷ 7 ∷ []) (replicate 1024 (place 0 0 0 false))
+          ((1 ∷ 0 ∷ 8 ∷ 0 ∷ 3 ∷ 0 ∷ 1 ∷ 0 ∷ 3 ∷ 0 ∷ 1 ∷ 2 ∷ 0 ∷ 2 ∷ 237 ∷ 176 ∷ []) ++ replicate 27 5) (0 ∷ 9 ∷ []);
+    }
+    ∷
+    -- positions: not given, and 9: refusal 9
+    record {
+      limits = record { places = 3; loops = 1 };
+      vertices = 4;
+      list = (0 ∷ 1 ∷ 2 ∷ 1 ∷ 0 ∷ 3 ∷ []);
+      positions = not-given;
+      lent = packLent (7 ∷ 7 ∷ 7 ∷ 7 ∷ 7 ∷ []) (replicate 1024 (place 3 1 2 true)) (replicate 50 5) (9 ∷ 9 ∷ 9 ∷ []);
+      answer = refusal 9;
+      left = packLent (0 ∷ 0 ∷ 0 ∷ 0 ∷ 7 ∷ []) (replicate 1024 (place 0 0 0 false)) (replicate 50 0) (0 ∷ 0 ∷ 9 ∷ []);
+    }
+    ∷
+    -- positions: 23: none: refusal 23
+    record {
+      limits = most;
+      vertices = 3;
+      list = (0 ∷ 1 ∷ 2 ∷ []);
+      positions = given [];
+      lent = packLent (7 ∷ 7 ∷ 7 ∷ 7 ∷ []) (replicate 1024 (place 3 1 2 true)) (replicate 43 5) (9 ∷ 9 ∷ []);
+      answer = refusal 23;
+      left = packLent (7 ∷ 7 ∷ 7 ∷ 7 ∷ []) (replicate 1024 (place 3 1 2 true)) (replicate 43 5) (9 ∷ 9 ∷ []);
+    }
+    ∷
+    -- positions: 23: one too few: refusal 23
+    record {
+      limits = most;
+      vertices = 3;
+      list = (0 ∷ 1 ∷ 2 ∷ []);
+      positions = given (negsuc 1399 ∷ negsuc 677 ∷ pos 118 ∷ pos 988 ∷ pos 1932 ∷ negsuc 1145 ∷ negsuc 53 ∷ pos 1112 ∷ []);
+      lent = packLent (7 ∷ 7 ∷ 7 ∷ 7 ∷ []) (replicate 1024 (place 3 1 2 true)) (replicate 43 5) (9 ∷ 9 ∷ []);
+      answer = refusal 23;
+      left = packLent (7 ∷ 7 ∷ 7 ∷ 7 ∷ []) (replicate 1024 (place 3 1 2 true)) (replicate 43 5) (9 ∷ 9 ∷ []);
+    }
+    ∷
+    -- positions: 23: one too many: refusal 23
+    record {
+      limits = most;
+      vertices = 3;
+      list = (0 ∷ 1 ∷ 2 ∷ []);
+      positions = given
+          (negsuc 1399 ∷ negsuc 677 ∷ pos 118 ∷ pos 988 ∷ pos 1932 ∷ negsuc 1145 ∷ negsuc 53 ∷ pos 1112 ∷ negsuc 1743 ∷ pos 0 ∷ []);
+      lent = packLent (7 ∷ 7 ∷ 7 ∷ 7 ∷ []) (replicate 1024 (place 3 1 2 true)) (replicate 43 5) (9 ∷ 9 ∷ []);
+      answer = refusal 23;
+      left = packLent (7 ∷ 7 ∷ 7 ∷ 7 ∷ []) (replicate 1024 (place 3 1 2 true)) (replicate 43 5) (9 ∷ 9 ∷ []);
+    }
+    ∷
+    -- positions: 23: three too many: refusal 23
+    record {
+      limits = most;
+      vertices = 3;
+      list = (0 ∷ 1 ∷ 2 ∷ []);
+      positions = given
+          (negsuc 1399 ∷ negsuc 677 ∷ pos 118 ∷ pos 988 ∷ pos 1932 ∷ negsuc 1145 ∷ negsuc 53 ∷ pos 1112 ∷ negsuc 1743 ∷ negsuc 429 ∷ pos 958
+          ∷ negsuc 1675 ∷ []);
+      lent = packLent (7 ∷ 7 ∷ 7 ∷ 7 ∷ []) (replicate 1024 (place 3 1 2 true)) (replicate 43 5) (9 ∷ 9 ∷ []);
+      answer = refusal 23;
+      left = packLent (7 ∷ 7 ∷ 7 ∷ 7 ∷ []) (replicate 1024 (place 3 1 2 true)) (replicate 43 5) (9 ∷ 9 ∷ []);
+    }
+    ∷
+    -- positions: 23: -2049 at x of vertex 0: refusal 23
+    record {
+      limits = most;
+      vertices = 3;
+      list = (0 ∷ 1 ∷ 2 ∷ []);
+      positions = given (negsuc 2048 ∷ negsuc 677 ∷ pos 118 ∷ pos 988 ∷ pos 1932 ∷ negsuc 1145 ∷ negsuc 53 ∷ pos 1112 ∷ negsuc 1743 ∷ []);
+      lent = packLent (7 ∷ 7 ∷ 7 ∷ 7 ∷ []) (replicate 1024 (place 3 1 2 true)) (replicate 43 5) (9 ∷ 9 ∷ []);
+      answer = refusal 23;
+      left = packLent (7 ∷ 7 ∷ 7 ∷ 7 ∷ []) (replicate 1024 (place 3 1 2 true)) (replicate 43 5) (9 ∷ 9 ∷ []);
+    }
+    ∷
+    -- positions: 23: 2048 at y of vertex 0: refusal 23
+    record {
+      limits = most;
+      vertices = 3;
+      list = (0 ∷ 1 ∷ 2 ∷ []);
+      positions = given (negsuc 1399 ∷ pos 2048 ∷ pos 118 ∷ pos 988 ∷ pos 1932 ∷ negsuc 1145 ∷ negsuc 53 ∷ pos 1112 ∷ negsuc 1743 ∷ []);
+      lent = packLent (7 ∷ 7 ∷ 7 ∷ 7 ∷ []) (replicate 1024 (place 3 1 2 true)) (replicate 43 5) (9 ∷ 9 ∷ []);
+      answer = refusal 23;
+      left = packLent (7 ∷ 7 ∷ 7 ∷ 7 ∷ []) (replicate 1024 (place 3 1 2 true)) (replicate 43 5) (9 ∷ 9 ∷ []);
+    }
+    ∷
+    -- positions: 23: -2049 at z of vertex 0: refusal 23
+    record {
+      limits = most;
+      vertices = 3;
+      list = (0 ∷ 1 ∷ 2 ∷ []);
+      positions = given
+          (negsuc 1399 ∷ negsuc 677 ∷ negsuc 2048 ∷ pos 988 ∷ pos 1932 ∷ negsuc 1145 ∷ negsuc 53 ∷ pos 1112 ∷ negsuc 1743 ∷ []);
+      lent = packLent (7 ∷ 7 ∷ 7 ∷ 7 ∷ []) (replicate 1024 (place 3 1 2 true)) (replicate 43 5) (9 ∷ 9 ∷ []);
+      answer = refusal 23;
+      left = packLent (7 ∷ 7 ∷ 7 ∷ 7 ∷ []) (replicate 1024 (place 3 1 2 true)) (replicate 43 5) (9 ∷ 9 ∷ []);
+    }
+    ∷
+    -- positions: 23: 2048 at x of vertex 1: refusal 23
+    record {
+      limits = most;
+      vertices = 3;
+      list = (0 ∷ 1 ∷ 2 ∷ []);
+      positions = given (negsuc 1399 ∷ negsuc 677 ∷ pos 118 ∷ pos 2048 ∷ pos 1932 ∷ negsuc 1145 ∷ negsuc 53 ∷ pos 1112 ∷ negsuc 1743 ∷ []);
+      lent = packLent (7 ∷ 7 ∷ 7 ∷ 7 ∷ []) (replicate 1024 (place 3 1 2 true)) (replicate 43 5) (9 ∷ 9 ∷ []);
+      answer = refusal 23;
+      left = packLent (7 ∷ 7 ∷ 7 ∷ 7 ∷ []) (replicate 1024 (place 3 1 2 true)) (replicate 43 5) (9 ∷ 9 ∷ []);
+    }
+    ∷
+    -- positions: 23: -2049 at y of vertex 2: refusal 23
+    record {
+      limits = most;
+      vertices = 3;
+      list = (0 ∷ 1 ∷ 2 ∷ []);
+      positions = given
+          (negsuc 1399 ∷ negsuc 677 ∷ pos 118 ∷ pos 988 ∷ pos 1932 ∷ negsuc 1145 ∷ negsuc 53 ∷ negsuc 2048 ∷ negsuc 1743 ∷ []);
+      lent = packLent (7 ∷ 7 ∷ 7 ∷ 7 ∷ []) (replicate 1024 (place 3 1 2 true)) (replicate 43 5) (9 ∷ 9 ∷ []);
+      answer = refusal 23;
+      left = packLent (7 ∷ 7 ∷ 7 ∷ 7 ∷ []) (replicate 1024 (place 3 1 2 true)) (replicate 43 5) (9 ∷ 9 ∷ []);
+    }
+    ∷
+    -- positions: 23: 2048 at z of vertex 2: refusal 23
+    record {
+      limits = most;
+      vertices = 3;
+      list = (0 ∷ 1 ∷ 2 ∷ []);
+      positions = given (negsuc 1399 ∷ negsuc 677 ∷ pos 118 ∷ pos 988 ∷ pos 1932 ∷ negsuc 1145 ∷ negsuc 53 ∷ pos 1112 ∷ pos 2048 ∷ []);
+      lent = packLent (7 ∷ 7 ∷ 7 ∷ 7 ∷ []) (replicate 1024 (place 3 1 2 true)) (replicate 43 5) (9 ∷ 9 ∷ []);
+      answer = refusal 23;
+      left = packLent (7 ∷ 7 ∷ 7 ∷ 7 ∷ []) (replicate 1024 (place 3 1 2 true)) (replicate 43 5) (9 ∷ 9 ∷ []);
+    }
+    ∷
+    -- positions: 5 before 23: refusal 5
+    record {
+      limits = most;
+      vertices = 4;
+      list = (0 ∷ 1 ∷ 2 ∷ 0 ∷ 1 ∷ 3 ∷ []);
+      positions = given
+          (pos 2048 ∷ negsuc 677 ∷ pos 118 ∷ pos 988 ∷ pos 1932 ∷ negsuc 1145 ∷ negsuc 53 ∷ pos 1112 ∷ negsuc 1743 ∷ negsuc 429 ∷ pos 958
+          ∷ negsuc 1675 ∷ []);
+      lent = packLent (7 ∷ 7 ∷ 7 ∷ 7 ∷ 7 ∷ []) (place 3 1 2 true ∷ place 3 1 2 true ∷ []) (replicate 50 5) (9 ∷ 9 ∷ 9 ∷ []);
+      answer = refusal 5;
+      left = packLent (7 ∷ 7 ∷ 7 ∷ 7 ∷ 7 ∷ []) (place 3 1 2 true ∷ place 3 1 2 true ∷ []) (replicate 50 5) (9 ∷ 9 ∷ 9 ∷ []);
+    }
+    ∷
+    -- positions: 7 before 23: refusal 7
+    record {
+      limits = most;
+      vertices = 5;
+      list = (0 ∷ 1 ∷ 2 ∷ 0 ∷ 3 ∷ 4 ∷ []);
+      positions = given
+          (pos 2048 ∷ negsuc 677 ∷ pos 118 ∷ pos 988 ∷ pos 1932 ∷ negsuc 1145 ∷ negsuc 53 ∷ pos 1112 ∷ negsuc 1743 ∷ negsuc 429 ∷ pos 958
+          ∷ negsuc 1675 ∷ negsuc 139 ∷ pos 1470 ∷ negsuc 941 ∷ []);
+      lent = packLent (7 ∷ 7 ∷ 7 ∷ 7 ∷ 7 ∷ 7 ∷ []) (place 3 1 2 true ∷ place 3 1 2 true ∷ []) (replicate 56 5) (9 ∷ 9 ∷ 9 ∷ []);
+      answer = refusal 7;
+      left = packLent (7 ∷ 7 ∷ 7 ∷ 7 ∷ 7 ∷ 7 ∷ []) (place 3 1 2 true ∷ place 3 1 2 true ∷ []) (replicate 56 5) (9 ∷ 9 ∷ 9 ∷ []);
+    }
+    ∷
+    -- positions: 8 before 22: refusal 8
+    record {
+      limits = most;
+      vertices = 4;
+      list = (0 ∷ 1 ∷ 2 ∷ 1 ∷ 0 ∷ 3 ∷ []);
+      positions = given
+          (negsuc 1399 ∷ negsuc 677 ∷ pos 118 ∷ pos 988 ∷ pos 1932 ∷ negsuc 1145 ∷ negsuc 53 ∷ pos 1112 ∷ negsuc 1743 ∷ negsuc 429 ∷ pos 958
+          ∷ negsuc 1675 ∷ []);
+      lent = packLent (7 ∷ 7 ∷ 7 ∷ 7 ∷ 7 ∷ []) (place 3 1 2 true ∷ place 3 1 2 true ∷ []) (replicate 50 5) (9 ∷ []);
+      answer = refusal 8;
+      left = packLent (7 ∷ 7 ∷ 7 ∷ 7 ∷ 7 ∷ []) (place 3 1 2 true ∷ place 3 1 2 true ∷ []) (replicate 50 5) (9 ∷ []);
+    }
+    ∷
+    -- positions: 8 before 23: numbering: refusal 8
+    record {
+      limits = most;
+      vertices = 3;
+      list = (0 ∷ 1 ∷ 2 ∷ []);
+      positions = given (pos 2048 ∷ negsuc 677 ∷ pos 118 ∷ pos 988 ∷ pos 1932 ∷ negsuc 1145 ∷ negsuc 53 ∷ pos 1112 ∷ negsuc 1743 ∷ []);
+      lent = packLent (7 ∷ 7 ∷ []) (replicate 1024 (place 3 1 2 true)) (replicate 43 5) (9 ∷ 9 ∷ []);
+      answer = refusal 8;
+      left = packLent (7 ∷ 7 ∷ []) (replicate 1024 (place 3 1 2 true)) (replicate 43 5) (9 ∷ 9 ∷ []);
+    }
+    ∷
+    -- positions: 8 before 23: places: refusal 8
+    record {
+      limits = most;
+      vertices = 3;
+      list = (0 ∷ 1 ∷ 2 ∷ []);
+      positions = given (pos 2048 ∷ negsuc 677 ∷ pos 118 ∷ pos 988 ∷ pos 1932 ∷ negsuc 1145 ∷ negsuc 53 ∷ pos 1112 ∷ negsuc 1743 ∷ []);
+      lent = packLent (7 ∷ 7 ∷ 7 ∷ 7 ∷ []) (replicate 1023 (place 3 1 2 true)) (replicate 43 5) (9 ∷ 9 ∷ []);
+      answer = refusal 8;
+      left = packLent (7 ∷ 7 ∷ 7 ∷ 7 ∷ []) (replicate 1023 (place 3 1 2 true)) (replicate 43 5) (9 ∷ 9 ∷ []);
+    }
+    ∷
+    -- positions: 22 before 23: refusal 22
+    record {
+      limits = most;
+      vertices = 4;
+      list = (0 ∷ 1 ∷ 2 ∷ 1 ∷ 0 ∷ 3 ∷ []);
+      positions = given
+          (pos 2048 ∷ negsuc 677 ∷ pos 118 ∷ pos 988 ∷ pos 1932 ∷ negsuc 1145 ∷ negsuc 53 ∷ pos 1112 ∷ negsuc 1743 ∷ negsuc 429 ∷ pos 958
+          ∷ negsuc 1675 ∷ []);
+      lent = packLent (7 ∷ 7 ∷ 7 ∷ 7 ∷ 7 ∷ []) (replicate 1024 (place 3 1 2 true)) (replicate 50 5) (9 ∷ []);
+      answer = refusal 22;
+      left = packLent (7 ∷ 7 ∷ 7 ∷ 7 ∷ 7 ∷ []) (replicate 1024 (place 3 1 2 true)) (replicate 50 5) (9 ∷ []);
+    }
+    ∷
+    -- positions: 22 before 23: no position: refusal 22
+    record {
+      limits = most;
+      vertices = 4;
+      list = (0 ∷ 1 ∷ 2 ∷ 1 ∷ 0 ∷ 3 ∷ []);
+      positions = given [];
+      lent = packLent (7 ∷ 7 ∷ 7 ∷ 7 ∷ 7 ∷ []) (replicate 1024 (place 3 1 2 true)) (replicate 50 5) [];
+      answer = refusal 22;
+      left = packLent (7 ∷ 7 ∷ 7 ∷ 7 ∷ 7 ∷ []) (replicate 1024 (place 3 1 2 true)) (replicate 50 5) [];
+    }
+    ∷
+    -- positions: 23 before 9: refusal 23
+    record {
+      limits = record { places = 3; loops = 1 };
+      vertices = 4;
+      list = (0 ∷ 1 ∷ 2 ∷ 1 ∷ 0 ∷ 3 ∷ []);
+      positions = given
+          (pos 2048 ∷ negsuc 677 ∷ pos 118 ∷ pos 988 ∷ pos 1932 ∷ negsuc 1145 ∷ negsuc 53 ∷ pos 1112 ∷ negsuc 1743 ∷ negsuc 429 ∷ pos 958
+          ∷ negsuc 1675 ∷ []);
+      lent = packLent (7 ∷ 7 ∷ 7 ∷ 7 ∷ 7 ∷ []) (replicate 1024 (place 3 1 2 true)) (replicate 50 5) (9 ∷ 9 ∷ 9 ∷ []);
+      answer = refusal 23;
+      left = packLent (7 ∷ 7 ∷ 7 ∷ 7 ∷ 7 ∷ []) (replicate 1024 (place 3 1 2 true)) (replicate 50 5) (9 ∷ 9 ∷ 9 ∷ []);
+    }
+    ∷
+    -- positions: 23 before 10: refusal 23
+    record {
+      limits = record { places = 1024; loops = 1 };
+      vertices = 6;
+      list = (1 ∷ 3 ∷ 2 ∷ 2 ∷ 4 ∷ 5 ∷ 2 ∷ 3 ∷ 4 ∷ 1 ∷ 0 ∷ 3 ∷ 2 ∷ 5 ∷ 0 ∷ 0 ∷ 1 ∷ 2 ∷ []);
+      positions = given
+          (pos 2048 ∷ negsuc 677 ∷ pos 118 ∷ pos 988 ∷ pos 1932 ∷ negsuc 1145 ∷ negsuc 53 ∷ pos 1112 ∷ negsuc 1743 ∷ negsuc 429 ∷ pos 958
+          ∷ negsuc 1675 ∷ negsuc 139 ∷ pos 1470 ∷ negsuc 941 ∷ pos 816 ∷ negsuc 1447 ∷ pos 458 ∷ []);
+      lent = packLent (7 ∷ 7 ∷ 7 ∷ 7 ∷ 7 ∷ 7 ∷ 7 ∷ []) (replicate 1024 (place 3 1 2 true)) (replicate 66 5)
+          (9 ∷ 9 ∷ 9 ∷ 9 ∷ 9 ∷ 9 ∷ 9 ∷ []);
+      answer = refusal 23;
+      left = packLent (7 ∷ 7 ∷ 7 ∷ 7 ∷ 7 ∷ 7 ∷ 7 ∷ []) (replicate 1024 (place 3 1 2 true)) (replicate 66 5)
+          (9 ∷ 9 ∷ 9 ∷ 9 ∷ 9 ∷ 9 ∷ 9 ∷ []);
+    }
+    ∷
+    -- positions: 23 before 11: refusal 23
+    record {
+      limits = most;
+      vertices = 3;
+      list = (0 ∷ 1 ∷ 2 ∷ []);
+      positions = given (pos 2048 ∷ negsuc 677 ∷ pos 118 ∷ pos 988 ∷ pos 1932 ∷ negsuc 1145 ∷ negsuc 53 ∷ pos 1112 ∷ negsuc 1743 ∷ []);
+      lent = packLent (7 ∷ 7 ∷ 7 ∷ 7 ∷ []) (replicate 1024 (place 3 1 2 true)) [] (9 ∷ 9 ∷ []);
+      answer = refusal 23;
+      left = packLent (7 ∷ 7 ∷ 7 ∷ 7 ∷ []) (replicate 1024 (place 3 1 2 true)) [] (9 ∷ 9 ∷ []);
+    }
+    ∷
+    -- positions: 9: refusal 9
+    record {
+      limits = record { places = 3; loops = 1 };
+      vertices = 4;
+      list = (0 ∷ 1 ∷ 2 ∷ 1 ∷ 0 ∷ 3 ∷ []);
+      positions = given
+          (negsuc 1399 ∷ negsuc 677 ∷ pos 118 ∷ pos 988 ∷ pos 1932 ∷ negsuc 1145 ∷ negsuc 53 ∷ pos 1112 ∷ negsuc 1743 ∷ negsuc 429 ∷ pos 958
+          ∷ negsuc 1675 ∷ []);
+      lent = packLent (7 ∷ 7 ∷ 7 ∷ 7 ∷ 7 ∷ []) (replicate 1024 (place 3 1 2 true)) [] (9 ∷ 9 ∷ 9 ∷ []);
+      answer = refusal 9;
+      left = packLent (0 ∷ 0 ∷ 0 ∷ 0 ∷ 7 ∷ []) (replicate 1024 (place 0 0 0 false)) [] (0 ∷ 0 ∷ 9 ∷ []);
+    }
+    ∷
+    -- positions: 10: refusal 10
+    record {
+      limits = record { places = 1024; loops = 1 };
+      vertices = 6;
+      list = (1 ∷ 3 ∷ 2 ∷ 2 ∷ 4 ∷ 5 ∷ 2 ∷ 3 ∷ 4 ∷ 1 ∷ 0 ∷ 3 ∷ 2 ∷ 5 ∷ 0 ∷ 0 ∷ 1 ∷ 2 ∷ []);
+      positions = given
+          (negsuc 1399 ∷ negsuc 677 ∷ pos 118 ∷ pos 988 ∷ pos 1932 ∷ negsuc 1145 ∷ negsuc 53 ∷ pos 1112 ∷ negsuc 1743 ∷ negsuc 429 ∷ pos 958
+          ∷ negsuc 1675 ∷ negsuc 139 ∷ pos 1470 ∷ negsuc 941 ∷ pos 816 ∷ negsuc 1447 ∷ pos 458 ∷ []);
+      lent = packLent (7 ∷ 7 ∷ 7 ∷ 7 ∷ 7 ∷ 7 ∷ 7 ∷ []) (replicate 1024 (place 3 1 2 true)) [] (9 ∷ 9 ∷ 9 ∷ 9 ∷ 9 ∷ 9 ∷ 9 ∷ []);
+      answer = refusal 10;
+      left = packLent (0 ∷ 0 ∷ 0 ∷ 0 ∷ 0 ∷ 0 ∷ 7 ∷ []) (replicate 1024 (place 0 0 0 false)) [] (0 ∷ 0 ∷ 0 ∷ 0 ∷ 0 ∷ 0 ∷ 9 ∷ []);
+    }
+    ∷
+    -- positions: 11: one byte too short: refusal 11
+    record {
+      limits = most;
+      vertices = 3;
+      list = (0 ∷ 1 ∷ 2 ∷ []);
+      positions = given (negsuc 1399 ∷ negsuc 677 ∷ pos 118 ∷ pos 988 ∷ pos 1932 ∷ negsuc 1145 ∷ negsuc 53 ∷ pos 1112 ∷ negsuc 1743 ∷ []);
+      lent = packLent (7 ∷ 7 ∷ 7 ∷ 7 ∷ []) (replicate 1024 (place 3 1 2 true)) (replicate 36 5) (9 ∷ 9 ∷ []);
+      answer = refusal 11;
+      left = packLent (0 ∷ 0 ∷ 0 ∷ 7 ∷ []) (replicate 1024 (place 0 0 0 false)) (replicate 36 0) (0 ∷ 9 ∷ []);
+    }
+    ∷
+    -- positions: buffers just long enough: accepted
+    record {
+      limits = most;
+      vertices = 3;
+      list = (0 ∷ 1 ∷ 2 ∷ []);
+      positions = given (negsuc 1399 ∷ negsuc 677 ∷ pos 118 ∷ pos 988 ∷ pos 1932 ∷ negsuc 1145 ∷ negsuc 53 ∷ pos 1112 ∷ negsuc 1743 ∷ []);
+      lent = packLent (7 ∷ 7 ∷ 7 ∷ []) (replicate 1024 (place 3 1 2 true)) (replicate 37 5) (9 ∷ []);
+      answer = packed 37;
+      left = packLent (0 ∷ 1 ∷ 2 ∷ []) (replicate 1024 (place 0 0 0 false))
+          (1 ∷ 0 ∷ 8 ∷ 0 ∷ 3 ∷ 0 ∷ 1 ∷ 0 ∷ 3 ∷ 0 ∷ 1 ∷ 2 ∷ 0 ∷ 2 ∷ 237 ∷ 176 ∷ 3 ∷ 0 ∷ 18 ∷ 250 ∷ 136 ∷ 253 ∷ 90 ∷ 0 ∷ 118 ∷ 3 ∷ 220 ∷ 7
+          ∷ 140 ∷ 251 ∷ 134 ∷ 255 ∷ 202 ∷ 4 ∷ 88 ∷ 249 ∷ 48 ∷ [])
+          (0 ∷ []);
+    }
+    ∷
+    []
+
+unfoldable pub wholeRows : List WholeRow
+wholeRows =
+    -- volume of M2, corners at 0 and at 5 of each axis: only 2 1 3 is away from 0, rows 0 5 0, 5 0 0, 0 0 5: accepted, -125
+    record {
+      bytes =
+          (1 ∷ 0 ∷ 8 ∷ 0 ∷ 4 ∷ 0 ∷ 4 ∷ 0 ∷ 4 ∷ 0 ∷ 1 ∷ 2 ∷ 0 ∷ 2 ∷ 224 ∷ 208 ∷ 3 ∷ 0 ∷ 24 ∷ 0 ∷ 0 ∷ 0 ∷ 0 ∷ 0 ∷ 0 ∷ 0 ∷ 5 ∷ 0 ∷ 0 ∷ 0 ∷ 0
+          ∷ 0 ∷ 0 ∷ 0 ∷ 5 ∷ 0 ∷ 0 ∷ 0 ∷ 0 ∷ 0 ∷ 0 ∷ 0 ∷ 5 ∷ []);
+      lent = unpackLent (1 ∷ 2 ∷ 0 ∷ 1 ∷ 2 ∷ 0 ∷ 1 ∷ 2 ∷ 0 ∷ 1 ∷ 2 ∷ 0 ∷ 1 ∷ 2 ∷ 0 ∷ []) (replicate 1024 (place 3 1 2 true));
+      unpacking = unpackTold (modelOf 4 4 (totalsOf 6 0 0 (pos 2)))
+          (unpackLent (0 ∷ 1 ∷ 2 ∷ 1 ∷ 0 ∷ 3 ∷ 1 ∷ 3 ∷ 2 ∷ 2 ∷ 3 ∷ 0 ∷ 1 ∷ 2 ∷ 0 ∷ []) (replicate 1024 (place 0 0 0 false)));
+      measuring = volumeTold (modelOf 4 4 (totalsOf 6 0 0 (pos 2))) (given (negsuc 124))
+          (unpackLent (0 ∷ 1 ∷ 2 ∷ 1 ∷ 0 ∷ 3 ∷ 1 ∷ 3 ∷ 2 ∷ 2 ∷ 3 ∷ 0 ∷ 1 ∷ 2 ∷ 0 ∷ []) (replicate 1024 (place 0 0 0 false)));
+    }
+    ∷
+    -- volume of M2, the same turned inside out: accepted, 125
+    record {
+      bytes =
+          ((1 ∷ 0 ∷ 8 ∷ 0 ∷ 4 ∷ 0 ∷ 4 ∷ 0 ∷ 4 ∷ 0 ∷ 1 ∷ 2 ∷ 0 ∷ 2 ∷ 224 ∷ 208 ∷ 3 ∷ 0 ∷ 24 ∷ 0 ∷ 5 ∷ []) ++ replicate 13 0 ++ (5 ∷ 0 ∷ 0 ∷ 0
+          ∷ 0 ∷ 0 ∷ 0 ∷ 0 ∷ 5 ∷ []));
+      lent = unpackLent (1 ∷ 2 ∷ 0 ∷ 1 ∷ 2 ∷ 0 ∷ 1 ∷ 2 ∷ 0 ∷ 1 ∷ 2 ∷ 0 ∷ 1 ∷ 2 ∷ 0 ∷ []) (replicate 1024 (place 3 1 2 true));
+      unpacking = unpackTold (modelOf 4 4 (totalsOf 6 0 0 (pos 2)))
+          (unpackLent (0 ∷ 1 ∷ 2 ∷ 1 ∷ 0 ∷ 3 ∷ 1 ∷ 3 ∷ 2 ∷ 2 ∷ 3 ∷ 0 ∷ 1 ∷ 2 ∷ 0 ∷ []) (replicate 1024 (place 0 0 0 false)));
+      measuring = volumeTold (modelOf 4 4 (totalsOf 6 0 0 (pos 2))) (given (pos 125))
+          (unpackLent (0 ∷ 1 ∷ 2 ∷ 1 ∷ 0 ∷ 3 ∷ 1 ∷ 3 ∷ 2 ∷ 2 ∷ 3 ∷ 0 ∷ 1 ∷ 2 ∷ 0 ∷ []) (replicate 1024 (place 0 0 0 false)));
+    }
+    ∷
+    -- volume of the largest cube, six times 4,095 x 4,095 x 4,095: accepted, 412014944250
+    record {
+      bytes =
+          (1 ∷ 0 ∷ 8 ∷ 0 ∷ 8 ∷ 0 ∷ 12 ∷ 0 ∷ 7 ∷ 0 ∷ 2 ∷ 2 ∷ 0 ∷ 6 ∷ 224 ∷ 2 ∷ 32 ∷ 5 ∷ 72 ∷ 52 ∷ 3 ∷ 0 ∷ 48 ∷ 248 ∷ 0 ∷ 248 ∷ 0 ∷ 248 ∷ 0
+          ∷ 248 ∷ 0 ∷ 7 ∷ 255 ∷ 248 ∷ 0 ∷ 7 ∷ 255 ∷ 248 ∷ 0 ∷ 248 ∷ 0 ∷ 248 ∷ 0 ∷ 248 ∷ 0 ∷ 7 ∷ 255 ∷ 248 ∷ 0 ∷ 7 ∷ 255 ∷ 7 ∷ 255 ∷ 7 ∷ 255
+          ∷ 7 ∷ 255 ∷ 248 ∷ 0 ∷ 7 ∷ 255 ∷ 248 ∷ 0 ∷ 7 ∷ 255 ∷ 7 ∷ 255 ∷ 7 ∷ 255 ∷ 7 ∷ 255 ∷ []);
+      lent = unpackLent
+          (1 ∷ 2 ∷ 0 ∷ 1 ∷ 2 ∷ 0 ∷ 1 ∷ 2 ∷ 0 ∷ 1 ∷ 2 ∷ 0 ∷ 1 ∷ 2 ∷ 0 ∷ 1 ∷ 2 ∷ 0 ∷ 1 ∷ 2 ∷ 0 ∷ 1 ∷ 2 ∷ 0 ∷ 1 ∷ 2 ∷ 0 ∷ 1 ∷ 2 ∷ 0 ∷ 1 ∷ 2 ∷ 0
+          ∷ 1 ∷ 2 ∷ 0 ∷ 1 ∷ 2 ∷ 0 ∷ [])
+          (replicate 1024 (place 3 1 2 true));
+      unpacking = unpackTold (modelOf 8 12 (totalsOf 18 0 0 (pos 2)))
+          (unpackLent (0 ∷ 1 ∷ 2 ∷ 1 ∷ 0 ∷ 3 ∷ 1 ∷ 3 ∷ 4 ∷ 1 ∷ 4 ∷ 5 ∷ 1 ∷ 5 ∷ 2 ∷ 2 ∷ 5 ∷ 6 ∷ 2 ∷ 6 ∷ 3 ∷ 2 ∷ 3 ∷ 0 ∷ 3 ∷ 6 ∷ 4 ∷ 4 ∷ 6 ∷ 7
+          ∷ 4 ∷ 7 ∷ 5 ∷ 5 ∷ 7 ∷ 6 ∷ 1 ∷ 2 ∷ 0 ∷ []) (replicate 1024 (place 0 0 0 false)));
+      measuring = volumeTold (modelOf 8 12 (totalsOf 18 0 0 (pos 2))) (given (pos 412014944250))
+          (unpackLent (0 ∷ 1 ∷ 2 ∷ 1 ∷ 0 ∷ 3 ∷ 1 ∷ 3 ∷ 4 ∷ 1 ∷ 4 ∷ 5 ∷ 1 ∷ 5 ∷ 2 ∷ 2 ∷ 5 ∷ 6 ∷ 2 ∷ 6 ∷ 3 ∷ 2 ∷ 3 ∷ 0 ∷ 3 ∷ 6 ∷ 4 ∷ 4 ∷ 6 ∷ 7
+          ∷ 4 ∷ 7 ∷ 5 ∷ 5 ∷ 7 ∷ 6 ∷ 1 ∷ 2 ∷ 0 ∷ []) (replicate 1024 (place 0 0 0 false)));
+    }
+    ∷
+    -- volume of M2, different numbers: accepted, -605601792
+    record {
+      bytes =
+          (1 ∷ 0 ∷ 8 ∷ 0 ∷ 4 ∷ 0 ∷ 4 ∷ 0 ∷ 4 ∷ 0 ∷ 1 ∷ 2 ∷ 0 ∷ 2 ∷ 224 ∷ 208 ∷ 3 ∷ 0 ∷ 24 ∷ 250 ∷ 136 ∷ 253 ∷ 90 ∷ 0 ∷ 118 ∷ 3 ∷ 220 ∷ 7
+          ∷ 140 ∷ 251 ∷ 134 ∷ 255 ∷ 202 ∷ 4 ∷ 88 ∷ 249 ∷ 48 ∷ 254 ∷ 82 ∷ 3 ∷ 190 ∷ 249 ∷ 116 ∷ []);
+      lent = unpackLent (1 ∷ 2 ∷ 0 ∷ 1 ∷ 2 ∷ 0 ∷ 1 ∷ 2 ∷ 0 ∷ 1 ∷ 2 ∷ 0 ∷ 1 ∷ 2 ∷ 0 ∷ []) (replicate 1024 (place 3 1 2 true));
+      unpacking = unpackTold (modelOf 4 4 (totalsOf 6 0 0 (pos 2)))
+          (unpackLent (0 ∷ 1 ∷ 2 ∷ 1 ∷ 0 ∷ 3 ∷ 1 ∷ 3 ∷ 2 ∷ 2 ∷ 3 ∷ 0 ∷ 1 ∷ 2 ∷ 0 ∷ []) (replicate 1024 (place 0 0 0 false)));
+      measuring = volumeTold (modelOf 4 4 (totalsOf 6 0 0 (pos 2))) (given (negsuc 605601791))
+          (unpackLent (0 ∷ 1 ∷ 2 ∷ 1 ∷ 0 ∷ 3 ∷ 1 ∷ 3 ∷ 2 ∷ 2 ∷ 3 ∷ 0 ∷ 1 ∷ 2 ∷ 0 ∷ []) (replicate 1024 (place 0 0 0 false)));
+    }
+    ∷
+    -- volume of M4: accepted, 0
+    record {
+      bytes =
+          (1 ∷ 0 ∷ 8 ∷ 0 ∷ 3 ∷ 0 ∷ 2 ∷ 0 ∷ 3 ∷ 0 ∷ 1 ∷ 2 ∷ 0 ∷ 1 ∷ 244 ∷ 3 ∷ 0 ∷ 18 ∷ 250 ∷ 136 ∷ 253 ∷ 90 ∷ 0 ∷ 118 ∷ 3 ∷ 220 ∷ 7 ∷ 140
+          ∷ 251 ∷ 134 ∷ 255 ∷ 202 ∷ 4 ∷ 88 ∷ 249 ∷ 48 ∷ []);
+      lent = unpackLent (1 ∷ 2 ∷ 0 ∷ 1 ∷ 2 ∷ 0 ∷ 1 ∷ 2 ∷ 0 ∷ []) (replicate 1024 (place 3 1 2 true));
+      unpacking = unpackTold (modelOf 3 2 (totalsOf 3 0 0 (pos 2)))
+          (unpackLent (0 ∷ 1 ∷ 2 ∷ 1 ∷ 0 ∷ 2 ∷ 1 ∷ 2 ∷ 0 ∷ []) (replicate 1024 (place 0 0 0 false)));
+      measuring = volumeTold (modelOf 3 2 (totalsOf 3 0 0 (pos 2))) (given (pos 0))
+          (unpackLent (0 ∷ 1 ∷ 2 ∷ 1 ∷ 0 ∷ 2 ∷ 1 ∷ 2 ∷ 0 ∷ []) (replicate 1024 (place 0 0 0 false)));
+    }
+    ∷
+    -- volume of a torus: accepted, -4451893248
+    record {
+      bytes =
+          (1 ∷ 0 ∷ 8 ∷ 0 ∷ 7 ∷ 0 ∷ 14 ∷ 0 ∷ 8 ∷ 0 ∷ 2 ∷ 2 ∷ 0 ∷ 10 ∷ 224 ∷ 0 ∷ 96 ∷ 7 ∷ 128 ∷ 128 ∷ 69 ∷ 64 ∷ 14 ∷ 154 ∷ 3 ∷ 0 ∷ 42 ∷ 250
+          ∷ 136 ∷ 253 ∷ 90 ∷ 0 ∷ 118 ∷ 3 ∷ 220 ∷ 7 ∷ 140 ∷ 251 ∷ 134 ∷ 254 ∷ 82 ∷ 3 ∷ 190 ∷ 249 ∷ 116 ∷ 3 ∷ 48 ∷ 250 ∷ 88 ∷ 1 ∷ 202 ∷ 249
+          ∷ 134 ∷ 1 ∷ 140 ∷ 249 ∷ 220 ∷ 255 ∷ 202 ∷ 4 ∷ 88 ∷ 249 ∷ 48 ∷ 255 ∷ 116 ∷ 5 ∷ 190 ∷ 252 ∷ 82 ∷ []);
+      lent = unpackLent
+          (1 ∷ 2 ∷ 0 ∷ 1 ∷ 2 ∷ 0 ∷ 1 ∷ 2 ∷ 0 ∷ 1 ∷ 2 ∷ 0 ∷ 1 ∷ 2 ∷ 0 ∷ 1 ∷ 2 ∷ 0 ∷ 1 ∷ 2 ∷ 0 ∷ 1 ∷ 2 ∷ 0 ∷ 1 ∷ 2 ∷ 0 ∷ 1 ∷ 2 ∷ 0 ∷ 1 ∷ 2 ∷ 0
+          ∷ 1 ∷ 2 ∷ 0 ∷ 1 ∷ 2 ∷ 0 ∷ 1 ∷ 2 ∷ 0 ∷ 1 ∷ 2 ∷ 0 ∷ [])
+          (replicate 1024 (place 3 1 2 true));
+      unpacking = unpackTold (modelOf 7 14 (totalsOf 21 0 1 (pos 0)))
+          (unpackLent (0 ∷ 1 ∷ 2 ∷ 1 ∷ 0 ∷ 3 ∷ 1 ∷ 3 ∷ 4 ∷ 1 ∷ 4 ∷ 5 ∷ 1 ∷ 5 ∷ 6 ∷ 1 ∷ 6 ∷ 2 ∷ 2 ∷ 6 ∷ 4 ∷ 4 ∷ 6 ∷ 0 ∷ 4 ∷ 0 ∷ 5 ∷ 5 ∷ 0 ∷ 2
+          ∷ 5 ∷ 2 ∷ 3 ∷ 3 ∷ 2 ∷ 4 ∷ 5 ∷ 3 ∷ 6 ∷ 6 ∷ 3 ∷ 0 ∷ 1 ∷ 2 ∷ 0 ∷ []) (replicate 1024 (place 0 0 0 false)));
+      measuring = volumeTold (modelOf 7 14 (totalsOf 21 0 1 (pos 0))) (given (negsuc 4451893247))
+          (unpackLent (0 ∷ 1 ∷ 2 ∷ 1 ∷ 0 ∷ 3 ∷ 1 ∷ 3 ∷ 4 ∷ 1 ∷ 4 ∷ 5 ∷ 1 ∷ 5 ∷ 6 ∷ 1 ∷ 6 ∷ 2 ∷ 2 ∷ 6 ∷ 4 ∷ 4 ∷ 6 ∷ 0 ∷ 4 ∷ 0 ∷ 5 ∷ 5 ∷ 0 ∷ 2
+          ∷ 5 ∷ 2 ∷ 3 ∷ 3 ∷ 2 ∷ 4 ∷ 5 ∷ 3 ∷ 6 ∷ 6 ∷ 3 ∷ 0 ∷ 1 ∷ 2 ∷ 0 ∷ []) (replicate 1024 (place 0 0 0 false)));
+    }
+    ∷
+    -- 24: a rim: accepted, no volume by 24
+    record {
+      bytes =
+          (1 ∷ 0 ∷ 8 ∷ 0 ∷ 3 ∷ 0 ∷ 1 ∷ 0 ∷ 3 ∷ 0 ∷ 1 ∷ 2 ∷ 0 ∷ 2 ∷ 237 ∷ 176 ∷ 3 ∷ 0 ∷ 18 ∷ 250 ∷ 136 ∷ 253 ∷ 90 ∷ 0 ∷ 118 ∷ 3 ∷ 220 ∷ 7
+          ∷ 140 ∷ 251 ∷ 134 ∷ 255 ∷ 202 ∷ 4 ∷ 88 ∷ 249 ∷ 48 ∷ []);
+      lent = unpackLent (1 ∷ 2 ∷ 0 ∷ 1 ∷ 2 ∷ 0 ∷ []) (replicate 1024 (place 3 1 2 true));
+      unpacking = unpackTold (modelOf 3 1 (totalsOf 3 1 0 (pos 1)))
+          (unpackLent (0 ∷ 1 ∷ 2 ∷ 1 ∷ 2 ∷ 0 ∷ []) (replicate 1024 (place 0 0 0 false)));
+      measuring = volumeTold (refusal 24) not-given (unpackLent (0 ∷ 0 ∷ 0 ∷ 1 ∷ 2 ∷ 0 ∷ []) (replicate 1024 (place 0 0 0 false)));
+    }
+    ∷
+    -- 24: two rims: accepted, no volume by 24
+    record {
+      bytes =
+          (1 ∷ 0 ∷ 8 ∷ 0 ∷ 6 ∷ 0 ∷ 2 ∷ 0 ∷ 3 ∷ 0 ∷ 1 ∷ 2 ∷ 0 ∷ 3 ∷ 237 ∷ 190 ∷ 219 ∷ 3 ∷ 0 ∷ 36 ∷ 254 ∷ 82 ∷ 3 ∷ 190 ∷ 249 ∷ 116 ∷ 3 ∷ 48
+          ∷ 250 ∷ 88 ∷ 1 ∷ 202 ∷ 255 ∷ 116 ∷ 5 ∷ 190 ∷ 252 ∷ 82 ∷ 255 ∷ 202 ∷ 4 ∷ 88 ∷ 249 ∷ 48 ∷ 250 ∷ 136 ∷ 253 ∷ 90 ∷ 0 ∷ 118 ∷ 3 ∷ 220
+          ∷ 7 ∷ 140 ∷ 251 ∷ 134 ∷ []);
+      lent = unpackLent (1 ∷ 2 ∷ 0 ∷ 1 ∷ 2 ∷ 0 ∷ 1 ∷ 2 ∷ 0 ∷ []) (replicate 1024 (place 3 1 2 true));
+      unpacking = unpackTold (modelOf 6 2 (totalsOf 6 2 0 (pos 2)))
+          (unpackLent (0 ∷ 1 ∷ 2 ∷ 3 ∷ 4 ∷ 5 ∷ 1 ∷ 2 ∷ 0 ∷ []) (replicate 1024 (place 0 0 0 false)));
+      measuring = volumeTold (refusal 24) not-given
+          (unpackLent (0 ∷ 0 ∷ 0 ∷ 0 ∷ 0 ∷ 0 ∷ 1 ∷ 2 ∷ 0 ∷ []) (replicate 1024 (place 0 0 0 false)));
+    }
+    ∷
+    -- 12: field 03 twice: refusal 12
+    record {
+      bytes =
+          (1 ∷ 0 ∷ 8 ∷ 0 ∷ 3 ∷ 0 ∷ 2 ∷ 0 ∷ 3 ∷ 0 ∷ 1 ∷ 2 ∷ 0 ∷ 1 ∷ 244 ∷ 3 ∷ 0 ∷ 18 ∷ 250 ∷ 136 ∷ 253 ∷ 90 ∷ 0 ∷ 118 ∷ 3 ∷ 220 ∷ 7 ∷ 140
+          ∷ 251 ∷ 134 ∷ 255 ∷ 202 ∷ 4 ∷ 88 ∷ 249 ∷ 48 ∷ 3 ∷ 0 ∷ 18 ∷ 250 ∷ 136 ∷ 253 ∷ 90 ∷ 0 ∷ 118 ∷ 3 ∷ 220 ∷ 7 ∷ 140 ∷ 251 ∷ 134 ∷ 255
+          ∷ 202 ∷ 4 ∷ 88 ∷ 249 ∷ 48 ∷ []);
+      lent = unpackLent (1 ∷ 2 ∷ 0 ∷ 1 ∷ []) (place 3 1 2 true ∷ []);
+      unpacking = unpackTold (refusal 12) (unpackLent (1 ∷ 2 ∷ 0 ∷ 1 ∷ []) (place 3 1 2 true ∷ []));
+      measuring = volumeTold (refusal 12) not-given (unpackLent (1 ∷ 2 ∷ 0 ∷ 1 ∷ []) (place 3 1 2 true ∷ []));
+    }
+    ∷
+    -- 12: field 03 before 02: refusal 12
+    record {
+      bytes =
+          (1 ∷ 0 ∷ 8 ∷ 0 ∷ 3 ∷ 0 ∷ 2 ∷ 0 ∷ 3 ∷ 0 ∷ 1 ∷ 3 ∷ 0 ∷ 18 ∷ 250 ∷ 136 ∷ 253 ∷ 90 ∷ 0 ∷ 118 ∷ 3 ∷ 220 ∷ 7 ∷ 140 ∷ 251 ∷ 134 ∷ 255
+          ∷ 202 ∷ 4 ∷ 88 ∷ 249 ∷ 48 ∷ 2 ∷ 0 ∷ 1 ∷ 244 ∷ []);
+      lent = unpackLent (1 ∷ 2 ∷ 0 ∷ 1 ∷ []) (place 3 1 2 true ∷ []);
+      unpacking = unpackTold (refusal 12) (unpackLent (1 ∷ 2 ∷ 0 ∷ 1 ∷ []) (place 3 1 2 true ∷ []));
+      measuring = volumeTold (refusal 12) not-given (unpackLent (1 ∷ 2 ∷ 0 ∷ 1 ∷ []) (place 3 1 2 true ∷ []));
+    }
+    ∷
+    -- 12: field 03 before 01: refusal 12
+    record {
+      bytes =
+          (3 ∷ 0 ∷ 18 ∷ 250 ∷ 136 ∷ 253 ∷ 90 ∷ 0 ∷ 118 ∷ 3 ∷ 220 ∷ 7 ∷ 140 ∷ 251 ∷ 134 ∷ 255 ∷ 202 ∷ 4 ∷ 88 ∷ 249 ∷ 48 ∷ 1 ∷ 0 ∷ 8 ∷ 0 ∷ 3
+          ∷ 0 ∷ 2 ∷ 0 ∷ 3 ∷ 0 ∷ 1 ∷ 2 ∷ 0 ∷ 1 ∷ 244 ∷ []);
+      lent = unpackLent (1 ∷ 2 ∷ 0 ∷ 1 ∷ []) (place 3 1 2 true ∷ []);
+      unpacking = unpackTold (refusal 12) (unpackLent (1 ∷ 2 ∷ 0 ∷ 1 ∷ []) (place 3 1 2 true ∷ []));
+      measuring = volumeTold (refusal 12) not-given (unpackLent (1 ∷ 2 ∷ 0 ∷ 1 ∷ []) (place 3 1 2 true ∷ []));
+    }
+    ∷
+    -- 12: field 03 and no 02: refusal 12
+    record {
+      bytes =
+          (1 ∷ 0 ∷ 8 ∷ 0 ∷ 3 ∷ 0 ∷ 2 ∷ 0 ∷ 3 ∷ 0 ∷ 1 ∷ 3 ∷ 0 ∷ 18 ∷ 250 ∷ 136 ∷ 253 ∷ 90 ∷ 0 ∷ 118 ∷ 3 ∷ 220 ∷ 7 ∷ 140 ∷ 251 ∷ 134 ∷ 255
+          ∷ 202 ∷ 4 ∷ 88 ∷ 249 ∷ 48 ∷ []);
+      lent = unpackLent (1 ∷ 2 ∷ 0 ∷ 1 ∷ []) (place 3 1 2 true ∷ []);
+      unpacking = unpackTold (refusal 12) (unpackLent (1 ∷ 2 ∷ 0 ∷ 1 ∷ []) (place 3 1 2 true ∷ []));
+      measuring = volumeTold (refusal 12) not-given (unpackLent (1 ∷ 2 ∷ 0 ∷ 1 ∷ []) (place 3 1 2 true ∷ []));
+    }
+    ∷
+    -- 12: field 03 cut after its tag: refusal 12
+    record {
+      bytes = (1 ∷ 0 ∷ 8 ∷ 0 ∷ 3 ∷ 0 ∷ 2 ∷ 0 ∷ 3 ∷ 0 ∷ 1 ∷ 2 ∷ 0 ∷ 1 ∷ 244 ∷ 3 ∷ []);
+      lent = unpackLent (1 ∷ 2 ∷ 0 ∷ 1 ∷ []) (place 3 1 2 true ∷ []);
+      unpacking = unpackTold (refusal 12) (unpackLent (1 ∷ 2 ∷ 0 ∷ 1 ∷ []) (place 3 1 2 true ∷ []));
+      measuring = volumeTold (refusal 12) not-given (unpackLent (1 ∷ 2 ∷ 0 ∷ 1 ∷ []) (place 3 1 2 true ∷ []));
+    }
+    ∷
+    -- 12: field 03 cut in its length: refusal 12
+    record {
+      bytes = (1 ∷ 0 ∷ 8 ∷ 0 ∷ 3 ∷ 0 ∷ 2 ∷ 0 ∷ 3 ∷ 0 ∷ 1 ∷ 2 ∷ 0 ∷ 1 ∷ 244 ∷ 3 ∷ 0 ∷ []);
+      lent = unpackLent (1 ∷ 2 ∷ 0 ∷ 1 ∷ []) (place 3 1 2 true ∷ []);
+      unpacking = unpackTold (refusal 12) (unpackLent (1 ∷ 2 ∷ 0 ∷ 1 ∷ []) (place 3 1 2 true ∷ []));
+      measuring = volumeTold (refusal 12) not-given (unpackLent (1 ∷ 2 ∷ 0 ∷ 1 ∷ []) (place 3 1 2 true ∷ []));
+    }
+    ∷
+    -- 12: field 03 cut in its contents: refusal 12
+    record {
+      bytes =
+          (1 ∷ 0 ∷ 8 ∷ 0 ∷ 3 ∷ 0 ∷ 2 ∷ 0 ∷ 3 ∷ 0 ∷ 1 ∷ 2 ∷ 0 ∷ 1 ∷ 244 ∷ 3 ∷ 0 ∷ 18 ∷ 250 ∷ 136 ∷ 253 ∷ 90 ∷ 0 ∷ 118 ∷ 3 ∷ 220 ∷ 7 ∷ 140
+          ∷ 251 ∷ 134 ∷ 255 ∷ 202 ∷ 4 ∷ 88 ∷ 249 ∷ []);
+      lent = unpackLent (1 ∷ 2 ∷ 0 ∷ 1 ∷ []) (place 3 1 2 true ∷ []);
+      unpacking = unpackTold (refusal 12) (unpackLent (1 ∷ 2 ∷ 0 ∷ 1 ∷ []) (place 3 1 2 true ∷ []));
+      measuring = volumeTold (refusal 12) not-given (unpackLent (1 ∷ 2 ∷ 0 ∷ 1 ∷ []) (place 3 1 2 true ∷ []));
+    }
+    ∷
+    -- 12: a byte after field 03: refusal 12
+    record {
+      bytes =
+          (1 ∷ 0 ∷ 8 ∷ 0 ∷ 3 ∷ 0 ∷ 2 ∷ 0 ∷ 3 ∷ 0 ∷ 1 ∷ 2 ∷ 0 ∷ 1 ∷ 244 ∷ 3 ∷ 0 ∷ 18 ∷ 250 ∷ 136 ∷ 253 ∷ 90 ∷ 0 ∷ 118 ∷ 3 ∷ 220 ∷ 7 ∷ 140
+          ∷ 251 ∷ 134 ∷ 255 ∷ 202 ∷ 4 ∷ 88 ∷ 249 ∷ 48 ∷ 0 ∷ []);
+      lent = unpackLent (1 ∷ 2 ∷ 0 ∷ 1 ∷ []) (place 3 1 2 true ∷ []);
+      unpacking = unpackTold (refusal 12) (unpackLent (1 ∷ 2 ∷ 0 ∷ 1 ∷ []) (place 3 1 2 true ∷ []));
+      measuring = volumeTold (refusal 12) not-given (unpackLent (1 ∷ 2 ∷ 0 ∷ 1 ∷ []) (place 3 1 2 true ∷ []));
+    }
+    ∷
+    -- 12: tag 04 after field 03: refusal 12
+    record {
+      bytes =
+          (1 ∷ 0 ∷ 8 ∷ 0 ∷ 3 ∷ 0 ∷ 2 ∷ 0 ∷ 3 ∷ 0 ∷ 1 ∷ 2 ∷ 0 ∷ 1 ∷ 244 ∷ 3 ∷ 0 ∷ 18 ∷ 250 ∷ 136 ∷ 253 ∷ 90 ∷ 0 ∷ 118 ∷ 3 ∷ 220 ∷ 7 ∷ 140
+          ∷ 251 ∷ 134 ∷ 255 ∷ 202 ∷ 4 ∷ 88 ∷ 249 ∷ 48 ∷ 4 ∷ 0 ∷ 0 ∷ []);
+      lent = unpackLent (1 ∷ 2 ∷ 0 ∷ 1 ∷ []) (place 3 1 2 true ∷ []);
+      unpacking = unpackTold (refusal 12) (unpackLent (1 ∷ 2 ∷ 0 ∷ 1 ∷ []) (place 3 1 2 true ∷ []));
+      measuring = volumeTold (refusal 12) not-given (unpackLent (1 ∷ 2 ∷ 0 ∷ 1 ∷ []) (place 3 1 2 true ∷ []));
+    }
+    ∷
+    -- 12: tag 04 for 03: refusal 12
+    record {
+      bytes =
+          (1 ∷ 0 ∷ 8 ∷ 0 ∷ 3 ∷ 0 ∷ 2 ∷ 0 ∷ 3 ∷ 0 ∷ 1 ∷ 2 ∷ 0 ∷ 1 ∷ 244 ∷ 4 ∷ 0 ∷ 18 ∷ 250 ∷ 136 ∷ 253 ∷ 90 ∷ 0 ∷ 118 ∷ 3 ∷ 220 ∷ 7 ∷ 140
+          ∷ 251 ∷ 134 ∷ 255 ∷ 202 ∷ 4 ∷ 88 ∷ 249 ∷ 48 ∷ []);
+      lent = unpackLent (1 ∷ 2 ∷ 0 ∷ 1 ∷ []) (place 3 1 2 true ∷ []);
+      unpacking = unpackTold (refusal 12) (unpackLent (1 ∷ 2 ∷ 0 ∷ 1 ∷ []) (place 3 1 2 true ∷ []));
+      measuring = volumeTold (refusal 12) not-given (unpackLent (1 ∷ 2 ∷ 0 ∷ 1 ∷ []) (place 3 1 2 true ∷ []));
+    }
+    ∷
+    -- 12: 02 again after field 03: refusal 12
+    record {
+      bytes =
+          (1 ∷ 0 ∷ 8 ∷ 0 ∷ 3 ∷ 0 ∷ 2 ∷ 0 ∷ 3 ∷ 0 ∷ 1 ∷ 2 ∷ 0 ∷ 1 ∷ 244 ∷ 3 ∷ 0 ∷ 18 ∷ 250 ∷ 136 ∷ 253 ∷ 90 ∷ 0 ∷ 118 ∷ 3 ∷ 220 ∷ 7 ∷ 140
+          ∷ 251 ∷ 134 ∷ 255 ∷ 202 ∷ 4 ∷ 88 ∷ 249 ∷ 48 ∷ 2 ∷ 0 ∷ 1 ∷ 244 ∷ []);
+      lent = unpackLent (1 ∷ 2 ∷ 0 ∷ 1 ∷ []) (place 3 1 2 true ∷ []);
+      unpacking = unpackTold (refusal 12) (unpackLent (1 ∷ 2 ∷ 0 ∷ 1 ∷ []) (place 3 1 2 true ∷ []));
+      measuring = volumeTold (refusal 12) not-given (unpackLent (1 ∷ 2 ∷ 0 ∷ 1 ∷ []) (place 3 1 2 true ∷ []));
+    }
+    ∷
+    -- 12: 01 has a length of 7, and field 03: refusal 12
+    record {
+      bytes =
+          (1 ∷ 0 ∷ 7 ∷ 0 ∷ 3 ∷ 0 ∷ 2 ∷ 0 ∷ 3 ∷ 0 ∷ 2 ∷ 0 ∷ 1 ∷ 244 ∷ 3 ∷ 0 ∷ 18 ∷ 250 ∷ 136 ∷ 253 ∷ 90 ∷ 0 ∷ 118 ∷ 3 ∷ 220 ∷ 7 ∷ 140 ∷ 251
+          ∷ 134 ∷ 255 ∷ 202 ∷ 4 ∷ 88 ∷ 249 ∷ 48 ∷ []);
+      lent = unpackLent (1 ∷ 2 ∷ 0 ∷ 1 ∷ []) (place 3 1 2 true ∷ []);
+      unpacking = unpackTold (refusal 12) (unpackLent (1 ∷ 2 ∷ 0 ∷ 1 ∷ []) (place 3 1 2 true ∷ []));
+      measuring = volumeTold (refusal 12) not-given (unpackLent (1 ∷ 2 ∷ 0 ∷ 1 ∷ []) (place 3 1 2 true ∷ []));
+    }
+    ∷
+    -- 12 before 13: a byte after field 03: refusal 12
+    record {
+      bytes =
+          (1 ∷ 0 ∷ 8 ∷ 0 ∷ 2 ∷ 0 ∷ 2 ∷ 0 ∷ 3 ∷ 0 ∷ 1 ∷ 2 ∷ 0 ∷ 1 ∷ 244 ∷ 3 ∷ 0 ∷ 18 ∷ 250 ∷ 136 ∷ 253 ∷ 90 ∷ 0 ∷ 118 ∷ 3 ∷ 220 ∷ 7 ∷ 140
+          ∷ 251 ∷ 134 ∷ 255 ∷ 202 ∷ 4 ∷ 88 ∷ 249 ∷ 48 ∷ 0 ∷ []);
+      lent = unpackLent (1 ∷ 2 ∷ 0 ∷ 1 ∷ []) (place 3 1 2 true ∷ []);
+      unpacking = unpackTold (refusal 12) (unpackLent (1 ∷ 2 ∷ 0 ∷ 1 ∷ []) (place 3 1 2 true ∷ []));
+      measuring = volumeTold (refusal 12) not-given (unpackLent (1 ∷ 2 ∷ 0 ∷ 1 ∷ []) (place 3 1 2 true ∷ []));
+    }
+    ∷
+    -- 23: 0 bytes: refusal 23
+    record {
+      bytes = (1 ∷ 0 ∷ 8 ∷ 0 ∷ 3 ∷ 0 ∷ 2 ∷ 0 ∷ 3 ∷ 0 ∷ 1 ∷ 2 ∷ 0 ∷ 1 ∷ 244 ∷ 3 ∷ 0 ∷ 0 ∷ []);
+      lent = unpackLent (1 ∷ 2 ∷ 0 ∷ 1 ∷ 2 ∷ 0 ∷ 1 ∷ []) (replicate 1024 (place 3 1 2 true));
+      unpacking = unpackTold (refusal 23) (unpackLent (0 ∷ 0 ∷ 0 ∷ 0 ∷ 0 ∷ 0 ∷ 1 ∷ []) (replicate 1024 (place 0 0 0 false)));
+      measuring = volumeTold (refusal 23) not-given (unpackLent (0 ∷ 0 ∷ 0 ∷ 0 ∷ 0 ∷ 0 ∷ 1 ∷ []) (replicate 1024 (place 0 0 0 false)));
+    }
+    ∷
+    -- 23: 12 bytes: refusal 23
+    record {
+      bytes =
+          (1 ∷ 0 ∷ 8 ∷ 0 ∷ 3 ∷ 0 ∷ 2 ∷ 0 ∷ 3 ∷ 0 ∷ 1 ∷ 2 ∷ 0 ∷ 1 ∷ 244 ∷ 3 ∷ 0 ∷ 12 ∷ 250 ∷ 136 ∷ 253 ∷ 90 ∷ 0 ∷ 118 ∷ 3 ∷ 220 ∷ 7 ∷ 140
+          ∷ 251 ∷ 134 ∷ []);
+      lent = unpackLent (1 ∷ 2 ∷ 0 ∷ 1 ∷ 2 ∷ 0 ∷ 1 ∷ []) (replicate 1024 (place 3 1 2 true));
+      unpacking = unpackTold (refusal 23) (unpackLent (0 ∷ 0 ∷ 0 ∷ 0 ∷ 0 ∷ 0 ∷ 1 ∷ []) (replicate 1024 (place 0 0 0 false)));
+      measuring = volumeTold (refusal 23) not-given (unpackLent (0 ∷ 0 ∷ 0 ∷ 0 ∷ 0 ∷ 0 ∷ 1 ∷ []) (replicate 1024 (place 0 0 0 false)));
+    }
+    ∷
+    -- 23: 17 bytes: refusal 23
+    record {
+      bytes =
+          (1 ∷ 0 ∷ 8 ∷ 0 ∷ 3 ∷ 0 ∷ 2 ∷ 0 ∷ 3 ∷ 0 ∷ 1 ∷ 2 ∷ 0 ∷ 1 ∷ 244 ∷ 3 ∷ 0 ∷ 17 ∷ 250 ∷ 136 ∷ 253 ∷ 90 ∷ 0 ∷ 118 ∷ 3 ∷ 220 ∷ 7 ∷ 140
+          ∷ 251 ∷ 134 ∷ 255 ∷ 202 ∷ 4 ∷ 88 ∷ 249 ∷ []);
+      lent = unpackLent (1 ∷ 2 ∷ 0 ∷ 1 ∷ 2 ∷ 0 ∷ 1 ∷ []) (replicate 1024 (place 3 1 2 true));
+      unpacking = unpackTold (refusal 23) (unpackLent (0 ∷ 0 ∷ 0 ∷ 0 ∷ 0 ∷ 0 ∷ 1 ∷ []) (replicate 1024 (place 0 0 0 false)));
+      measuring = volumeTold (refusal 23) not-given (unpackLent (0 ∷ 0 ∷ 0 ∷ 0 ∷ 0 ∷ 0 ∷ 1 ∷ []) (replicate 1024 (place 0 0 0 false)));
+    }
+    ∷
+    -- 23: 19 bytes: refusal 23
+    record {
+      bytes =
+          (1 ∷ 0 ∷ 8 ∷ 0 ∷ 3 ∷ 0 ∷ 2 ∷ 0 ∷ 3 ∷ 0 ∷ 1 ∷ 2 ∷ 0 ∷ 1 ∷ 244 ∷ 3 ∷ 0 ∷ 19 ∷ 250 ∷ 136 ∷ 253 ∷ 90 ∷ 0 ∷ 118 ∷ 3 ∷ 220 ∷ 7 ∷ 140
+          ∷ 251 ∷ 134 ∷ 255 ∷ 202 ∷ 4 ∷ 88 ∷ 249 ∷ 48 ∷ 254 ∷ []);
+      lent = unpackLent (1 ∷ 2 ∷ 0 ∷ 1 ∷ 2 ∷ 0 ∷ 1 ∷ []) (replicate 1024 (place 3 1 2 true));
+      unpacking = unpackTold (refusal 23) (unpackLent (0 ∷ 0 ∷ 0 ∷ 0 ∷ 0 ∷ 0 ∷ 1 ∷ []) (replicate 1024 (place 0 0 0 false)));
+      measuring = volumeTold (refusal 23) not-given (unpackLent (0 ∷ 0 ∷ 0 ∷ 0 ∷ 0 ∷ 0 ∷ 1 ∷ []) (replicate 1024 (place 0 0 0 false)));
+    }
+    ∷
+    -- 23: 24 bytes: refusal 23
+    record {
+      bytes =
+          (1 ∷ 0 ∷ 8 ∷ 0 ∷ 3 ∷ 0 ∷ 2 ∷ 0 ∷ 3 ∷ 0 ∷ 1 ∷ 2 ∷ 0 ∷ 1 ∷ 244 ∷ 3 ∷ 0 ∷ 24 ∷ 250 ∷ 136 ∷ 253 ∷ 90 ∷ 0 ∷ 118 ∷ 3 ∷ 220 ∷ 7 ∷ 140
+          ∷ 251 ∷ 134 ∷ 255 ∷ 202 ∷ 4 ∷ 88 ∷ 249 ∷ 48 ∷ 254 ∷ 82 ∷ 3 ∷ 190 ∷ 249 ∷ 116 ∷ []);
+      lent = unpackLent (1 ∷ 2 ∷ 0 ∷ 1 ∷ 2 ∷ 0 ∷ 1 ∷ []) (replicate 1024 (place 3 1 2 true));
+      unpacking = unpackTold (refusal 23) (unpackLent (0 ∷ 0 ∷ 0 ∷ 0 ∷ 0 ∷ 0 ∷ 1 ∷ []) (replicate 1024 (place 0 0 0 false)));
+      measuring = volumeTold (refusal 23) not-given (unpackLent (0 ∷ 0 ∷ 0 ∷ 0 ∷ 0 ∷ 0 ∷ 1 ∷ []) (replicate 1024 (place 0 0 0 false)));
+    }
+    ∷
+    -- 23: position 0 is -2049: refusal 23
+    record {
+      bytes =
+          (1 ∷ 0 ∷ 8 ∷ 0 ∷ 3 ∷ 0 ∷ 2 ∷ 0 ∷ 3 ∷ 0 ∷ 1 ∷ 2 ∷ 0 ∷ 1 ∷ 244 ∷ 3 ∷ 0 ∷ 18 ∷ 247 ∷ 255 ∷ 253 ∷ 90 ∷ 0 ∷ 118 ∷ 3 ∷ 220 ∷ 7 ∷ 140
+          ∷ 251 ∷ 134 ∷ 255 ∷ 202 ∷ 4 ∷ 88 ∷ 249 ∷ 48 ∷ []);
+      lent = unpackLent (1 ∷ 2 ∷ 0 ∷ 1 ∷ 2 ∷ 0 ∷ 1 ∷ 2 ∷ []) (replicate 1025 (place 3 1 2 true));
+      unpacking = unpackTold (refusal 23)
+          (unpackLent (0 ∷ 0 ∷ 0 ∷ 0 ∷ 0 ∷ 0 ∷ 1 ∷ 2 ∷ []) (replicate 1024 (place 0 0 0 false) ++ (place 3 1 2 true ∷ [])));
+      measuring = volumeTold (refusal 23) not-given
+          (unpackLent (0 ∷ 0 ∷ 0 ∷ 0 ∷ 0 ∷ 0 ∷ 1 ∷ 2 ∷ []) (replicate 1024 (place 0 0 0 false) ++ (place 3 1 2 true ∷ [])));
+    }
+    ∷
+    -- 23: position 8 is -2049: refusal 23
+    record {
+      bytes =
+          (1 ∷ 0 ∷ 8 ∷ 0 ∷ 3 ∷ 0 ∷ 2 ∷ 0 ∷ 3 ∷ 0 ∷ 1 ∷ 2 ∷ 0 ∷ 1 ∷ 244 ∷ 3 ∷ 0 ∷ 18 ∷ 250 ∷ 136 ∷ 253 ∷ 90 ∷ 0 ∷ 118 ∷ 3 ∷ 220 ∷ 7 ∷ 140
+          ∷ 251 ∷ 134 ∷ 255 ∷ 202 ∷ 4 ∷ 88 ∷ 247 ∷ 255 ∷ []);
+      lent = unpackLent (1 ∷ 2 ∷ 0 ∷ 1 ∷ 2 ∷ 0 ∷ 1 ∷ 2 ∷ []) (replicate 1025 (place 3 1 2 true));
+      unpacking = unpackTold (refusal 23)
+          (unpackLent (0 ∷ 0 ∷ 0 ∷ 0 ∷ 0 ∷ 0 ∷ 1 ∷ 2 ∷ []) (replicate 1024 (place 0 0 0 false) ++ (place 3 1 2 true ∷ [])));
+      measuring = volumeTold (refusal 23) not-given
+          (unpackLent (0 ∷ 0 ∷ 0 ∷ 0 ∷ 0 ∷ 0 ∷ 1 ∷ 2 ∷ []) (replicate 1024 (place 0 0 0 false) ++ (place 3 1 2 true ∷ [])));
+    }
+    ∷
+    -- 23: position 4 is 2048: refusal 23
+    record {
+      bytes =
+          (1 ∷ 0 ∷ 8 ∷ 0 ∷ 3 ∷ 0 ∷ 2 ∷ 0 ∷ 3 ∷ 0 ∷ 1 ∷ 2 ∷ 0 ∷ 1 ∷ 244 ∷ 3 ∷ 0 ∷ 18 ∷ 250 ∷ 136 ∷ 253 ∷ 90 ∷ 0 ∷ 118 ∷ 3 ∷ 220 ∷ 8 ∷ 0 ∷ 251
+          ∷ 134 ∷ 255 ∷ 202 ∷ 4 ∷ 88 ∷ 249 ∷ 48 ∷ []);
+      lent = unpackLent (1 ∷ 2 ∷ 0 ∷ 1 ∷ 2 ∷ 0 ∷ 1 ∷ 2 ∷ []) (replicate 1025 (place 3 1 2 true));
+      unpacking = unpackTold (refusal 23)
+          (unpackLent (0 ∷ 0 ∷ 0 ∷ 0 ∷ 0 ∷ 0 ∷ 1 ∷ 2 ∷ []) (replicate 1024 (place 0 0 0 false) ++ (place 3 1 2 true ∷ [])));
+      measuring = volumeTold (refusal 23) not-given
+          (unpackLent (0 ∷ 0 ∷ 0 ∷ 0 ∷ 0 ∷ 0 ∷ 1 ∷ 2 ∷ []) (replicate 1024 (place 0 0 0 false) ++ (place 3 1 2 true ∷ [])));
+    }
+    ∷
+    -- 23: position 0 is 32767: refusal 23
+    record {
+      bytes =
+          (1 ∷ 0 ∷ 8 ∷ 0 ∷ 3 ∷ 0 ∷ 2 ∷ 0 ∷ 3 ∷ 0 ∷ 1 ∷ 2 ∷ 0 ∷ 1 ∷ 244 ∷ 3 ∷ 0 ∷ 18 ∷ 127 ∷ 255 ∷ 253 ∷ 90 ∷ 0 ∷ 118 ∷ 3 ∷ 220 ∷ 7 ∷ 140
+          ∷ 251 ∷ 134 ∷ 255 ∷ 202 ∷ 4 ∷ 88 ∷ 249 ∷ 48 ∷ []);
+      lent = unpackLent (1 ∷ 2 ∷ 0 ∷ 1 ∷ 2 ∷ 0 ∷ 1 ∷ 2 ∷ []) (replicate 1025 (place 3 1 2 true));
+      unpacking = unpackTold (refusal 23)
+          (unpackLent (0 ∷ 0 ∷ 0 ∷ 0 ∷ 0 ∷ 0 ∷ 1 ∷ 2 ∷ []) (replicate 1024 (place 0 0 0 false) ++ (place 3 1 2 true ∷ [])));
+      measuring = volumeTold (refusal 23) not-given
+          (unpackLent (0 ∷ 0 ∷ 0 ∷ 0 ∷ 0 ∷ 0 ∷ 1 ∷ 2 ∷ []) (replicate 1024 (place 0 0 0 false) ++ (place 3 1 2 true ∷ [])));
+    }
+    ∷
+    -- 23: position 8 is -32768: refusal 23
+    record {
+      bytes =
+          (1 ∷ 0 ∷ 8 ∷ 0 ∷ 3 ∷ 0 ∷ 2 ∷ 0 ∷ 3 ∷ 0 ∷ 1 ∷ 2 ∷ 0 ∷ 1 ∷ 244 ∷ 3 ∷ 0 ∷ 18 ∷ 250 ∷ 136 ∷ 253 ∷ 90 ∷ 0 ∷ 118 ∷ 3 ∷ 220 ∷ 7 ∷ 140
+          ∷ 251 ∷ 134 ∷ 255 ∷ 202 ∷ 4 ∷ 88 ∷ 128 ∷ 0 ∷ []);
+      lent = unpackLent (1 ∷ 2 ∷ 0 ∷ 1 ∷ 2 ∷ 0 ∷ 1 ∷ 2 ∷ []) (replicate 1025 (place 3 1 2 true));
+      unpacking = unpackTold (refusal 23)
+          (unpackLent (0 ∷ 0 ∷ 0 ∷ 0 ∷ 0 ∷ 0 ∷ 1 ∷ 2 ∷ []) (replicate 1024 (place 0 0 0 false) ++ (place 3 1 2 true ∷ [])));
+      measuring = volumeTold (refusal 23) not-given
+          (unpackLent (0 ∷ 0 ∷ 0 ∷ 0 ∷ 0 ∷ 0 ∷ 1 ∷ 2 ∷ []) (replicate 1024 (place 0 0 0 false) ++ (place 3 1 2 true ∷ [])));
+    }
+    ∷
+    -- no field 03, a rim: accepted, no volume by 24
+    record {
+      bytes = (1 ∷ 0 ∷ 8 ∷ 0 ∷ 3 ∷ 0 ∷ 1 ∷ 0 ∷ 3 ∷ 0 ∷ 1 ∷ 2 ∷ 0 ∷ 2 ∷ 237 ∷ 176 ∷ []);
+      lent = unpackLent (1 ∷ 2 ∷ 0 ∷ 1 ∷ []) (replicate 1024 (place 3 1 2 true));
+      unpacking = unpackTold (modelOf 3 1 (totalsOf 3 1 0 (pos 1))) (unpackLent (0 ∷ 1 ∷ 2 ∷ 1 ∷ []) (replicate 1024 (place 0 0 0 false)));
+      measuring = volumeTold (refusal 24) not-given (unpackLent (0 ∷ 0 ∷ 0 ∷ 1 ∷ []) (replicate 1024 (place 0 0 0 false)));
+    }
+    ∷
+    -- no field 03, no rim: accepted, no volume by 24
+    record {
+      bytes = (1 ∷ 0 ∷ 8 ∷ 0 ∷ 3 ∷ 0 ∷ 2 ∷ 0 ∷ 3 ∷ 0 ∷ 1 ∷ 2 ∷ 0 ∷ 1 ∷ 244 ∷ []);
+      lent = unpackLent (1 ∷ 2 ∷ 0 ∷ 1 ∷ 2 ∷ 0 ∷ 1 ∷ []) (replicate 1025 (place 3 1 2 true));
+      unpacking = unpackTold (modelOf 3 2 (totalsOf 3 0 0 (pos 2)))
+          (unpackLent (0 ∷ 1 ∷ 2 ∷ 1 ∷ 0 ∷ 2 ∷ 1 ∷ []) (replicate 1024 (place 0 0 0 false) ++ (place 3 1 2 true ∷ [])));
+      measuring = volumeTold (refusal 24) not-given
+          (unpackLent (0 ∷ 0 ∷ 0 ∷ 0 ∷ 0 ∷ 0 ∷ 1 ∷ []) (replicate 1024 (place 0 0 0 false) ++ (place 3 1 2 true ∷ [])));
+    }
+    ∷
+    -- nothing: refusal 12
+    record {
+      bytes = [];
+      lent = unpackLent (1 ∷ 2 ∷ 0 ∷ 1 ∷ []) (place 3 1 2 true ∷ []);
+      unpacking = unpackTold (refusal 12) (unpackLent (1 ∷ 2 ∷ 0 ∷ 1 ∷ []) (place 3 1 2 true ∷ []));
+      measuring = volumeTold (refusal 12) not-given (unpackLent (1 ∷ 2 ∷ 0 ∷ 1 ∷ []) (place 3 1 2 true ∷ []));
+    }
+    ∷
+    -- 13 before 23: refusal 13
+    record {
+      bytes = (1 ∷ 0 ∷ 8 ∷ 0 ∷ 2 ∷ 0 ∷ 2 ∷ 0 ∷ 3 ∷ 0 ∷ 1 ∷ 2 ∷ 0 ∷ 1 ∷ 244 ∷ 3 ∷ 0 ∷ 2 ∷ 8 ∷ 0 ∷ []);
+      lent = unpackLent (1 ∷ 2 ∷ 0 ∷ 1 ∷ 2 ∷ 0 ∷ []) (place 3 1 2 true ∷ []);
+      unpacking = unpackTold (refusal 13) (unpackLent (1 ∷ 2 ∷ 0 ∷ 1 ∷ 2 ∷ 0 ∷ []) (place 3 1 2 true ∷ []));
+      measuring = volumeTold (refusal 13) not-given (unpackLent (1 ∷ 2 ∷ 0 ∷ 1 ∷ 2 ∷ 0 ∷ []) (place 3 1 2 true ∷ []));
+    }
+    ∷
+    -- 14 before 23: triangles: refusal 14
+    record {
+      bytes = (1 ∷ 0 ∷ 8 ∷ 0 ∷ 3 ∷ 0 ∷ 2 ∷ 0 ∷ 3 ∷ 0 ∷ 1 ∷ 2 ∷ 0 ∷ 1 ∷ 244 ∷ 3 ∷ 0 ∷ 2 ∷ 8 ∷ 0 ∷ []);
+      lent = unpackLent (1 ∷ 2 ∷ 0 ∷ 1 ∷ 2 ∷ []) (replicate 1024 (place 3 1 2 true));
+      unpacking = unpackTold (refusal 14) (unpackLent (1 ∷ 2 ∷ 0 ∷ 1 ∷ 2 ∷ []) (replicate 1024 (place 3 1 2 true)));
+      measuring = volumeTold (refusal 14) not-given (unpackLent (1 ∷ 2 ∷ 0 ∷ 1 ∷ 2 ∷ []) (replicate 1024 (place 3 1 2 true)));
+    }
+    ∷
+    -- 14 before 23: places: refusal 14
+    record {
+      bytes = (1 ∷ 0 ∷ 8 ∷ 0 ∷ 3 ∷ 0 ∷ 2 ∷ 0 ∷ 3 ∷ 0 ∷ 1 ∷ 2 ∷ 0 ∷ 1 ∷ 244 ∷ 3 ∷ 0 ∷ 2 ∷ 8 ∷ 0 ∷ []);
+      lent = unpackLent (1 ∷ 2 ∷ 0 ∷ 1 ∷ 2 ∷ 0 ∷ []) (replicate 1023 (place 3 1 2 true));
+      unpacking = unpackTold (refusal 14) (unpackLent (1 ∷ 2 ∷ 0 ∷ 1 ∷ 2 ∷ 0 ∷ []) (replicate 1023 (place 3 1 2 true)));
+      measuring = volumeTold (refusal 14) not-given (unpackLent (1 ∷ 2 ∷ 0 ∷ 1 ∷ 2 ∷ 0 ∷ []) (replicate 1023 (place 3 1 2 true)));
+    }
+    ∷
+    -- 15 before 23: refusal 15
+    record {
+      bytes = (1 ∷ 0 ∷ 8 ∷ 0 ∷ 3 ∷ 0 ∷ 1 ∷ 0 ∷ 3 ∷ 0 ∷ 1 ∷ 2 ∷ 0 ∷ 0 ∷ 3 ∷ 0 ∷ 2 ∷ 8 ∷ 0 ∷ []);
+      lent = unpackLent (1 ∷ 2 ∷ 0 ∷ 1 ∷ []) (replicate 1024 (place 3 1 2 true));
+      unpacking = unpackTold (refusal 15) (unpackLent (0 ∷ 0 ∷ 0 ∷ 1 ∷ []) (replicate 1024 (place 0 0 0 false)));
+      measuring = volumeTold (refusal 15) not-given (unpackLent (0 ∷ 0 ∷ 0 ∷ 1 ∷ []) (replicate 1024 (place 0 0 0 false)));
+    }
+    ∷
+    -- 18 before 23: refusal 18
+    record {
+      bytes = (1 ∷ 0 ∷ 8 ∷ 0 ∷ 5 ∷ 0 ∷ 4 ∷ 0 ∷ 6 ∷ 0 ∷ 2 ∷ 2 ∷ 0 ∷ 3 ∷ 224 ∷ 64 ∷ 8 ∷ 3 ∷ 0 ∷ 2 ∷ 8 ∷ 0 ∷ []);
+      lent = unpackLent (1 ∷ 2 ∷ 0 ∷ 1 ∷ 2 ∷ 0 ∷ 1 ∷ 2 ∷ 0 ∷ 1 ∷ 2 ∷ 0 ∷ []) (replicate 1024 (place 3 1 2 true));
+      unpacking = unpackTold (refusal 18) (unpackLent (replicate 12 0) (replicate 1024 (place 0 0 0 false)));
+      measuring = volumeTold (refusal 18) not-given (unpackLent (replicate 12 0) (replicate 1024 (place 0 0 0 false)));
+    }
+    ∷
+    -- 19 before 23: refusal 19
+    record {
+      bytes = (1 ∷ 0 ∷ 8 ∷ 0 ∷ 4 ∷ 0 ∷ 1 ∷ 0 ∷ 3 ∷ 0 ∷ 1 ∷ 2 ∷ 0 ∷ 2 ∷ 237 ∷ 176 ∷ 3 ∷ 0 ∷ 2 ∷ 8 ∷ 0 ∷ []);
+      lent = unpackLent (1 ∷ 2 ∷ 0 ∷ 1 ∷ []) (replicate 1024 (place 3 1 2 true));
+      unpacking = unpackTold (refusal 19) (unpackLent (0 ∷ 0 ∷ 0 ∷ 1 ∷ []) (replicate 1024 (place 0 0 0 false)));
+      measuring = volumeTold (refusal 19) not-given (unpackLent (0 ∷ 0 ∷ 0 ∷ 1 ∷ []) (replicate 1024 (place 0 0 0 false)));
+    }
+    ∷
+    -- 20 before 23: refusal 20
+    record {
+      bytes = (1 ∷ 0 ∷ 8 ∷ 0 ∷ 5 ∷ 0 ∷ 4 ∷ 0 ∷ 5 ∷ 0 ∷ 2 ∷ 2 ∷ 0 ∷ 5 ∷ 225 ∷ 134 ∷ 224 ∷ 4 ∷ 219 ∷ 3 ∷ 0 ∷ 2 ∷ 8 ∷ 0 ∷ []);
+      lent = unpackLent (1 ∷ 2 ∷ 0 ∷ 1 ∷ 2 ∷ 0 ∷ 1 ∷ 2 ∷ 0 ∷ 1 ∷ 2 ∷ 0 ∷ []) (replicate 1024 (place 3 1 2 true));
+      unpacking = unpackTold (refusal 20) (unpackLent (replicate 12 0) (replicate 1024 (place 0 0 0 false)));
+      measuring = volumeTold (refusal 20) not-given (unpackLent (replicate 12 0) (replicate 1024 (place 0 0 0 false)));
+    }
+    ∷
+    -- 23 before 24: a rim: refusal 23
+    record {
+      bytes = (1 ∷ 0 ∷ 8 ∷ 0 ∷ 3 ∷ 0 ∷ 1 ∷ 0 ∷ 3 ∷ 0 ∷ 1 ∷ 2 ∷ 0 ∷ 2 ∷ 237 ∷ 176 ∷ 3 ∷ 0 ∷ 2 ∷ 8 ∷ 0 ∷ []);
+      lent = unpackLent (1 ∷ 2 ∷ 0 ∷ 1 ∷ []) (replicate 1024 (place 3 1 2 true));
+      unpacking = unpackTold (refusal 23) (unpackLent (0 ∷ 0 ∷ 0 ∷ 1 ∷ []) (replicate 1024 (place 0 0 0 false)));
+      measuring = volumeTold (refusal 23) not-given (unpackLent (0 ∷ 0 ∷ 0 ∷ 1 ∷ []) (replicate 1024 (place 0 0 0 false)));
+    }
+    ∷
+    []
+
 pub table : T (allRight packRight packRows && allRight unpackRight unpackRows && allRight callsRight callRows
-    && allRight fieldsRight fieldsRows && allRight lookRight lookRows)
-unfolding equal equalPlaces equalAnswers packRight unpackRight writtenRing writtenRings writtenEdges callsRight fieldsRight lookRight
-    allRight trianglesOf corners edgesOf same hit occurs count different pairs about leaving entering turnOn turnBack oneRun oneFanEach
-    inTriangle across allBelow allDistinct noneTwice allUsed passes checkTriangles check allOpen vertexAt lastOpen lastVertex front onward
-    reached places loopAt without allowed inOrder atEdge atRest effect placesAt ringsAfter cleared test done beginning finishing answers
-    afterAll logAll bits valueOf bitsOfBytes bytesWithin readNumber allZero operationBits operationsBits kindIn readOperation packBytes
-    takeField fieldsOf has dropTriangle turnIn turnOut edgeIn spotOf choosePlace limited taking chooseAt chooseIn orderBy chooseAll indexOf
-    newNumbers packChosen packChecked runAll numbersOf unpackRun unpackFields follow followed nodes placesOf openAmong loopsOf placeNodes
-    placeRings trianglesBuilt view sizesOf apart placesFit loopsFit linksFit soundElse sound packRows unpackRows callRows fieldsRows
-    lookRows
+    && allRight fieldsRight fieldsRows && allRight lookRight lookRows && allRight wholePackRight wholePackRows
+    && allRight wholeRight wholeRows)
+unfolding equal equalPlaces equalAnswers packRight unpackRight wholePackRight wholeRight writtenRing writtenRings writtenEdges callsRight
+    fieldsRight lookRight allRight trianglesOf corners edgesOf same hit occurs count different pairs about leaving entering turnOn turnBack
+    oneRun oneFanEach inTriangle across allBelow allDistinct noneTwice allUsed passes checkTriangles check allOpen vertexAt lastOpen
+    lastVertex front onward reached places loopAt without allowed inOrder atEdge atRest effect placesAt ringsAfter cleared test done
+    beginning finishing answers afterAll logAll bits valueOf bitsOfBytes bytesWithin readNumber allZero operationBits operationsBits kindIn
+    readOperation packBytes takeField fieldsOf allInGrid signedOf positionBytes positionsFrom laterPart partsOf determinant sixVolumes has
+    dropTriangle turnIn turnOut edgeIn spotOf choosePlace limited taking chooseAt chooseIn orderBy chooseAll indexOf newNumbers packChosen
+    packChecked runAll numbersOf unpackRun unpackFields positionsOf wholeChosen wholeChecked thenTested unpackParts measured follow followed
+    nodes placesOf openAmong loopsOf placeNodes placeRings trianglesBuilt view sizesOf apart placesFit loopsFit linksFit soundElse sound
+    packRows unpackRows callRows fieldsRows lookRows wholePackRows wholeRows
 table = tt

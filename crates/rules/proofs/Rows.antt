@@ -24,6 +24,9 @@ use Rattle.rules.specs.Buffer.{Buffers, Lengths}
 use Rattle.rules.specs.Across.{across}
 use Rattle.rules.specs.Fields.{Fields, no-pack, fields, packBytes, fieldsOf}
 use Rattle.rules.specs.Unpack.{UnpackResult, numbersOf, unpack}
+use Rattle.rules.specs.Later.{Given, not-given, given}
+use Rattle.rules.specs.PackWhole.{packWholeWithin}
+use Rattle.rules.specs.UnpackWhole.{VolumeResult, unpackWhole, volume}
 
 unfoldable pub equal : List ℕ → List ℕ → Bool
 equal [] [] = true
@@ -101,6 +104,41 @@ sameUnpacking r a b =
 
 unfoldable pub unpackRight : UnpackRow → Bool
 unpackRight x = sameUnpacking (unpack (x .bytes) (x .lent)) (x .answer) (x .left)
+
+-- a packing with positions, if they are given
+pub record WholePackRow : Type 0 where
+  pub limits : Most
+  pub vertices : ℕ
+  pub list : List ℕ
+  pub positions : Given (List ℤ)
+  pub lent : PackBuffers
+  pub answer : Answer
+  pub left : PackBuffers
+
+unfoldable pub wholePackRight : WholePackRow → Bool
+wholePackRight x =
+    samePacking (packWholeWithin (x .limits) (x .vertices) (x .list) (x .positions) (x .lent)) (x .answer) (x .left)
+
+-- a pack that may have positions: what unpacking it tells and leaves, and the volume call
+pub record WholeRow : Type 0 where
+  pub bytes : List ℕ
+  pub lent : Buffers
+  pub unpacking : UnpackResult
+  pub measuring : VolumeResult
+
+abbrev pub writtenSix : Given ℤ → List ℕ
+writtenSix not-given = []
+writtenSix (given z) = signed z
+
+abbrev pub sameVolume : VolumeResult → VolumeResult → Bool
+sameVolume r s =
+    sameAnswer (r .answer) (s .answer) && equal (writtenSix (r .six)) (writtenSix (s .six))
+    && equal (r .buffers .triangles) (s .buffers .triangles) && equalPlaces (r .buffers .places) (s .buffers .places)
+
+unfoldable pub wholeRight : WholeRow → Bool
+wholeRight x =
+    sameUnpacking (unpackWhole (x .bytes) (x .lent)) (x .unpacking .answer) (x .unpacking .buffers)
+    && sameVolume (volume (x .bytes) (x .lent)) (x .measuring)
 
 -- a book as numbers
 unfoldable pub writtenRing : Ring → List ℕ
@@ -182,6 +220,12 @@ packLent ns ps bs qs = record { numbering = ns; places = ps; pack = bs; order = 
 
 abbrev pub unpackLent : List ℕ → List Place → Buffers
 unpackLent ts ps = record { triangles = ts; places = ps }
+
+abbrev pub unpackTold : Answer → Buffers → UnpackResult
+unpackTold a r = record { answer = a; buffers = r }
+
+abbrev pub volumeTold : Answer → Given ℤ → Buffers → VolumeResult
+volumeTold a z r = record { answer = a; six = z; buffers = r }
 
 abbrev pub lengths : ℕ → ℕ → Lengths
 lengths t p = record { triangles = t; places = p }

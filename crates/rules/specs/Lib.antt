@@ -6,7 +6,8 @@
 --   say how the prover and other files may use it, and change no meaning
 --   `elim t [ true ↦ x | false ↦ y ]` is x if t is true, else y, and so for other data; `let x = t in ..` names t; `λ x. ..`: a function
 --   `data` lists the forms of a value, `record` its fields: `record { f = x; .. }` has them, and `r .f` is one; «open» is a field's name
---   ℕ: numbers from 0; `suc n` is n + 1; `m - n` is 0 where n is above m; `/` and `%`: quotient and remainder; ℤ: `pos n`, `_-ℤ_`
+--   ℕ: numbers from 0; `suc n` is n + 1; `m - n` is 0 where n is above m; `/` and `%`: quotient and remainder
+--   ℤ: `pos n` is n, `negsuc n` is -(n + 1); `+ℤ`, `-ℤ`, `*ℤ`
 --   lists: `[]`, `x ∷ xs`, `xs ++ ys`, `length`, `take n`, `drop n`, `replicate n x`; `getD xs i d` is entry i from 0, d past the end
 --   Bool: `&&`, `||`, `not`; `eqb`, `ltb`, `leb` test equal, below, at most
 --   statements: `x ≡ y` equal, `A × B` both, `A ⊎ B` one of them, `⊥` never, `Unit` always; `(x : A) → ..` each x, `(x : A) × ..` some x
@@ -72,6 +73,12 @@
 --   "Tag 01, length 8: V, T, most places, most live loops" | Fields: countsOf, packBytes, countsFrom | "M1"
 --   "both peaks are taken after each operation" | Machine: afterBuild, afterMark; Choice: packingAfter | "the peak of places is .."
 --   "Tag 02: the operations. Nothing follows" | Fields: lastField | "a field after tag 02"
+--   C-13: "A new field, tag 03, follows tag 02" | Later: positionsTag, laterPart | "positions: M1", "12: field 03 before 02"
+--   C-13: "for every new vertex number three signed 16-bit .." | Grid: positionBytes, positionsFrom | "positions: M1", signed-ends
+--   C-13: ".. grid positions, each from −2,048 to 2,047" | Grid: inGrid, allInGrid | "positions: the smallest and the largest"
+--   C-13: "It is optional"; "Packs without the field read as before" | Later: laterPart; UnpackWhole: fieldFits | "no field 03, a rim"
+--   C-13: "the old pack followed by the positions, lent by old vertex, .." | PackWhole: wholePackOf | "positions: M2"
+--   C-13: ".. in new numbering" | PackWhole: positionsOf | "positions: two pieces, vertices in the order 3 5 4 2 0 1"
 --   "A code has three bits, i and j ten, p seven" | Code: code, operationBits | "M1", "union 2 of two waiting loops; .."
 --   "high bit first", "the last byte is filled with zero .." | Bits: bits, bytesOf | "M1"
 --   the same, read | Code: readOperation; Bits: readNumber | "M1 to M5"
@@ -92,7 +99,10 @@
 --   11, "The pack room is shorter than the pack" | Pack: packStored | "11"
 --   C-11: 22, "that room has fewer than T entries, straight after 8" | Pack: orderLongEnough, packChecked | "22: no order entry"
 --   1 to 8, 22, 9 to 11 | Pack: pack, packWithin | "7 before 8", "8 before 22: numbering", "22 before 9" to "10 before 11"
+--   C-13: 23 in packing, "after 22" | PackWhole: positionsFit | "positions: 23: none" to "positions: 23: 2048 at z of vertex 2"
+--   C-13: 1 to 8, 22, 23, 9 to 11 | PackWhole: packWholeWithin, wholeChecked | "positions: 5 before 23" to "positions: 11: .."
 --   12, "not the two fields above, whole and in order" | Fields: fieldsOf, firstField | "12: nothing, wrong tag, .."
+--   C-13: "12 counts it .. in its place, whole, at most once" | Later: partsOf, lastPart | "12: field 03 twice" to "12: 02 again after .."
 --   13, "V is not 3 to 4,096, T not 1 to 8,192, .." | Limits: inRange | "13: V 2, V 4097, .."
 --   14, "fewer than 3T entries or .. 1,024 records" | Machine: longEnough | "14: triangles", "14: places"
 --   15, "end before the model is complete, or break off" | Unpack: runAll; Machine: complete | "15: no operations; .."
@@ -102,6 +112,9 @@
 --   19, "differ from those stated, a whole byte .., a fill bit" | Machine: asStated; Unpack: restFits | "19: V 4, places 4, loops 2, .."
 --   20, "A vertex has more than one fan" | Fan: oneFanEach; Unpack: unpackEnded | "20: the shortest"
 --   12 to 20 | Unpack: unpack, unpackFields, unpackRun | "12 before 13" to "19 before 20: a vertex too many"
+--   C-13: 23, "the field's length is not 6V or a position is .." | UnpackWhole: fieldFits | "23: 0 bytes" to "23: position 8 is -32768"
+--   C-13: 24, "the volume call meets no positions or .. a rim" | UnpackWhole: measured | "24: a rim", "no field 03, no rim"
+--   C-13: 12 to 20, 23 ("after 20"), 24 ("last") | UnpackWhole: unpackWhole, volume | "13 before 23" to "23 before 24: a rim"
 --   21, "lent rooms shorter than 14 asks, or a state whose .." | Sound: sound, countsFit, sumsFit, linksFit, trianglesFit | states
 --   "The first operation at fault decides between 9 and 10" | Pack: chooseAll | "10 at an operation before that of 9"
 --   ".. and among 15 to 18; .. the lower number" | Unpack: runAll; Machine: done | "16 before 17: forward in a loop of three"
@@ -112,8 +125,10 @@
 --   "After 1 to 8 and 12 to 14 no room has changed" | Pack: turnedDown; Unpack: turnedDown | all rows of packing and unpacking
 --   C-11: after 22 "no room has changed" | Pack: turnedDown | "22: an order entry for each triangle but one"
 --   C-11: "past 8" means past every check before 9 | Pack: turnedDown, packRefused, packDone | "22: no order entry", "9"
+--   C-13: 23 in packing, "and no room has changed" | PackWhole: wholeChecked | "positions: 23: none" to "positions: 23 before 11"
 --   "After 9 to 11 .. zero"; C-11: the order's first T entries | Pack: packRefused; Buffer: zeroed | "9", "11"
 --   "after 15 to 20 .., the first 3T triangle entries" | Unpack: unpackRefused | "18: M10"
+--   C-13: "Both leave in unpacking what 20 leaves" | UnpackWhole: leftBy20 | "23: position 0 is -2049", "24: a rim"
 --   "leaves the first 1,024 place records zero, .." | Buffer: cleared, freePlace | all rows of packing and unpacking
 --   "A refused building call changes nothing" | Build: BegunBy, OperatedBy | (the contracts of crates/service)
 --   "An accepted beginning leaves .." | Build: begunBuffers, begunBuilder | calls
@@ -123,6 +138,10 @@
 --   C-11: "for each built triangle, in building order, its input number" | Order: nextNumber, orderBy | "two pieces listed in turn: .."
 --   C-11: "each is there once" | EachOnce in crates/roundtrip/specs/Claims | (`each-triangle-once`)
 --   "packing answers the pack's length, unpacking V, T .." | Answer: packedAnswer, unpackedAnswer | "M1" to "M5"
+--   C-13: "The volume call unpacks and gives besides six times .." | UnpackWhole: VolumeResult, sixOf | "volume of a torus"
+--   C-13: "the exact whole-number sum over .. of the determinant .." | Volume: determinant, sixVolumes | "volume of M2, different numbers"
+--   C-13: "A model turned inside out .." | InsideOutOtherSign in crates/volume_theory/specs/Claims | "volume of M2, the same .."
+--   C-13: "Moving one of a vertex's three positions .." | MovedByAtMost in crates/volume_theory/specs/Claims | (`moved-by-at-most`)
 --   "a building operation the triangle .. also written .." | Build: withTriangle, Leaves | calls
 --   "It changes nothing; a complete model holds no place" | Machine: complete; Finishing in crates/promises/specs/Promises | "M1" to "M5"
 --   "The finish gives edges, rims, unions and the Euler .." | Machine: totals | "M1" to "M5", "torus of seven vertices"
@@ -166,11 +185,16 @@ pub mod Calls
 pub mod Bits
 pub mod Code
 pub mod Fields
+pub mod Grid
+pub mod Later
+pub mod Volume
 pub mod Choice
 pub mod Right
 pub mod Order
 pub mod Pack
 pub mod Unpack
+pub mod PackWhole
+pub mod UnpackWhole
 pub mod View
 pub mod Sound
 pub mod Build

@@ -36,10 +36,10 @@ pub length-pack : (s : Counts) (ops : List ℕ) → length (packBytes s ops) ≡
 length-pack s ops = omega (arith, ap length (pack-header s ops), length-append (headerOf s (length ops)) ops, length-header s (length ops))
 
 -- a number in two bytes, read again; two bytes, written again
-word-back : (v : ℕ) → v < 65536 → 256 * (v / 256 % 256) + v % 256 ≡ v
+pub word-back : (v : ℕ) → v < 65536 → 256 * (v / 256 % 256) + v % 256 ≡ v
 word-back v h = omega arith
 
-word-again : (a b : ℕ) → a < 256 → b < 256 → word (256 * a + b) ≡ a ∷ (b ∷ [])
+pub word-again : (a b : ℕ) → a < 256 → b < 256 → word (256 * a + b) ≡ a ∷ (b ∷ [])
 word-again a b h k =
     let p : (256 * a + b) / 256 % 256 ≡ a = omega arith in
     let q : (256 * a + b) % 256 ≡ b = omega arith in

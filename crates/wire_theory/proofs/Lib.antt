@@ -1,9 +1,11 @@
 pub mod Buffer
 pub mod Bytes
 pub mod Fields
+pub mod Later
 pub mod Lists
 pub mod Numbers
 pub mod Operations
+pub mod Positions
 pub mod Rest
 pub mod Whole
 pub mod Window

@@ -3,4 +3,5 @@
 -- Assumes nothing.
 pub mod Buffer
 pub mod Header
+pub mod Later
 pub mod Shape

@@ -2,11 +2,11 @@
 
 use crate::expected::LIMITS;
 use crate::lines::record;
-use crate::second::{Building, PackBuffers, Packing, UnpackBuffers, Unpacking};
+use crate::second::{Building, PackBuffers, Packing, UnpackBuffers, Unpacking, Whole};
 use cutborder::across::across;
 use cutborder::book::Book;
 use cutborder::ops::{pack_bytes, Counts};
-use cutborder::{Answer, Place};
+use cutborder::{Answer, Place, Refusal};
 use std::fmt::Write;
 
 /// A list, runs of equal values as `replicate`.
@@ -61,11 +61,28 @@ fn unpack_buffers(r: &UnpackBuffers) -> String {
     format!("unpackLent {} {}", numbers(&r.triangles), places(&r.places))
 }
 
-fn integer(n: i64) -> String {
-    if n >= 0 { format!("(pos {n})") } else { format!("(negsuc {})", -n - 1) }
+fn signed(n: i64) -> String {
+    if n >= 0 { format!("pos {n}") } else { format!("negsuc {}", -n - 1) }
 }
 
+fn integer(n: i64) -> String {
+    argument(signed(n))
+}
+
+/// A packing without positions.
 pub fn packing(x: &Packing) -> String {
+    let [limits, vertices, list, lent, answer, left] = packing_fields(x);
+    record(&[limits, vertices, list, lent, answer, left])
+}
+
+/// A packing with positions, if they are given.
+pub fn whole_packing(x: &Packing) -> String {
+    let [limits, vertices, list, lent, answer, left] = packing_fields(x);
+    let positions = x.positions.as_ref().map_or("not-given".into(), |p| format!("given {}", self::list(p, |&n| signed(n.into()))));
+    record(&[limits, vertices, list, ("positions", positions), lent, answer, left])
+}
+
+fn packing_fields(x: &Packing) -> [(&'static str, String); 6] {
     let answer = match x.answer {
         Ok(n) => format!("packed {n}"),
         Err(n) => format!("refusal {n}"),
@@ -74,14 +91,14 @@ pub fn packing(x: &Packing) -> String {
         LIMITS => "most".to_owned(),
         (places, loops) => format!("record {{ places = {places}; loops = {loops} }}"),
     };
-    record(&[
+    [
         ("limits", limits),
         ("vertices", x.v.to_string()),
         ("list", numbers(&x.list)),
         ("lent", pack_buffers(&x.lent)),
         ("answer", answer),
         ("left", pack_buffers(&x.left)),
-    ])
+    ]
 }
 
 /// Counts and operations, and the pack that has them.
@@ -100,12 +117,26 @@ fn model(a: &Answer) -> String {
     format!("modelOf {} {} (totalsOf {} {} {} {})", a.v, a.t, a.edges, a.rims, a.unions, integer(a.euler.into()))
 }
 
+fn model_or_refusal(answer: Result<&Answer, Refusal>) -> String {
+    answer.map_or_else(|n| format!("refusal {n}"), model)
+}
+
 pub fn unpacking(x: &Unpacking) -> String {
-    let answer = match &x.answer {
-        Ok(a) => model(a),
-        Err(n) => format!("refusal {n}"),
-    };
+    let answer = model_or_refusal(x.answer.as_ref().map_err(|n| *n));
     record(&[("bytes", numbers(&x.bytes)), ("lent", unpack_buffers(&x.lent)), ("answer", answer), ("left", unpack_buffers(&x.left))])
+}
+
+/// A pack that may have positions, unpacked and measured.
+pub fn whole(x: &Whole) -> String {
+    let unpacked = model_or_refusal(x.unpacked.as_ref().map_err(|n| *n));
+    let measured = model_or_refusal(x.measured.as_ref().map(|m| &m.0).map_err(|n| *n));
+    let six = x.measured.as_ref().map_or("not-given".into(), |m| format!("(given {})", integer(m.1)));
+    record(&[
+        ("bytes", numbers(&x.bytes)),
+        ("lent", unpack_buffers(&x.lent)),
+        ("unpacking", format!("unpackTold ({unpacked}) ({})", unpack_buffers(&x.left))),
+        ("measuring", format!("volumeTold ({measured}) {six} ({})", unpack_buffers(&x.left_measured))),
+    ])
 }
 
 fn call(line: &str) -> String {

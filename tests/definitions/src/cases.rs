@@ -1,12 +1,12 @@
-//! Random cases: models, damaged lists, packs, damaged packs, lists of calls, and looks across an edge.
+//! Random cases: models, damaged lists, packs, damaged packs, lists of calls, looks across an edge, and models and packs with positions.
 
 use crate::antt;
 use crate::expected::{self, LIMITS};
 use crate::prelude::{prelude, Home};
-use crate::second::{Building, PackBuffers, Packing, UnpackBuffers, Unpacking};
-use cutborder::gen;
+use crate::second::{Building, PackBuffers, Packing, UnpackBuffers, Unpacking, Whole};
+use cutborder::gen::{self, Model};
 use cutborder::rng::Rng;
-use cutborder::Place;
+use cutborder::{gen02, Place};
 
 /// A buffer of about n entries, now and then one too short, filled with one value.
 fn length(rng: &mut Rng, n: usize) -> usize {
@@ -33,17 +33,57 @@ fn short<T, U>(n: usize, mut draw: impl FnMut() -> T, items: impl Fn(&T) -> &Vec
     }
 }
 
-pub fn packing(rng: &mut Rng, max_t: usize) -> Packing {
-    let m = short(300, || gen::model(rng, max_t), |m| &m.list);
-    let limits = if rng.chance(1, 4) { (rng.range(3, 9) as u32, rng.range(1, 3) as u32) } else { LIMITS };
-    let size = expected::packed(&m).map_or(20, |p| p.len());
-    let lent = PackBuffers {
+fn limits(rng: &mut Rng) -> (u32, u32) {
+    if rng.chance(1, 4) {
+        (rng.range(3, 9) as u32, rng.range(1, 3) as u32)
+    } else {
+        LIMITS
+    }
+}
+
+/// Buffers for a model whose pack has so many bytes.
+fn lent(rng: &mut Rng, m: &Model, size: usize) -> PackBuffers {
+    PackBuffers {
         numbering: vec![7; length(rng, m.v.min(5_000) as usize)],
         places: places(rng),
         pack: vec![5; length(rng, size)],
         order: vec![9; length(rng, m.list.len() / 3)],
-    };
+    }
+}
+
+fn packed_size(m: &Model) -> usize {
+    expected::packed(m).map_or(20, |p| p.len())
+}
+
+pub fn packing(rng: &mut Rng, max_t: usize) -> Packing {
+    let m = short(300, || gen::model(rng, max_t), |m| &m.list);
+    let limits = limits(rng);
+    let lent = lent(rng, &m, packed_size(&m));
     Packing::new(limits, m.v, &m.list, lent)
+}
+
+/// Positions for v vertices; now and then their number or one of them is wrong.
+fn positions(rng: &mut Rng, v: usize) -> Vec<i32> {
+    let mut all = gen02::positions(rng, v);
+    match rng.below(12) {
+        0 => all.truncate(rng.below(all.len() + 1)),
+        1 => all.push(0),
+        2 if v > 0 => {
+            let i = rng.below(all.len());
+            all[i] = [-2_049, 2_048, 32_767, -32_768, 65_536][rng.below(5)];
+        }
+        _ => {}
+    }
+    all
+}
+
+/// A packing with positions, or now and then without.
+pub fn whole_packing(rng: &mut Rng, max_t: usize) -> Packing {
+    let m = short(150, || if rng.chance(1, 6) { gen::model(rng, max_t) } else { gen02::model(rng) }, |m| &m.list);
+    let limits = limits(rng);
+    let given = rng.chance(7, 8).then(|| positions(rng, m.v.min(60) as usize));
+    let lent = lent(rng, &m, packed_size(&m) + given.as_ref().map_or(0, |p| 3 + 2 * p.len()));
+    Packing::given(limits, m.v, &m.list, given, lent)
 }
 
 pub fn unpacking(rng: &mut Rng, max_t: usize) -> Unpacking {
@@ -53,6 +93,16 @@ pub fn unpacking(rng: &mut Rng, max_t: usize) -> Unpacking {
     let n = if t > 400 { 5 } else { length(rng, 3 * t) };
     let lent = UnpackBuffers { triangles: vec![6; n], places: places(rng) };
     Unpacking::new(&bytes, lent)
+}
+
+/// A pack that may have positions, unpacked and measured.
+pub fn whole(rng: &mut Rng) -> Whole {
+    let bytes = short(220, || expected::random_whole_pack(rng), |b| b);
+    let t = expected::stated_triangles(&bytes).unwrap_or(1);
+    let n = if t > 400 { 5 } else { length(rng, 3 * t) };
+    let triangles = (0..n).map(|i| (i % 5) as u16).collect();
+    let places = places(rng);
+    Whole::new(&bytes, UnpackBuffers { triangles, places })
 }
 
 pub fn building(rng: &mut Rng, max_t: usize) -> Building {
@@ -77,10 +127,12 @@ pub fn module(seed: u64, count: usize) -> String {
     for i in 0..count {
         let mut r = rng.fork();
         let max_t = [4, 8, 14, 20][r.below(4)];
-        let (kind, right, row) = match i % 4 {
+        let (kind, right, row) = match i % 6 {
             0 => ("PackRow", "packRight", antt::packing(&packing(&mut r, max_t))),
             1 => ("UnpackRow", "unpackRight", antt::unpacking(&unpacking(&mut r, max_t))),
             2 => ("CallRow", "callsRight", antt::building(&building(&mut r, max_t))),
+            3 => ("WholePackRow", "wholePackRight", antt::whole_packing(&whole_packing(&mut r, max_t))),
+            4 => ("WholeRow", "wholeRight", antt::whole(&whole(&mut r))),
             _ => ("List LookRow", "allRight lookRight", looks(&mut r)),
         };
         out += &format!("\nabbrev row{i} : {kind}\nrow{i} =\n    {row}\n\npub case{i} : T ({right} row{i})\n{unfolding}\ncase{i} = tt\n");

@@ -12,6 +12,7 @@ mod edit;
 #[path = "../../expected.rs"]
 mod expected;
 mod lines;
+mod positions;
 mod prelude;
 mod second;
 mod table;

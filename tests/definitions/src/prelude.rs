@@ -49,8 +49,9 @@ use {specs}.Triangle.{{tri}}
 use {specs}.Answer.{{refusal, accepted, triangle, no-triangle, numbers, packed}}
 use {specs}.Book.{{begin, operate, finish}}
 use {specs}.Pack.{{most}}
-use {proofs}.Rows.{{PackRow, UnpackRow, CallRow, FieldsRow, LookRow}}
-use {proofs}.Rows.{{place, packLent, unpackLent, lengths, counts, totalsOf, modelOf}}
+use {specs}.Later.{{not-given, given}}
+use {proofs}.Rows.{{PackRow, UnpackRow, CallRow, FieldsRow, LookRow, WholePackRow, WholeRow}}
+use {proofs}.Rows.{{place, packLent, unpackLent, unpackTold, volumeTold, lengths, counts, totalsOf, modelOf}}
 "
     );
     let mut names = unfoldable("proofs", "Rows");

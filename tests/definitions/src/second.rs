@@ -2,9 +2,10 @@
 
 use crate::expected::{self, Calls, LIMITS};
 use cutborder::book::Book;
-use cutborder::ops::{encode_ops, pack_bytes, Counts};
-use cutborder::plain::{self, PackRooms};
-use cutborder::{Answer, Place, Refusal};
+use cutborder::fields::Fields;
+use cutborder::ops::{encode_ops, Counts, Op};
+use cutborder::plain::{self, Chosen, PackRooms};
+use cutborder::{volume, Answer, Place, Refusal};
 
 #[derive(Clone)]
 pub struct PackBuffers {
@@ -18,6 +19,7 @@ pub struct Packing {
     pub limits: (u32, u32),
     pub v: u64,
     pub list: Vec<u16>,
+    pub positions: Option<Vec<i32>>,
     pub lent: PackBuffers,
     pub answer: Result<usize, Refusal>,
     pub left: PackBuffers,
@@ -25,20 +27,37 @@ pub struct Packing {
 
 impl Packing {
     pub fn new(limits: (u32, u32), v: u64, list: &[u16], lent: PackBuffers) -> Packing {
+        Packing::given(limits, v, list, None, lent)
+    }
+
+    /// A packing that may be given positions.
+    pub fn given(limits: (u32, u32), v: u64, list: &[u16], positions: Option<Vec<i32>>, lent: PackBuffers) -> Packing {
         let mut left = lent.clone();
         let answer = if limits == LIMITS {
             let PackBuffers { numbering, places, pack, order } = &mut left;
-            expected::pack(v, list, PackRooms { numbering, places, out: pack, order })
+            let rooms = PackRooms { numbering, places, out: pack, order };
+            match &positions {
+                None => expected::pack(v, list, rooms),
+                Some(p) => expected::pack_whole(v, list, p, rooms),
+            }
         } else {
-            pack_within(limits, v, list, &mut left)
+            pack_within(limits, v, list, positions.as_deref(), &mut left)
         };
-        Packing { limits, v, list: list.to_vec(), lent, answer, left }
+        Packing { limits, v, list: list.to_vec(), positions, lent, answer, left }
     }
 }
 
-/// Packing with other limits on places and loops: the second program's choice, with 8, 22, 11 and the buffers by our hand. At the
+/// The second program's pack of a list, with positions by old vertex if they are given.
+fn pack_of(v: u64, t: usize, positions: Option<&[i32]>, ops: &[Op], chosen: &Chosen) -> Vec<u8> {
+    let book = &chosen.book;
+    let counts = Counts { v: v as u32, t: t as u32, places: book.peak_places, loops: book.peak_loops };
+    let field = positions.map(|p| volume::write(p, &chosen.number));
+    Fields { counts, codes: None, ops: &encode_ops(ops), positions: field.as_deref(), note: None }.bytes()
+}
+
+/// Packing with other limits on places and loops: the second program's choice, with 8, 22, 23, 11 and the buffers by our hand. At the
 /// rules' own limits tests/compare has them all from the second program.
-fn pack_within(limits: (u32, u32), v: u64, list: &[u16], r: &mut PackBuffers) -> Result<usize, Refusal> {
+fn pack_within(limits: (u32, u32), v: u64, list: &[u16], positions: Option<&[i32]>, r: &mut PackBuffers) -> Result<usize, Refusal> {
     plain::check(v, list)?;
     let n = v as usize;
     if r.numbering.len() < n || r.places.len() < 1_024 {
@@ -48,12 +67,13 @@ fn pack_within(limits: (u32, u32), v: u64, list: &[u16], r: &mut PackBuffers) ->
     if r.order.len() < t {
         return Err(22);
     }
+    if positions.is_some_and(|p| p.len() != 3 * n || !p.iter().all(|&x| volume::in_range(x))) {
+        return Err(23);
+    }
     let chosen = expected::choose(v, list, limits);
     r.places[..1_024].fill(Place::default());
     let result = chosen.and_then(|(ops, chosen)| {
-        let book = &chosen.book;
-        let c = Counts { v: v as u32, t: t as u32, places: book.peak_places, loops: book.peak_loops };
-        let bytes = pack_bytes(c, &encode_ops(&ops));
+        let bytes = pack_of(v, t, positions, &ops, &chosen);
         if bytes.len() > r.pack.len() {
             Err(11)
         } else {
@@ -94,6 +114,26 @@ impl Unpacking {
         let mut left = lent.clone();
         let answer = expected::unpack(bytes, &mut left.triangles, &mut left.places);
         Unpacking { bytes: bytes.to_vec(), lent, answer, left }
+    }
+}
+
+/// A pack that may have positions: unpacked, and measured by the volume call.
+pub struct Whole {
+    pub bytes: Vec<u8>,
+    pub lent: UnpackBuffers,
+    pub unpacked: Result<Answer, Refusal>,
+    pub left: UnpackBuffers,
+    pub measured: Result<(Answer, i64), Refusal>,
+    pub left_measured: UnpackBuffers,
+}
+
+impl Whole {
+    pub fn new(bytes: &[u8], lent: UnpackBuffers) -> Whole {
+        let mut left = lent.clone();
+        let unpacked = expected::unpack_whole(bytes, &mut left.triangles, &mut left.places);
+        let mut left_measured = lent.clone();
+        let measured = expected::measure(bytes, &mut left_measured.triangles, &mut left_measured.places);
+        Whole { bytes: bytes.to_vec(), lent, unpacked, left, measured, left_measured }
     }
 }
 

@@ -3,6 +3,7 @@
 use crate::antt;
 use crate::expected::{self, LIMITS};
 use crate::lines;
+use crate::positions;
 use crate::prelude::{prelude, Home};
 use crate::second::{Building, PackBuffers, Packing, UnpackBuffers, Unpacking};
 use cutborder::gen::op_words;
@@ -60,14 +61,14 @@ fn models() -> Vec<(String, String)> {
     [MODELS, MORE_MODELS].iter().flat_map(|text| lines(text)).collect()
 }
 
-const USED: Place = Place { vertex: 3, before: 1, after: 2, open: true };
+pub const USED: Place = Place { vertex: 3, before: 1, after: 2, open: true };
 
 /// Buffers with some entries more than are needed.
 fn ample(v: usize, t: usize) -> PackBuffers {
     PackBuffers { numbering: vec![7; v + 2], places: vec![USED; 1_026], pack: vec![5; 60], order: vec![9; t + 2] }
 }
 
-fn model(line: &str) -> (u64, Vec<u16>) {
+pub fn model(line: &str) -> (u64, Vec<u16>) {
     let mut w = line.split(' ').map(|n| n.parse::<u64>().expect("a number"));
     (w.next().unwrap(), w.map(|n| n as u16).collect())
 }
@@ -91,7 +92,7 @@ const LOOPS_FIRST: &str = "6 0 1 2 0 2 3 1 4 5 1 5 2 4 0 5 0 3 5";
 const SHORT: &str = "4 0 2 1 1 3 0";
 
 /// A split makes two loops and a seventh place.
-const SPLIT: &str = "6 1 3 2 2 4 5 2 3 4 1 0 3 2 5 0 0 1 2";
+pub const SPLIT: &str = "6 1 3 2 2 4 5 2 3 4 1 0 3 2 5 0 0 1 2";
 
 /// Lists, each refused or packed in ample buffers.
 const LISTS: [(&str, &str); 23] = [
@@ -184,7 +185,7 @@ fn unpack_row(name: &str, hex: &str, triangles: usize, places: usize) -> (String
     (format!("{name}: {told}"), antt::unpacking(&x))
 }
 
-const M1: &str = "0100080003000100030001020002edb0";
+pub const M1: &str = "0100080003000100030001020002edb0";
 
 /// Packs, and how many numbers and records are lent for each.
 const BYTES: [(&str, &str, usize, usize); 29] = [
@@ -323,6 +324,8 @@ pub fn module() -> String {
         ("callRows", "CallRow", "callsRight", buildings()),
         ("fieldsRows", "FieldsRow", "fieldsRight", packs()),
         ("lookRows", "LookRow", "lookRight", looks()),
+        ("wholePackRows", "WholePackRow", "wholePackRight", positions::packings()),
+        ("wholeRows", "WholeRow", "wholeRight", positions::packs()),
     ];
     let (uses, unfolding) = prelude(&Home::Rules, &sections.each_ref().map(|s| s.0));
     let mut out = String::from(

@@ -101,7 +101,7 @@ facts-more M R B t o k = record {
     both x y z w (here r) j = free-rot B (o .0) r w j
     both x y z w (there i) j = k .apart x y z w i (there j)
 
-nothing-in : {x y z : ℕ} → In x y z [] → ⊥
+pub nothing-in : {x y z : ℕ} → In x y z [] → ⊥
 nothing-in i = elim i [ ]
 
 pub facts : {M B : List Triangle} {rims ls : List Ring} {os : List Operation} {R : List Triangle} → Run M B rims ls os R → Sound B rims ls

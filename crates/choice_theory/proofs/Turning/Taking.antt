@@ -34,6 +34,10 @@ corners (t ∷ ts) (here (at-q a b c)) o = (λ q. o .1 .1 (a ∙ (q ∙ sym b)),
 corners (t ∷ ts) (here (at-r a b c)) o = (λ q. o .1 .2 (a ∙ (q ∙ sym b)), λ q. o .1 .0 (b ∙ (q ∙ sym c)), λ q. o .1 .1 (c ∙ (q ∙ sym a)))
 corners (t ∷ ts) (there i) o = corners ts i (o .2)
 
+-- the triangle put before the others
+pub once-taken : {x y z : ℕ} (ts : List Triangle) (i : In x y z ts) → Once ts → Once (tri x y z ∷ others i)
+once-taken ts i o = ((free-1 ts i o, free-2 ts i o, others-free ts i o), corners ts i o, others-once ts i o)
+
 -- the same triangle seen from another corner
 pub rot-same : {t : Triangle} {x y z u v w : ℕ} → Rot t x y z → Rot t u v w → Rot (tri x y z) u v w
 rot-same (at-p a b c) (at-p a′ b′ c′) = at-p (sym a ∙ a′) (sym b ∙ b′) (sym c ∙ c′)
@@ -71,7 +75,7 @@ pub keeps-take : (M R B : List Triangle) (ls rims : List Ring) (x y z : ℕ) (i 
     → Keeps M (record { p = x; q = y; r = z } ∷ others i) B ls rims
 keeps-take M R B ls rims x y z i k = record {
   onceM = k .onceM;
-  once = ((free-1 R i (k .once), free-2 R i (k .once), others-free R i (k .once)), corners R i (k .once), others-once R i (k .once));
+  once = once-taken R i (k .once);
   subR = λ u v w j. k .subR u v w (back i j);
   subB = k .subB;
   apart = λ u v w n j l. k .apart u v w n (back i j) l;

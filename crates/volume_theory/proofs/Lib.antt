@@ -1,0 +1,11 @@
+pub mod Amounts
+pub mod Back
+pub mod Beside
+pub mod Determinant
+pub mod Forth
+pub mod Integers
+pub mod Order
+pub mod Packed
+pub mod Positions
+pub mod Volume
+pub mod Whole

@@ -1,0 +1,6 @@
+-- Grid positions and volumes.
+-- Interface: Claims; Axes serves the proofs.
+-- Assumes nothing.
+pub mod Axes
+pub mod Claims
+pub mod Whole

@@ -1,0 +1,1 @@
+// Theorems about grid positions and volumes. No code.
