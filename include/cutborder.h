@@ -1,8 +1,34 @@
-/* The service's calls for C: checking, packing and unpacking triangle lists, and building them one operation at a time.
+/* The service's calls for C: checking, packing, unpacking and measuring triangle lists, and building them one operation at a time.
  *
- * Each call returns 0 for acceptance or the number of the refusal, 1 to 22 (docs/FORMAT.md, Refusals). A refusal leaves the
- * memory for results as it was, and changes a buffer only where a rule says so. Nothing is kept between two calls, and no
- * memory is allocated.
+ * Each call returns 0 for acceptance or the number of the refusal, 1 to 24:
+ *
+ *    1  the list is empty, has over 24,576 numbers, or not three for each triangle
+ *    2  v is below 3 or above 4,096
+ *    3  a number of the list is v or more
+ *    4  a triangle of the list has a vertex twice
+ *    5  a directed edge occurs twice
+ *    6  a vertex is in no triangle
+ *    7  a vertex of the list has more than one fan
+ *    8  packing is lent fewer than v numbering entries or fewer than 1,024 place records
+ *    9  an operation of the packing would exceed 1,024 places
+ *   10  an operation of the packing would exceed 100 live loops
+ *   11  the pack buffer is shorter than the pack
+ *   12  the bytes are not the fields of a pack, each whole and in order
+ *   13  a count is out of its range
+ *   14  fewer than three triangle entries for each triangle stated or fewer than 1,024 place records are lent
+ *   15  the operations end before the model is complete, or break off
+ *   16  an operation is not allowed
+ *   17  an operation would exceed a stated count
+ *   18  a new edge joins two vertices that are joined already, or a built triangle has a vertex twice
+ *   19  vertices or a peak differ from those stated, a whole byte is left over, or a fill bit is one
+ *   20  a vertex of the built model has more than one fan
+ *   21  a building call is lent shorter buffers than 14 asks, or a state that no building comes to
+ *   22  packing is lent fewer order entries than there are triangles
+ *   23  the positions are not three for each vertex, or one is not from -2,048 to 2,047
+ *   24  there is no volume: the pack has no positions, or the model has a rim
+ *
+ * docs/FORMAT.md has them in the order in which each call tests them. A refusal leaves the memory for results as it was, and changes a
+ * buffer only where a rule says so. Nothing is kept between two calls, and no memory is allocated.
  *
  * What a caller owes: each pointer leads to as many entries as are stated, no two of them overlap, and nobody else writes them
  * meanwhile. All of it holds values of its type: the `open` of a record is 0 or 1, so memory from malloc is cleared first. A
@@ -58,9 +84,24 @@ uint32_t cutborder_pack(size_t v, const uint16_t *list, size_t entries, uint16_t
                         size_t pack_bytes, uint16_t *order, size_t order_entries, struct cutborder_place *places, size_t records,
                         uint32_t *size);
 
-/* 12 to 20, or the triangles, then vertices, triangles, edges, rims and unions, and the Euler number. */
+/* The same with positions, x, y and z of each old vertex: 1 to 8, 22, 23, 9 to 11, or the pack of cutborder_pack followed by the
+ * positions in new numbering, 6 v + 3 bytes more; all else as there. After 1 to 8, 22 and 23 no buffer has changed. Otherwise the first
+ * 1,024 place records are zero, and after 9 to 11 the first v numbering entries, an order entry for each triangle and the whole pack
+ * buffer too. */
+uint32_t cutborder_pack_positions(size_t v, const uint16_t *list, size_t entries, const int16_t *positions, size_t position_entries,
+                                  uint16_t *numbering, size_t numbering_entries, uint8_t *pack, size_t pack_bytes, uint16_t *order,
+                                  size_t order_entries, struct cutborder_place *places, size_t records, uint32_t *size);
+
+/* 12 to 20, then 23, or the triangles, then vertices, triangles, edges, rims and unions, and the Euler number. The pack may have
+ * positions; they are tested and not told. */
 uint32_t cutborder_unpack(const uint8_t *pack, size_t bytes, uint16_t *triangles, size_t triangle_entries, struct cutborder_place *places,
                           size_t records, uint16_t model[5], int32_t *euler);
+
+/* 12 to 20, then 23 and 24, or the same as cutborder_unpack and six times the enclosed volume, the exact sum over the triangles of the
+ * determinant of their corners: a model turned inside out, if accepted too, has the other sign. After 12 to 14 no buffer has changed.
+ * Otherwise the first 1,024 place records are zero, and after 15 to 20, 23 and 24 three triangle entries for each triangle stated too. */
+uint32_t cutborder_volume(const uint8_t *pack, size_t bytes, uint16_t *triangles, size_t triangle_entries, struct cutborder_place *places,
+                          size_t records, uint16_t model[5], int32_t *euler, int64_t *six);
 
 /* 13 and 14, or a builder that holds nothing. A count above 65,535 is 13. */
 uint32_t cutborder_begin(uint32_t vertices, uint32_t triangles_stated, uint32_t most_places, uint32_t most_loops, uint16_t *triangles,

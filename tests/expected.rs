@@ -7,13 +7,11 @@ use cutborder::ops::{Counts, Op};
 use cutborder::plain::{self, Chosen, Given, PackRooms, Trace};
 use cutborder::proto;
 use cutborder::rng::Rng;
-use cutborder::{gen02, volume, Answer, Level, Place, Refusal};
+use cutborder::{gen02, Answer, Level, Place, Refusal};
 
-/// The loops are those of C-14, and packing fills the order buffer of C-11; C-12 changes no answer of a call.
+/// C-11 to C-14 have landed: packing fills the order buffer, packs may have positions, and loops are shortened; C-12 changes no answer of
+/// a call.
 pub const LEVEL: Level = Level(14);
-
-/// The fields are those of the base: field 03 of C-13 has not landed.
-pub const FIELDS: Level = Level::BASE;
 
 /// The limits of the rules on places and loops.
 pub const LIMITS: (u32, u32) = (1_024, 100);
@@ -25,35 +23,32 @@ pub fn choose(v: u64, list: &[u16], limits: (u32, u32)) -> Result<(Vec<Op>, Chos
     Ok((trace.ops, chosen))
 }
 
-/// Packing, without positions, note and codes: C-13, C-15 and C-17 have not landed.
-pub fn pack(v: u64, list: &[u16], rooms: PackRooms) -> Result<usize, Refusal> {
-    plain::pack_at(LEVEL, v, list, Given::default(), rooms, &mut Trace::default())
+/// What packing is given beside the list: positions by old vertex or none. C-15 and C-17, note and codes, have not landed.
+fn given(positions: Option<&[i32]>) -> Given<'_> {
+    Given { positions, ..Given::default() }
 }
 
-/// Packing with positions by old vertex. This, `unpack_whole` and `measure` are C-13's, of which the definitions are there.
-pub fn pack_whole(v: u64, list: &[u16], positions: &[i32], rooms: PackRooms) -> Result<usize, Refusal> {
-    let given = Given { positions: Some(positions), ..Given::default() };
-    plain::pack_at(LEVEL, v, list, given, rooms, &mut Trace::default())
+pub fn pack(v: u64, list: &[u16], positions: Option<&[i32]>, rooms: PackRooms) -> Result<usize, Refusal> {
+    plain::pack_at(LEVEL, v, list, given(positions), rooms, &mut Trace::default())
 }
 
-/// The counts and the operations of a pack, or 12.
-pub fn fields(bytes: &[u8]) -> Result<(Counts, &[u8]), Refusal> {
-    Fields::split(FIELDS, bytes).map(|f| (f.counts, f.ops))
+/// The fields of a pack, or 12.
+pub fn fields(bytes: &[u8]) -> Result<Fields<'_>, Refusal> {
+    Fields::split(LEVEL, bytes)
+}
+
+/// The triangles that a pack states; 1 if it is none.
+pub fn stated_triangles(bytes: &[u8]) -> usize {
+    fields(bytes).map_or(1, |f| f.counts.t as usize)
 }
 
 pub fn unpack(bytes: &[u8], triangles: &mut [u16], places: &mut [Place]) -> Result<Answer, Refusal> {
-    fields(bytes)?;
-    plain::unpack_at(LEVEL, bytes, triangles, places)
-}
-
-/// Unpacking a pack that may have positions.
-pub fn unpack_whole(bytes: &[u8], triangles: &mut [u16], places: &mut [Place]) -> Result<Answer, Refusal> {
     plain::unpack_at(LEVEL, bytes, triangles, places)
 }
 
 /// The volume call: what unpacking answers, and six times the volume.
-pub fn measure(bytes: &[u8], triangles: &mut [u16], places: &mut [Place]) -> Result<(Answer, i64), Refusal> {
-    volume::volume(LEVEL, bytes, triangles, places)
+pub fn volume(bytes: &[u8], triangles: &mut [u16], places: &mut [Place]) -> Result<(Answer, i64), Refusal> {
+    cutborder::volume::volume(LEVEL, bytes, triangles, places)
 }
 
 /// A beginning.
@@ -61,42 +56,63 @@ pub fn begin(counts: Counts, entries: usize, records: usize) -> Result<Book, Ref
     Book::begin_at(LEVEL, counts, entries, records)
 }
 
-/// A model's pack, if it is accepted.
-pub fn packed(m: &Model) -> Option<Vec<u8>> {
-    gen::packed_at(LEVEL, m, Given::default())
+/// A model's pack, with positions by old vertex if they are given; none if it is refused.
+pub fn packed(m: &Model, positions: Option<&[i32]>) -> Option<Vec<u8>> {
+    gen::packed_at(LEVEL, m, given(positions))
 }
 
-/// A random pack, sound or not.
+/// A way to change a list, with its name.
+pub type Way<T> = (&'static str, fn(&mut Rng, &mut Vec<T>));
+
+/// Ways to change the positions of one vertex or more so that 23 refuses them.
+pub const UNFIT: [Way<i32>; 12] = [
+    ("23: none", |_, zs| zs.clear()),
+    ("23: any number less", |rng, zs| zs.truncate(rng.below(zs.len()))),
+    ("23: a number less", |_, zs| zs.truncate(zs.len() - 1)),
+    ("23: a vertex less", |_, zs| zs.truncate(zs.len() - 3)),
+    ("23: a number more", |_, zs| zs.push(0)),
+    ("23: a vertex more", |_, zs| zs.extend([0; 3])),
+    ("23: 2,048", |rng, zs| change_one(rng, zs, 2_048)),
+    ("23: -2,049", |rng, zs| change_one(rng, zs, -2_049)),
+    ("23: 32,767", |rng, zs| change_one(rng, zs, 32_767)),
+    ("23: -32,768", |rng, zs| change_one(rng, zs, -32_768)),
+    ("23: the first position", |_, zs| zs[0] = -2_049),
+    ("23: the last position", |_, zs| *zs.last_mut().expect("a position") = 2_048),
+];
+
+fn change_one(rng: &mut Rng, positions: &mut [i32], z: i32) {
+    positions[rng.below(positions.len())] = z;
+}
+
+/// Positions as the contents of their field.
+pub fn contents_of(positions: &[i32]) -> Vec<u8> {
+    positions.iter().flat_map(|&z| (z as i16).to_be_bytes()).collect()
+}
+
+/// A pack of two fields followed by a field of positions with these contents.
+pub fn with_field(two: &[u8], contents: &[u8]) -> Vec<u8> {
+    [two, &[3], &(contents.len() as u16).to_be_bytes(), contents].concat()
+}
+
+/// A pack of two fields followed by positions that 23 refuses.
+pub fn with_unfit_field(rng: &mut Rng, two: &[u8]) -> Vec<u8> {
+    let v = fields(two).map_or(1, |f| f.counts.v.clamp(1, 5_000));
+    let mut positions = gen02::positions(rng, v as usize);
+    UNFIT[rng.below(UNFIT.len())].1(rng, &mut positions);
+    with_field(two, &contents_of(&positions))
+}
+
+/// A random pack of two fields, sound or not.
 pub fn random_pack(rng: &mut Rng, max_t: usize) -> Vec<u8> {
     gen::pack_at(LEVEL, rng, max_t)
 }
 
-/// A random pack, sound or not, that may have positions.
+/// A random pack, sound or not, that may have positions; now and then nothing but these is wrong.
 pub fn random_whole_pack(rng: &mut Rng) -> Vec<u8> {
-    let unfit = if rng.chance(1, 6) { unfit_pack(rng) } else { None };
-    unfit.unwrap_or_else(|| gen02::pack(LEVEL, rng))
-}
-
-/// A sound pack but for its positions: their length is wrong, or one is out of range.
-fn unfit_pack(rng: &mut Rng) -> Option<Vec<u8>> {
-    let bytes = gen02::good_pack(LEVEL, rng)?;
-    let fields = Fields::split(LEVEL, &bytes).ok()?;
-    let mut positions = fields.positions?.to_vec();
-    match rng.below(5) {
-        0 => positions.truncate(rng.below(positions.len())),
-        1 => positions.push(0),
-        2 => positions.extend([0; 6]),
-        _ => {
-            let i = 2 * rng.below(positions.len() / 2);
-            positions[i..i + 2].copy_from_slice(&[[8, 0], [0xf7, 0xff], [0x7f, 0xff], [0x80, 0]][rng.below(4)]);
-        }
+    match rng.chance(1, 6).then(|| packed(&gen02::model(rng), None)).flatten() {
+        Some(two) => with_unfit_field(rng, &two),
+        None => gen02::pack(LEVEL, rng),
     }
-    Some(Fields { positions: Some(&positions), ..fields }.bytes())
-}
-
-/// The triangles that a pack states which may have positions, if its fields are there.
-pub fn stated_triangles(bytes: &[u8]) -> Option<usize> {
-    Fields::split(LEVEL, bytes).ok().map(|f| f.counts.t as usize)
 }
 
 /// A random list of building calls; the first is an accepted beginning.

@@ -1,8 +1,10 @@
-//! Speed of the service as a ratio to the second program's fast engine, both in one run. `service-bench [REPEATS] [building|search]`
+//! Speed of the service as a ratio to the second program's fast engine, both in one run.
+//! `service-bench [REPEATS] [positions|building|search]`
 //!
-//! Nanoseconds a triangle, the median over many calls; buffers are reused and not cleared between calls. Then the building calls, and the
-//! search for the triangle with an edge.
+//! Nanoseconds a triangle, the median over many calls; buffers are reused and not cleared between calls. Then packs with positions and
+//! their volumes, the building calls, and the search for the triangle with an edge.
 
+mod positions;
 mod searching;
 
 use compare::expected::{self, LEVEL, LIMITS};
@@ -12,7 +14,7 @@ use cutborder::gen::{self, Model};
 use cutborder::ops::Counts;
 use cutborder::plain::{choose_at, Trace};
 use cutborder::rng::Rng;
-use cutborder::{Level, Place};
+use cutborder::{volume, Level, Place};
 use std::hint::black_box;
 use std::time::Instant;
 
@@ -100,6 +102,7 @@ fn medians(repeats: usize, mut ours: impl FnMut(), mut theirs: impl FnMut()) -> 
 fn main() {
     let repeats = std::env::args().nth(1).and_then(|a| a.parse().ok()).unwrap_or(500);
     match std::env::args().nth(2).as_deref() {
+        Some("positions") => return positions::table(repeats),
         Some("building") => return buildings(repeats),
         Some("search") => return searching::searches(repeats),
         _ => {}
@@ -122,16 +125,21 @@ fn main() {
             },
         );
         print!("{name:<16} {:>6} {:>6}  {:>8.1} {:>8.1} {:>6.2}", m.v, t, ours / t, theirs / t, ours / theirs);
-        let (ours, theirs) = unpackings(&m, repeats);
-        print!("  {:>8.1} {:>8.1} {:>6.2}", ours / t, theirs / t, ours / theirs);
-        let (ours, theirs) = packings(&m, repeats);
-        print!("  {:>8.1} {:>8.1} {:>6.2}", ours / t, theirs / t, ours / theirs);
+        print_ratio(unpackings(&m, None, repeats), t);
+        print_ratio(packings(&m, None, repeats), t);
         println!("  {:>6} {:>6}", most_places(LEVEL, &m), most_places(Level::BASE, &m));
     }
+    println!();
+    positions::table(repeats);
     println!();
     buildings(repeats);
     println!();
     searching::searches(repeats);
+}
+
+/// Times of t triangles, a triangle, and their ratio.
+fn print_ratio((ours, theirs): (f64, f64), t: f64) {
+    print!("  {:>8.1} {:>8.1} {:>6.2}", ours / t, theirs / t, ours / theirs);
 }
 
 /// Building calls: nanoseconds of a beginning, of an operation in the mean over a model's, and of the finish; of each call the least
@@ -174,9 +182,11 @@ fn building_models() -> Vec<(String, Model)> {
     out
 }
 
-/// Unpacking the model's pack.
-fn unpackings(m: &Model, repeats: usize) -> (f64, f64) {
-    let pack = expected::packed(m).expect("a pack");
+/// Unpacking the model's pack, with positions if they are given. The fast engine reads two fields; what the second program has for
+/// positions is called after it.
+fn unpackings(m: &Model, positions: Option<&[i32]>, repeats: usize) -> (f64, f64) {
+    let pack = expected::packed(m, positions).expect("a pack");
+    let (two, field) = positions::parts(&pack);
     let (mut triangles, mut expected) = (vec![0u16; m.list.len()], vec![0u16; m.list.len()]);
     let (mut places, mut expected_places) = (vec![Place::default(); 1_024], vec![Place::default(); 1_024]);
     let mut unpacker = Unpacker::new();
@@ -186,25 +196,31 @@ fn unpackings(m: &Model, repeats: usize) -> (f64, f64) {
             black_box(compare::unpack(black_box(&pack), &mut triangles, &mut places)).expect("an accepted pack");
         },
         || {
-            black_box(unpacker.unpack_at(LEVEL, black_box(&pack), &mut expected, &mut expected_places)).expect("an accepted pack");
+            black_box(unpacker.unpack_at(LEVEL, black_box(two), &mut expected, &mut expected_places)).expect("an accepted pack");
+            assert!(field.is_none_or(|f| volume::sound(black_box(f), m.v as u32)));
         },
     )
 }
 
-/// Packing the model, with all of 1 to 11 on both sides; the fast engine has no order buffer.
-fn packings(m: &Model, repeats: usize) -> (f64, f64) {
+/// Packing the model, with positions if they are given, with all of 1 to 11 and 23 on both sides; the fast engine has no order buffer and
+/// no positions, which are written after it.
+fn packings(m: &Model, positions: Option<&[i32]>, repeats: usize) -> (f64, f64) {
     let v = m.v as usize;
+    let narrow = positions.map(compare::narrow);
     let (mut lent, mut expected) = (Buffers::ample(v, m.list.len() / 3), Buffers::ample(v, 0));
     let mut packer = Packer::new();
     medians(
         repeats,
         || {
-            black_box(compare::pack(v, black_box(&m.list), lent.lend())).expect("an accepted list");
+            black_box(compare::pack(v, black_box(&m.list), narrow.as_deref(), lent.lend())).expect("an accepted list");
         },
         || {
             let e = &mut expected;
-            black_box(packer.pack_at(LEVEL, m.v, black_box(&m.list), &mut e.numbering, &mut e.places, &mut e.pack))
+            let n = black_box(packer.pack_at(LEVEL, m.v, black_box(&m.list), &mut e.numbering, &mut e.places, &mut e.pack))
                 .expect("an accepted list");
+            if let Some(positions) = positions {
+                positions::put_field(&mut e.pack[n..], black_box(positions), &e.numbering);
+            }
         },
     )
 }

@@ -1,4 +1,5 @@
-/* The calls from C: M2 of the paper checked, packed, unpacked and built, a list searched, and calls that are refused. */
+/* The calls from C: M2 of the paper checked, packed, unpacked and built, a cube packed with positions and measured, a list searched, and
+ * calls that are refused. */
 #include "../../include/cutborder.h"
 #include "../../include/cutborder_search.h"
 #include <stdio.h>
@@ -79,6 +80,80 @@ static void builds(void) {
     EXPECT(totals[0] == 6 && totals[1] == 0 && totals[2] == 0 && euler == 2);
 }
 
+/* A cube's corners are numbered by their axes, 1 for x, 2 for y, 4 for z; its triangles are turned outwards. The second list has them
+ * turned over. */
+static const uint16_t cubes[2][36] = {
+    {0, 2, 1, 1, 2, 3, 4, 5, 6, 5, 7, 6, 0, 1, 4, 1, 5, 4, 2, 6, 3, 3, 6, 7, 0, 4, 2, 2, 4, 6, 1, 3, 5, 3, 7, 5},
+    {0, 1, 2, 1, 3, 2, 4, 6, 5, 5, 6, 7, 0, 4, 1, 1, 4, 5, 2, 3, 6, 3, 7, 6, 0, 2, 4, 2, 6, 4, 1, 5, 3, 3, 5, 7}};
+static const int16_t corners[24] = {0, 0, 0, 10, 0, 0, 0, 10, 0, 10, 10, 0, 0, 0, 10, 10, 0, 10, 0, 10, 10, 10, 10, 10};
+static uint16_t cube_numbering[8], cube_order[12];
+static uint8_t cube_pack[128], plain_pack[128];
+
+/* The positions' field of the cube, in new numbering. */
+static void write_field(uint8_t field[51]) {
+    field[0] = 3;
+    field[1] = 0;
+    field[2] = 48;
+    for (int i = 0; i < 24; i++) {
+        field[3 + 6 * cube_numbering[i / 3] + 2 * (i % 3)] = 0;
+        field[4 + 6 * cube_numbering[i / 3] + 2 * (i % 3)] = (uint8_t)corners[i];
+    }
+}
+
+static uint32_t cube_packed(const uint16_t *cube, const int16_t *positions, size_t entries, size_t bytes) {
+    size = 77;
+    memset(cube_pack, 5, sizeof cube_pack);
+    return cutborder_pack_positions(8, cube, 36, positions, entries, cube_numbering, 8, cube_pack, bytes, cube_order, 12, places, 1024,
+                                    &size);
+}
+
+/* The pack with positions is the old pack followed by the field; 23 and 11. */
+static void packs_positions(const uint16_t *cube) {
+    uint8_t field[51];
+    int16_t out[24];
+    uint32_t plain_size;
+    EXPECT(cutborder_pack(8, cube, 36, cube_numbering, 8, plain_pack, sizeof plain_pack, cube_order, 12, places, 1024, &plain_size) == 0);
+    memcpy(out, corners, sizeof out);
+    out[23] = 2048;
+    EXPECT(cube_packed(cube, out, 24, 0) == 23 && size == 77 && cube_pack[0] == 5);
+    EXPECT(cube_packed(cube, corners, 23, sizeof cube_pack) == 23 && size == 77 && cube_pack[0] == 5);
+    EXPECT(cube_packed(cube, corners, 24, plain_size + 50) == 11 && size == 77 && cube_pack[0] == 0 && cube_pack[plain_size + 50] == 5);
+    EXPECT(cube_packed(cube, corners, 24, sizeof cube_pack) == 0 && size == plain_size + 51 && cube_pack[size] == 5);
+    write_field(field);
+    EXPECT(memcmp(cube_pack, plain_pack, plain_size) == 0 && memcmp(cube_pack + plain_size, field, 51) == 0);
+}
+
+/* The volume of the cube that was packed; 14, 23 and 24 leave the memory for results. */
+static void measures(int64_t expected_six) {
+    uint16_t triangles[37], unpacked[37], model[5] = {7, 7, 7, 7, 7}, same_model[5];
+    int32_t euler = -77, same_euler;
+    int64_t six = INT64_MIN;
+    triangles[36] = unpacked[36] = 9;
+    EXPECT(cutborder_volume(cube_pack, size, triangles, 35, places, 1024, model, &euler, &six) == 14);
+    triangles[1] = 9;
+    EXPECT(cutborder_volume(cube_pack, size - 51, triangles, 37, places, 1024, model, &euler, &six) == 24 && triangles[1] == 0);
+    cube_pack[size - 2] = 8;
+    triangles[1] = 9;
+    EXPECT(cutborder_volume(cube_pack, size, triangles, 37, places, 1024, model, &euler, &six) == 23 && triangles[1] == 0);
+    cube_pack[size - 2] = 0;
+    EXPECT(model[0] == 7 && model[4] == 7 && euler == -77 && six == INT64_MIN && triangles[36] == 9);
+    EXPECT(cutborder_volume(cube_pack, size, triangles, 37, places, 1024, model, &euler, &six) == 0 && six == expected_six);
+    EXPECT(model[0] == 8 && model[1] == 12 && model[2] == 18 && model[3] == 0 && model[4] == 0 && euler == 2);
+    EXPECT(cutborder_unpack(cube_pack, size, unpacked, 37, places, 1024, same_model, &same_euler) == 0);
+    EXPECT(memcmp(triangles, unpacked, sizeof triangles) == 0 && memcmp(model, same_model, sizeof model) == 0 && euler == same_euler);
+}
+
+/* A model with a rim has no volume: 24. */
+static void rim(void) {
+    static const uint16_t triangle[3] = {0, 1, 2};
+    uint16_t triangles[3], model[5];
+    int32_t euler;
+    int64_t six = 77;
+    EXPECT(cutborder_pack_positions(3, triangle, 3, corners, 9, numbering, 4, pack, sizeof pack, order, 6, places, 1024, &size) == 0);
+    EXPECT(cutborder_volume(pack, size, triangles, 3, places, 1024, model, &euler, &six) == 24 && six == 77);
+    EXPECT(cutborder_unpack(pack, size, triangles, 3, places, 1024, model, &euler) == 0 && model[3] == 1);
+}
+
 /* A list that 5 refuses, 5 to 6 being in three triangles, the last of which is triangle 2. */
 static void searches(void) {
     static const uint16_t thrice[12] = {5, 6, 7, 10, 5, 6, 6, 9, 5, 6, 5, 8};
@@ -99,6 +174,11 @@ int main(void) {
     EXPECT(sizeof(struct cutborder_place) == 8 && sizeof(struct cutborder_builder) == 426);
     packs();
     builds();
+    for (int i = 0; i < 2; i++) {
+        packs_positions(cubes[i]);
+        measures(i == 0 ? 6000 : -6000);
+    }
+    rim();
     searches();
     return wrong != 0;
 }

@@ -132,7 +132,7 @@ def ask_cleared(b):
   goes-cleared r u is = qed W (‵ ftrue ∷ []) ∵ nothing ! $ {d.own('r', 'is')} $ fjoin ! $ {PAIR}
 
   fits : (r : {d.name}){binders} → {b.promised('r', ys.split(), '')} → {many} r ≤ length ps
-  fits r {ys} e = {bare(b.fits)} {b.arguments()} r {ys} e
+  fits r {ys} e = {b.applied(b.fits)} r {ys} e
 
   few : (r : {d.name}) → {many} r ≤ length ps → {many} r < 2 ^ 64
   few r l = omega (arith, l, gn .0)

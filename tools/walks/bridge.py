@@ -25,11 +25,12 @@ one of three bodies:
                     CORE(PARAMETERS, &mut m, n)
                 }
 
-PARAMETERS, in any order: numbers (u8 to u64, usize), structs and enums by value, `&[u8]`, `&[u16]`, `&mut [u8]`, `&mut [u16]`
+PARAMETERS, in any order: numbers (u8 to u64, usize), structs and enums by value, `&[u8]`, `&[u16]`, `&[i16]`, `&mut [u8]`, `&mut [u16]`
 (buffers). RESULT is a struct or an enum. `count`, `empty`, `load`, `clear`, `link_all` and `free_all` are those of the crate places.
 CORE is a covered function, and what it promises is read from its contract: with a for the parameters' values in order, M for
 `memoryOf ps`, k for `counted ps` and ps for the list, PROMISE a k r buffers′ where the call clears, else PROMISE a M k r buffers′ m′.
-CLEARS promises n ≡ CLEARED r. NAME requires nothing. The laws, as `Module.name` of the crate's proofs or `crate::Module.name`:
+CLEARS promises n ≡ CLEARED r. NAME requires nothing. The laws, as `Module.name` of the crate's proofs or `crate::Module.name`; if a law
+takes something else than the parameters' values for (a), it follows the name, with {p1}, .. for the values:
 
     law       what proves NAME's contract
               clears     (a) (ps) (r) (buffers′) → PROMISE → (ps′) → ps′ ≡ clearedTo (CLEARED r) ps → what NAME ensures
@@ -146,9 +147,11 @@ class Bridge(Walk):
         return 'k' + sub(k + 1)
 
     # ---- the core's arguments, and what is known of its answer
-    def arguments(self):
-        """The parameters' values, as the laws take them."""
-        return ' '.join(p.now() for p in self.params)
+    def applied(self, law):
+        """A law with the parameters' values, in order or as it says, and with the list."""
+        name, *said = law.split(' ', 1)
+        values = said or [' '.join(f'{{p{p.i}}}' for p in self.others)]
+        return f'{bare(name)} {values[0].format(**{f"p{p.i}": p.now() for p in self.others})} {self.list.now()}'
 
     def ends(self):
         """The buffers' last values, bound; their names; that they keep their lengths; and the names of these facts."""
@@ -201,13 +204,13 @@ class Bridge(Walk):
 
     # ---- the parts beside the body
     def brings(self):
-        """What the heading brings in beside the types and the callees: the records, what the core's contract cites, and the laws."""
+        """What the heading brings in beside the types and the callees: the records, what the contracts cite, and the laws."""
         laws = {}
         for law in filter(None, (self.law, self.asks, self.fits, self.touches)):
-            crate, _, rest = law.rpartition('::')
+            crate, _, rest = law.split()[0].rpartition('::')
             module, _, name = rest.rpartition('.')
             laws.setdefault(f'{library(crate or self.crate, self.crate, "proofs")}.{module}', []).append(name)
-        cited = [line for f in (self.core, self.clears) if f for line in f.definitions()]
+        cited = [line for f in (self.function, self.core, self.clears) if f for line in f.definitions()]
         return [RECORDS] + [f'{line}\n' for line in dict.fromkeys(cited)] + [
             f'use {module}.{{{", ".join(names)}}}\n' for module, names in laws.items()]
 
@@ -273,7 +276,7 @@ class Bridge(Walk):
         last = [f'ys{p.s}' if p.given else 'tt' for p in self.others] + ['ps′' if changes else 'tt']
         keeps = [f'l′{p.s}' if p.given else 'tt' for p in self.others] + ['lp' if changes else 'tt']
         proved = {'clears': 'e ps′ ep', 'touches': 'm′ ps′ e ep', 'reads': 'm′ e'}[self.shape]
-        law = f'{bare(self.law)} {self.arguments()} r {ys} {proved}'
+        law = f'{self.applied(self.law)} r {ys} {proved}'
         return self.exits(binders, names, items(given), 'u', 'r', last, keeps, law, self.left())
 
     def left(self):

@@ -5,6 +5,9 @@ from pieces import own_number, paren, part, sub
 from sources import declaration
 
 WIDTHS = {'u8': 'w8', 'u16': 'w16', 'u32': 'w32', 'u64': 'w64', 'usize': 'w64'}
+# of a slice the row of its entries and what it denotes; what memory for a number denotes
+SLICES = {'u8': ('u8', 'List ℕ'), 'u16': ('u16', 'List ℕ'), 'i16': ('i16', 'List ℤ'), 'Place': ('R', 'List Place')}
+OUTS = {'u32': 'ℕ', 'i32': 'ℤ', 'i64': 'ℤ'}
 
 
 def library(crate, user, kind):
@@ -55,18 +58,17 @@ class Parameter:
     def __init__(self, i, text, user, j):
         self.i, self.s, self.j, self.text = i, sub(i), j, text
         self.k, self.q = 'κ' + sub(j), 'q' + sub(j)
-        slice_ = re.fullmatch(r'&(?:mut )?\[(u8|u16|Place)\]', text)
+        slice_ = re.fullmatch(r'&(?:mut )?\[(u8|u16|i16|Place)\]', text)
         array = re.fullmatch(r'&mut \[u16; (\d+)\]', text)
         to = re.fullmatch(r'&(?:mut )?(\w+)', text)
         self.mut, self.lent = text.startswith('&mut '), text.startswith('&')
         self.struct = self.array = None
         if slice_:
-            self.kind, self.of = 'slice', 'Place' if slice_[1] == 'Place' else 'ℕ'
-            self.inner, self.den = 'R' if slice_[1] == 'Place' else slice_[1], f'List {self.of}'
+            self.kind, self.inner, self.den = 'slice', *SLICES[slice_[1]]
         elif array:
             self.kind, self.inner, self.den, self.array = 'out', f'N{self.s}', 'List ℕ', array[1]
-        elif to and to[1] in ('u32', 'i32'):
-            self.kind, self.inner, self.den = 'out', to[1], 'ℤ' if to[1] == 'i32' else 'ℕ'
+        elif to and to[1] in OUTS:
+            self.kind, self.inner, self.den = 'out', to[1], OUTS[to[1]]
         elif text in WIDTHS:
             self.kind, self.inner, self.den = 'number', text, 'ℕ'
         else:

@@ -1,5 +1,5 @@
 """The body of a call of the service, cut into stretches: one from each call on, the last first."""
-from pieces import Context, bare, chain, contract, local, paren, stretch
+from pieces import Context, chain, contract, local, paren, stretch
 
 
 def text(b):
@@ -188,7 +188,7 @@ def touched(b, c, name, to, kappas, x, token, fact):
 
 def touches(b, ys):
     """What `link_all` and `free_all` ask of the memory, as a pair."""
-    return f'{bare(b.touches)} {b.arguments()} r {ys} m′ e'
+    return f'{b.applied(b.touches)} r {ys} m′ e'
 
 
 def lend_list(b, c, lent, kind, name, law):

@@ -40,7 +40,7 @@ use denote.Ref.{RefT, MutRef, ShrRef, now, ptr-vals, mut-tells, shr-tells}
 use denote.Slice.{sliceVal, MutSlice, ShrSlice, Room, finally, slice-vals, mut-slice-tells, shr-slice-tells, shr-slice-copy}
 use denote.Lend.{lends-ref, ref-back, lends-shr}
 use denote.Signature.{plain}
-use denote.Builtin.{u8, u16, u32, u64, usize, i32}
+use denote.Builtin.{u8, u16, u32, u64, usize, i16, i32, i64}
 use denote.Array.{Array, array-lawful}
 use denote.Steps.{only, nothing, owned, peeks, heard, opens, closes, looks, shuts}
 use denote.Struct.Steps.{spelt}

@@ -17,14 +17,22 @@ from shell import Shell
 from sources import ROOT
 from wrap import wrap
 
+# what the laws of packing take, without positions and with them
+ALONE, POSITIONS = '{p1} {p2} not-given {p3} {p4} {p5}', '{p1} {p2} (given {p3}) {p4} {p5} {p6}'
+
 WALKS = [
     Bridge('service::unpack', law='Laws.unpacks', fits='Laws.unpacks-fit'),
-    Bridge('service::pack', law='PackLaws.packs', fits='PackLaws.packs-fit'),
+    Bridge('service::volume', law='Laws.measures', fits='Laws.measures-fit'),
+    Bridge('service::pack', law=f'PackLaws.packs {ALONE}', fits=f'PackLaws.packs-fit {ALONE}'),
+    Bridge('service::pack_positions', law=f'PackLaws.packs {POSITIONS}', fits=f'PackLaws.packs-fit {POSITIONS}'),
     Bridge('service::begin', law='Laws.begins-as', fits='state_theory::Finishing.Lifting.begins-fit'),
     Bridge('service::operation', law='Laws.operates-as', touches='state_theory::Performing.Lifting.touches-fit', asks='Laws.loaded-fits'),
     Bridge('service::finish', law='Laws.finishes-as', asks='Laws.loaded-fits'),
-    Shell('capi::cutborder_pack', law='packs-for {p1} {p2} {p3} {p4} {p5} {p6} {p7} {r1} {n} {q3} {q4} {q5} {q6} {q7} {e1} {e2}'),
+    Shell('capi::cutborder_pack', law='packs-for {p1} {p2} not-given {p3} {p4} {p5} {p6} {p7} {r1} {n} {q3} {q4} {q5} {q6} {q7} {e1} {e2}'),
+    Shell('capi::cutborder_pack_positions', law='packs-for {p1} {p2} (given {p3}) {p4} {p5} {p6} {p7} {p8} {r1} {n} \
+{q4} {q5} {q6} {q7} {q8} {e1} {e2}'),
     Shell('capi::cutborder_unpack', law='unpacks-for {p1} {p2} {p3} {p4} {p5} {r1} {n} {q2} {q3} {q4} {q5} {e1} {e2}'),
+    Shell('capi::cutborder_volume', law='measures-for {p1} {p2} {p3} {p4} {p5} {p6} {r1} {n} {q2} {q3} {q4} {q5} {q6} {e1} {e2}'),
     Shell('capi::cutborder_begin', law='begins-for (countsOf {p1} {p2} {p3} {p4}) {r1} {p5} {p6} {p7} {r2} {n} {q5} {q6} {q7} \
 {e1} {e2} {e3} {e4}'),
     Shell('capi::cutborder_operation', law='operates-for {p1} (operationOf {p2} {p3} {p4}) {r1} {p5} {p6} {p7} {r2} {n} \

@@ -15,21 +15,25 @@ use Rattle.rules.specs.declared.Performed.{Performed}
 use Rattle.rules.specs.declared.Finished.{Finished}
 use Rattle.rules.specs.declared.Packed.{Packed}
 use Rattle.rules.specs.declared.Unpacked.{Unpacked}
+use Rattle.rules.specs.declared.Measured.{Measured}
 use Rattle.rules.specs.Answer.{Answer, refusal, accepted, triangle, no-triangle, numbers, packed, unpacked, checkedAnswer, begunAnswer}
 use Rattle.rules.specs.Answer.{operatedAnswer, finishedAnswer, packedAnswer, unpackedAnswer}
+use Rattle.rules.specs.Later.{Given}
+use Rattle.rules.specs.UnpackWhole.{measuredAnswer, measuredSix}
 use Rattle.rules.specs.Machine.{Step, refused, begun, built, declared, finished}
 use Rattle.rules.specs.Book.{answerOf}
 use Rattle.rules.specs.Buffer.{Buffers}
 use Rattle.rules.specs.Build.{begins, operates, BegunBy, OperatedBy}
 use Rattle.promises.specs.Promises.{lentTo, Beginning, Operating, Finishing}
 use Rattle.promises.specs.Promises as P
-use Rattle.capi.specs.Answered.{numberOf, sizeAfter, modelAfter, totalsAfter, eulerAfter, builtAfter, keptOr}
-use Rattle.capi.specs.Exported.{Packs, Unpacks, BegunAs, Begins, Operates, Finishes}
+use Rattle.capi.specs.Answered.{numberOf, sizeAfter, modelAfter, totalsAfter, eulerAfter, sixAfter, builtAfter, keptOr}
+use Rattle.capi.specs.Exported.{Packs, Unpacks, Measures, BegunAs, Begins, Operates, Finishes}
 
-pub packs-for : (v : ℕ) (xs ns bs os : List ℕ) (ps : List Place) (z : ℕ) (r : Packed) (n : ℕ) (ns′ bs′ os′ : List ℕ) (ps′ : List Place)
-    (z′ : ℕ) → P.Packs v xs ns bs os ps r ns′ bs′ os′ ps′ → (n ≡ numberOf (packedAnswer r)) × (z′ ≡ sizeAfter z (packedAnswer r))
-    → Packs v xs ns bs os ps z n ns′ bs′ os′ ps′ z′
-packs-for v xs ns bs os ps z r n ns′ bs′ os′ ps′ z′ k e = record {
+pub packs-for : (v : ℕ) (xs : List ℕ) (g : Given (List ℤ)) (ns bs os : List ℕ) (ps : List Place) (z : ℕ) (r : Packed) (n : ℕ)
+    (ns′ bs′ os′ : List ℕ) (ps′ : List Place) (z′ : ℕ)
+    → P.Packs v xs g ns bs os ps r ns′ bs′ os′ ps′ → (n ≡ numberOf (packedAnswer r)) × (z′ ≡ sizeAfter z (packedAnswer r))
+    → Packs v xs g ns bs os ps z n ns′ bs′ os′ ps′ z′
+packs-for v xs g ns bs os ps z r n ns′ bs′ os′ ps′ z′ k e = record {
   number = e .0 ∙ ap numberOf (k .answer);
   size = e .1 ∙ ap (λ (a : Answer). sizeAfter z a) (k .answer);
   numbering = k .numbering;
@@ -47,6 +51,21 @@ unpacks-for bytes ts ps ms e r n ts′ ps′ ms′ e′ k f = record {
   number = f .0 ∙ ap numberOf (k .answer);
   model = f .1 .0 ∙ ap (λ (a : Answer). modelAfter ms a) (k .answer);
   euler = f .1 .1 ∙ ap (λ (a : Answer). eulerAfter e a) (k .answer);
+  triangles = k .triangles;
+  places = k .places;
+}
+
+pub measures-for : (bytes ts : List ℕ) (ps : List Place) (ms : List ℕ) (e z : ℤ) (r : Measured) (n : ℕ) (ts′ : List ℕ) (ps′ : List Place)
+    (ms′ : List ℕ) (e′ z′ : ℤ)
+    → P.Measures bytes ts ps r ts′ ps′
+    → (n ≡ numberOf (measuredAnswer r))
+    × ((ms′ ≡ modelAfter ms (measuredAnswer r)) × ((e′ ≡ eulerAfter e (measuredAnswer r)) × (z′ ≡ sixAfter z (measuredSix r))))
+    → Measures bytes ts ps ms e z n ts′ ps′ ms′ e′ z′
+measures-for bytes ts ps ms e z r n ts′ ps′ ms′ e′ z′ k f = record {
+  number = f .0 ∙ ap numberOf (k .answer);
+  model = f .1 .0 ∙ ap (λ (a : Answer). modelAfter ms a) (k .answer);
+  euler = f .1 .1 .0 ∙ ap (λ (a : Answer). eulerAfter e a) (k .answer);
+  six = f .1 .1 .1 ∙ ap (λ (x : Given ℤ). sixAfter z x) (k .six);
   triangles = k .triangles;
   places = k .places;
 }

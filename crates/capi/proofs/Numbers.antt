@@ -2,10 +2,10 @@
 -- Assumes nothing.
 use Prim.Native.Nat.{ℕ, _<_, _≤_, _^_}
 use mathlib.Core.List.{List, [], _∷_}
-use mathlib.Core.Path.{_≡_, refl, sym, ap, _∙_}
+use mathlib.Core.Path.{_≡_, sym, ap, _∙_}
 use lib.IntN.{ℤ}
 use lib.Signed.{mag}
-use mir.Syntax.{w32}
+use mir.Syntax.{Width, w32, w64}
 use mir.Val.{hbits, ofZ, toZ}
 use mir.ValLaws.{toZ-ofZ}
 use borrow.Author.Tests.{lt-ltb, le-ltb, le-leb, lt-leb, ne-eqb}
@@ -20,10 +20,13 @@ use Rattle.rules.specs.declared.Finished.{Finished}
 use Rattle.rules.specs.declared.Finished.the-variants as F
 use Rattle.rules.specs.declared.Unpacked.{Unpacked}
 use Rattle.rules.specs.declared.Unpacked.the-variants as U
+use Rattle.rules.specs.declared.Measured.{Measured}
+use Rattle.rules.specs.declared.Measured.the-variants as M
 use Rattle.rules.specs.Code.{kinds, kindIn}
 use Rattle.rules.specs.Answer.{operatedAnswer, finishedAnswer, unpackedAnswer}
+use Rattle.rules.specs.UnpackWhole.{measuredAnswer, measuredSix}
 use Rattle.capi.specs.Given.{within16, countsOf, none, splitOf, unionOf, plainOf, operationOf}
-use Rattle.capi.specs.Answered.{numberOf, modelAfter, totalsAfter, eulerAfter, builtAfter}
+use Rattle.capi.specs.Answered.{numberOf, modelAfter, totalsAfter, eulerAfter, sixAfter, builtAfter}
 
 pub within-small : (n : ℕ) → n < 65536 → n ≡ within16 n
 unfolding within16
@@ -89,8 +92,8 @@ built-is xs a t e = (
 )
 
 -- a signed number is stored by its bits
-stored : (z : ℤ) → mag z < 2 ^ hbits w32 → toZ w32 (ofZ w32 z) ≡ z
-stored z f = toZ-ofZ w32 z (record { sfits = f })
+stored : (w : Width) (z : ℤ) → mag z < 2 ^ hbits w → toZ w (ofZ w z) ≡ z
+stored w z f = toZ-ofZ w z (record { sfits = f })
 
 pub totals-are : (xs : List ℕ) (z : ℤ) (a : Finished) (t : Totals) → a ≡ F.Totals t → mag (t .euler) < 2 ^ hbits w32
     → (0 ≡ numberOf (finishedAnswer a))
@@ -100,7 +103,7 @@ totals-are xs z a t e f = (
   ap (λ (x : Finished). numberOf (finishedAnswer x)) (sym e),
   (
     ap (λ (x : Finished). totalsAfter xs (finishedAnswer x)) (sym e),
-    stored (t .euler) f
+    stored w32 (t .euler) f
         ∙ ap (λ (x : Finished). eulerAfter z (finishedAnswer x)) (sym e),
   ),
 )
@@ -113,7 +116,24 @@ model-is xs z a m e f = (
   ap (λ (x : Unpacked). numberOf (unpackedAnswer x)) (sym e),
   (
     ap (λ (x : Unpacked). modelAfter xs (unpackedAnswer x)) (sym e),
-    stored (m .totals .euler) f
+    stored w32 (m .totals .euler) f
         ∙ ap (λ (x : Unpacked). eulerAfter z (unpackedAnswer x)) (sym e),
+  ),
+)
+
+pub volume-is : (xs : List ℕ) (z y : ℤ) (a : Measured) (m : Model) (x : ℤ) → a ≡ M.Volume m x → mag (m .totals .euler) < 2 ^ hbits w32
+    → mag x < 2 ^ hbits w64
+    → (0 ≡ numberOf (measuredAnswer a))
+    × (((m .vertices ∷ (m .triangles ∷ (m .totals .edges ∷ (m .totals .rims ∷ (m .totals .unions ∷ [])))))
+    ≡ modelAfter xs (measuredAnswer a))
+    × ((toZ w32 (ofZ w32 (m .totals .euler)) ≡ eulerAfter z (measuredAnswer a)) × (toZ w64 (ofZ w64 x) ≡ sixAfter y (measuredSix a))))
+volume-is xs z y a m x e f g = (
+  ap (λ (b : Measured). numberOf (measuredAnswer b)) (sym e),
+  (
+    ap (λ (b : Measured). modelAfter xs (measuredAnswer b)) (sym e),
+    (
+      stored w32 (m .totals .euler) f ∙ ap (λ (b : Measured). eulerAfter z (measuredAnswer b)) (sym e),
+      stored w64 x g ∙ ap (λ (b : Measured). sixAfter y (measuredSix b)) (sym e),
+    ),
   ),
 )

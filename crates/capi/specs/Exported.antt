@@ -12,30 +12,40 @@ use Rattle.rules.specs.Machine.{Step, refused, begun, built, declared, finished
 use Rattle.rules.specs.Book.{answerOf}
 use Rattle.rules.specs.Buffer.{Buffers}
 use Rattle.rules.specs.Build.{begins, operates, finishes, begunBuilder, begunBuffers, OperatedBy}
-use Rattle.rules.specs.Pack.{pack}
-use Rattle.rules.specs.Unpack.{unpack}
-use Rattle.promises.specs.Promises.{lentTo}
-use Rattle.promises.specs.Promises.{packingBuffers}
-use Rattle.capi.specs.Answered.{numberOf, sizeAfter, modelAfter, totalsAfter, eulerAfter, builtAfter}
+use Rattle.rules.specs.Later.{Given}
+use Rattle.rules.specs.PackWhole.{packWhole}
+use Rattle.rules.specs.UnpackWhole.{unpackWhole, volume}
+use Rattle.promises.specs.Promises.{lentTo, packingBuffers}
+use Rattle.capi.specs.Answered.{numberOf, sizeAfter, modelAfter, totalsAfter, eulerAfter, sixAfter, builtAfter}
 
--- a packing: z is the memory for the pack's length
-pub record Packs (v : ℕ) (xs ns bs qs : List ℕ) (ps : List Place) (z n : ℕ) (ns′ bs′ qs′ : List ℕ) (ps′ : List Place)
-    (z′ : ℕ) : Type 0 where
-  pub number : n ≡ numberOf (pack v xs (packingBuffers ns bs qs ps) .answer)
-  pub size : z′ ≡ sizeAfter z (pack v xs (packingBuffers ns bs qs ps) .answer)
-  pub numbering : ns′ ≡ pack v xs (packingBuffers ns bs qs ps) .buffers .numbering
-  pub bytes : bs′ ≡ pack v xs (packingBuffers ns bs qs ps) .buffers .pack
-  pub order : qs′ ≡ pack v xs (packingBuffers ns bs qs ps) .buffers .order
-  pub places : ps′ ≡ pack v xs (packingBuffers ns bs qs ps) .buffers .places
+-- a packing, with the positions g if they are given: z is the memory for the pack's length
+pub record Packs (v : ℕ) (xs : List ℕ) (g : Given (List ℤ)) (ns bs qs : List ℕ) (ps : List Place) (z n : ℕ) (ns′ bs′ qs′ : List ℕ)
+    (ps′ : List Place) (z′ : ℕ) : Type 0 where
+  pub number : n ≡ numberOf (packWhole v xs g (packingBuffers ns bs qs ps) .answer)
+  pub size : z′ ≡ sizeAfter z (packWhole v xs g (packingBuffers ns bs qs ps) .answer)
+  pub numbering : ns′ ≡ packWhole v xs g (packingBuffers ns bs qs ps) .buffers .numbering
+  pub bytes : bs′ ≡ packWhole v xs g (packingBuffers ns bs qs ps) .buffers .pack
+  pub order : qs′ ≡ packWhole v xs g (packingBuffers ns bs qs ps) .buffers .order
+  pub places : ps′ ≡ packWhole v xs g (packingBuffers ns bs qs ps) .buffers .places
 
 -- an unpacking: ms and e are the memory for the model's numbers and its Euler number
 pub record Unpacks (bytes ts : List ℕ) (ps : List Place) (ms : List ℕ) (e : ℤ) (n : ℕ) (ts′ : List ℕ) (ps′ : List Place) (ms′ : List ℕ)
     (e′ : ℤ) : Type 0 where
-  pub number : n ≡ numberOf (unpack bytes (lentTo ts ps) .answer)
-  pub model : ms′ ≡ modelAfter ms (unpack bytes (lentTo ts ps) .answer)
-  pub euler : e′ ≡ eulerAfter e (unpack bytes (lentTo ts ps) .answer)
-  pub triangles : ts′ ≡ unpack bytes (lentTo ts ps) .buffers .triangles
-  pub places : ps′ ≡ unpack bytes (lentTo ts ps) .buffers .places
+  pub number : n ≡ numberOf (unpackWhole bytes (lentTo ts ps) .answer)
+  pub model : ms′ ≡ modelAfter ms (unpackWhole bytes (lentTo ts ps) .answer)
+  pub euler : e′ ≡ eulerAfter e (unpackWhole bytes (lentTo ts ps) .answer)
+  pub triangles : ts′ ≡ unpackWhole bytes (lentTo ts ps) .buffers .triangles
+  pub places : ps′ ≡ unpackWhole bytes (lentTo ts ps) .buffers .places
+
+-- the volume call: the same, and z is the memory for six times the volume
+pub record Measures (bytes ts : List ℕ) (ps : List Place) (ms : List ℕ) (e z : ℤ) (n : ℕ) (ts′ : List ℕ) (ps′ : List Place) (ms′ : List ℕ)
+    (e′ z′ : ℤ) : Type 0 where
+  pub number : n ≡ numberOf (volume bytes (lentTo ts ps) .answer)
+  pub model : ms′ ≡ modelAfter ms (volume bytes (lentTo ts ps) .answer)
+  pub euler : e′ ≡ eulerAfter e (volume bytes (lentTo ts ps) .answer)
+  pub six : z′ ≡ sixAfter z (volume bytes (lentTo ts ps) .six)
+  pub triangles : ts′ ≡ volume bytes (lentTo ts ps) .buffers .triangles
+  pub places : ps′ ≡ volume bytes (lentTo ts ps) .buffers .places
 
 -- what a beginning leaves of the builder b and the buffers r; it is never an operation or a finish
 abbrev pub BegunAs : Buffers → Counts → Builder → Step → Builder → Buffers → Type 0

@@ -4,13 +4,15 @@ use rules::Begun;
 use rules::Builder;
 use rules::Checked;
 use rules::Finished;
+use rules::Measured;
 use rules::Operated;
 use rules::Packed;
 use rules::Performed;
 use rules::Unpacked;
 ghost use mathlib.Core.Path.{_≡_};
 ghost use Rattle.rules.specs.Answer.{checkedAnswer, begunAnswer, operatedAnswer, finishedAnswer, packedAnswer, unpackedAnswer};
-ghost use Rattle.capi.specs.Answered.{numberOf, sizeAfter, modelAfter, totalsAfter, eulerAfter, builtAfter, keptOr};
+ghost use Rattle.rules.specs.UnpackWhole.{measuredAnswer, measuredSix};
+ghost use Rattle.capi.specs.Answered.{numberOf, sizeAfter, modelAfter, totalsAfter, eulerAfter, sixAfter, builtAfter, keptOr};
 
 pub(crate) fn checked(c: Checked) -> u32
     ensures { λ n. ⌜ n ≡ numberOf (checkedAnswer c) ⌝ }
@@ -50,6 +52,26 @@ pub(crate) fn unpacked(r: Unpacked, model: &mut [u16; 5], euler: &mut i32) -> u3
             0
         }
         Unpacked::Refused(n) => n as u32,
+    }
+}
+
+// The volume call: the same, and six times the volume.
+pub(crate) fn measured(r: Measured, model: &mut [u16; 5], euler: &mut i32, six: &mut i64) -> u32
+    ensures { λ n. ⌜ (n ≡ numberOf (measuredAnswer r))
+        × ((now (model .exit) ≡ modelAfter (now (model .entry)) (measuredAnswer r))
+        × ((now (euler .exit) ≡ eulerAfter (now (euler .entry)) (measuredAnswer r))
+        × (now (six .exit) ≡ sixAfter (now (six .entry)) (measuredSix r)))) ⌝ }
+{
+    match r {
+        Measured::Volume(m, z) => {
+            let t = m.totals;
+            *model = [m.vertices, m.triangles, t.edges, t.rims, t.unions];
+            let e = t.euler;
+            *euler = e;
+            *six = z;
+            0
+        }
+        Measured::Refused(n) => n as u32,
     }
 }
 

@@ -1,5 +1,5 @@
 // The service's calls for C and Rust. Each function goes through the service's call of its name and returns 0 for acceptance or the
-// refusal's number, 1 to 22; a refusal leaves the memory for results as it was. A slice is a pointer and a count of entries. Place
+// refusal's number, 1 to 24; a refusal leaves the memory for results as it was. A slice is a pointer and a count of entries. Place
 // records and builders lie in memory as C lays them out (`repr(C)`): a record is 8 bytes, its `open` a bool, so 0 or 1; a builder
 // is 213 numbers of 16 bits. What a caller's numbers cannot mean is refused by a rule: specs/Given.antt says by which. The contracts
 // cite specs/Exported.antt.
@@ -10,6 +10,7 @@ use answered::begun;
 use answered::begun_state;
 use answered::checked;
 use answered::finished;
+use answered::measured;
 use answered::packed;
 use answered::performed;
 use answered::performed_state;
@@ -20,9 +21,10 @@ use rules::Builder;
 use rules::Place;
 ghost use mathlib.Core.Path.{_≡_};
 ghost use Rattle.rules.specs.Check.{checks};
+ghost use Rattle.rules.specs.Later.{not-given, given};
 ghost use Rattle.capi.specs.Given.{countsOf, operationOf};
 ghost use Rattle.capi.specs.Answered.{numberOf};
-ghost use Rattle.capi.specs.Exported.{Packs, Unpacks, Begins, Operates, Finishes};
+ghost use Rattle.capi.specs.Exported.{Packs, Unpacks, Measures, Begins, Operates, Finishes};
 
 // Checks a list of a model of v vertices: refusals 1 to 7.
 #[no_mangle]
@@ -43,14 +45,35 @@ pub extern "C" fn cutborder_pack(
     places: &mut [Place],
     size: &mut u32,
 ) -> u32
-    ensures { λ n. ⌜ Packs v (now (list .entry)) (now (numbering .entry)) (now (buffer .entry)) (now (order .entry)) (now (places .entry))
-        (now (size .entry)) n (now (numbering .exit)) (now (buffer .exit)) (now (order .exit)) (now (places .exit)) (now (size .exit)) ⌝ }
+    ensures { λ n. ⌜ Packs v (now (list .entry)) not-given (now (numbering .entry)) (now (buffer .entry)) (now (order .entry))
+        (now (places .entry)) (now (size .entry)) n (now (numbering .exit)) (now (buffer .exit)) (now (order .exit)) (now (places .exit))
+        (now (size .exit)) ⌝ }
 {
     let r = service::pack(v, list, numbering, buffer, order, places);
     packed(r, size)
 }
 
-// Unpacks any bytes: refusals 12 to 20, or the triangles, the numbers of vertices, triangles, edges, rims and unions in `model`,
+// The same with positions, three for each old vertex: 23 besides, after 22.
+#[no_mangle]
+pub extern "C" fn cutborder_pack_positions(
+    v: usize,
+    list: &[u16],
+    positions: &[i16],
+    numbering: &mut [u16],
+    buffer: &mut [u8],
+    order: &mut [u16],
+    places: &mut [Place],
+    size: &mut u32,
+) -> u32
+    ensures { λ n. ⌜ Packs v (now (list .entry)) (given (now (positions .entry))) (now (numbering .entry)) (now (buffer .entry))
+        (now (order .entry)) (now (places .entry)) (now (size .entry)) n (now (numbering .exit)) (now (buffer .exit)) (now (order .exit))
+        (now (places .exit)) (now (size .exit)) ⌝ }
+{
+    let r = service::pack_positions(v, list, positions, numbering, buffer, order, places);
+    packed(r, size)
+}
+
+// Unpacks any bytes: refusals 12 to 20, 23, or the triangles, the numbers of vertices, triangles, edges, rims and unions in `model`,
 // and the Euler number.
 #[no_mangle]
 pub extern "C" fn cutborder_unpack(
@@ -65,6 +88,23 @@ pub extern "C" fn cutborder_unpack(
 {
     let r = service::unpack(pack, triangles, places);
     unpacked(r, model, euler)
+}
+
+// The same, and six times the volume in `six`: 24 besides, last, for a pack without positions and for a model with a rim.
+#[no_mangle]
+pub extern "C" fn cutborder_volume(
+    pack: &[u8],
+    triangles: &mut [u16],
+    places: &mut [Place],
+    model: &mut [u16; 5],
+    euler: &mut i32,
+    six: &mut i64,
+) -> u32
+    ensures { λ n. ⌜ Measures (now (pack .entry)) (now (triangles .entry)) (now (places .entry)) (now (model .entry)) (now (euler .entry))
+        (now (six .entry)) n (now (triangles .exit)) (now (places .exit)) (now (model .exit)) (now (euler .exit)) (now (six .exit)) ⌝ }
+{
+    let r = service::volume(pack, triangles, places);
+    measured(r, model, euler, six)
 }
 
 // Begins a building with the counts v, t, most places and most loops: 13, 14, or a builder that holds nothing in `state`. A count

@@ -1,9 +1,10 @@
--- What the service's six calls promise, on one page: the functions of the crate service cite these, and demand 3 rests on the last
+-- What the service's eight calls promise, on one page: the functions of the crate service cite these, and demand 3 rests on the last
 -- three. Each says the answer, and what every lent buffer holds afterwards, accepted and refused alike.
 -- Assumes nothing.
 use Prim.Native.Nat.{ℕ}
 use mathlib.Core.List.{List}
 use mathlib.Core.Path.{_≡_}
+use lib.IntN.{ℤ}
 use Rattle.rules.specs.declared.Counts.{Counts}
 use Rattle.rules.specs.declared.Operation.{Operation}
 use Rattle.rules.specs.declared.Place.{Place}
@@ -11,6 +12,7 @@ use Rattle.rules.specs.declared.Builder.{Builder}
 use Rattle.rules.specs.declared.Checked.{Checked}
 use Rattle.rules.specs.declared.Packed.{Packed}
 use Rattle.rules.specs.declared.Unpacked.{Unpacked}
+use Rattle.rules.specs.declared.Measured.{Measured}
 use Rattle.rules.specs.declared.Begun.{Begun}
 use Rattle.rules.specs.declared.Performed.{Performed}
 use Rattle.rules.specs.declared.Finished.{Finished}
@@ -18,8 +20,10 @@ use Rattle.rules.specs.Answer.{checkedAnswer, packedAnswer, unpackedAnswer, beg
 use Rattle.rules.specs.Book.{answerOf}
 use Rattle.rules.specs.Buffer.{Buffers}
 use Rattle.rules.specs.Check.{checks}
-use Rattle.rules.specs.Pack.{PackBuffers, pack}
-use Rattle.rules.specs.Unpack.{unpack}
+use Rattle.rules.specs.Pack.{PackBuffers}
+use Rattle.rules.specs.Later.{Given}
+use Rattle.rules.specs.PackWhole.{packWhole}
+use Rattle.rules.specs.UnpackWhole.{unpackWhole, measuredAnswer, measuredSix, volume}
 use Rattle.rules.specs.Build.{begins, operates, finishes, Begins, OperatedBy}
 
 -- the triangle buffer and the place list that a call is lent
@@ -34,19 +38,27 @@ packingBuffers ns bs qs ps = record { numbering = ns; places = ps; pack = bs; or
 pub record Checking (v : ℕ) (xs : List ℕ) (r : Checked) : Type 0 where
   pub answer : checkedAnswer r ≡ checks v xs
 
--- a packing: its answer, and the four buffers afterwards
-pub record Packs (v : ℕ) (xs ns bs qs : List ℕ) (ps : List Place) (r : Packed) (ns′ bs′ qs′ : List ℕ) (ps′ : List Place) : Type 0 where
-  pub answer : packedAnswer r ≡ pack v xs (packingBuffers ns bs qs ps) .answer
-  pub numbering : ns′ ≡ pack v xs (packingBuffers ns bs qs ps) .buffers .numbering
-  pub bytes : bs′ ≡ pack v xs (packingBuffers ns bs qs ps) .buffers .pack
-  pub order : qs′ ≡ pack v xs (packingBuffers ns bs qs ps) .buffers .order
-  pub places : ps′ ≡ pack v xs (packingBuffers ns bs qs ps) .buffers .places
+-- a packing of the list xs, with the positions g if they are given: its answer, and the four buffers afterwards
+pub record Packs (v : ℕ) (xs : List ℕ) (g : Given (List ℤ)) (ns bs qs : List ℕ) (ps : List Place) (r : Packed) (ns′ bs′ qs′ : List ℕ)
+    (ps′ : List Place) : Type 0 where
+  pub answer : packedAnswer r ≡ packWhole v xs g (packingBuffers ns bs qs ps) .answer
+  pub numbering : ns′ ≡ packWhole v xs g (packingBuffers ns bs qs ps) .buffers .numbering
+  pub bytes : bs′ ≡ packWhole v xs g (packingBuffers ns bs qs ps) .buffers .pack
+  pub order : qs′ ≡ packWhole v xs g (packingBuffers ns bs qs ps) .buffers .order
+  pub places : ps′ ≡ packWhole v xs g (packingBuffers ns bs qs ps) .buffers .places
 
 -- an unpacking: its answer, and both buffers afterwards
 pub record Unpacks (bytes ts : List ℕ) (ps : List Place) (r : Unpacked) (ts′ : List ℕ) (ps′ : List Place) : Type 0 where
-  pub answer : unpackedAnswer r ≡ unpack bytes (lentTo ts ps) .answer
-  pub triangles : ts′ ≡ unpack bytes (lentTo ts ps) .buffers .triangles
-  pub places : ps′ ≡ unpack bytes (lentTo ts ps) .buffers .places
+  pub answer : unpackedAnswer r ≡ unpackWhole bytes (lentTo ts ps) .answer
+  pub triangles : ts′ ≡ unpackWhole bytes (lentTo ts ps) .buffers .triangles
+  pub places : ps′ ≡ unpackWhole bytes (lentTo ts ps) .buffers .places
+
+-- the volume call: the same, and six times the volume
+pub record Measures (bytes ts : List ℕ) (ps : List Place) (r : Measured) (ts′ : List ℕ) (ps′ : List Place) : Type 0 where
+  pub answer : measuredAnswer r ≡ volume bytes (lentTo ts ps) .answer
+  pub six : measuredSix r ≡ volume bytes (lentTo ts ps) .six
+  pub triangles : ts′ ≡ volume bytes (lentTo ts ps) .buffers .triangles
+  pub places : ps′ ≡ volume bytes (lentTo ts ps) .buffers .places
 
 -- a beginning with the counts s: its answer, and the state and both buffers afterwards
 pub record Beginning (s : Counts) (ts : List ℕ) (ps : List Place) (r : Begun) (ts′ : List ℕ) (ps′ : List Place) : Type 0 where

@@ -87,7 +87,7 @@ module _ (v : ℕ) (xs : List ℕ) (r : PackBuffers) (n : ℕ) (p : PackedBy mos
       ap (λ (k : PackResult). getD (k .buffers .numbering) x 0) (p .result)
       ∙ (getD-front ns (drop (length ns) (r .numbering)) x (omega (arith, length-new v (s .numbered))) ∙ new-at v x (s .numbered) l)
 
-  one-to-one : OneToOne v (newNumber (pack v xs r))
+  pub one-to-one : OneToOne v (newNumber (pack v xs r))
   one-to-one = record {
     below = λ x l. omega (arith, number-is x l, index-below x (s .numbered) (numbered x l), count);
     tells = λ x y l k e. numbers-tell most v ts good os s c x y (met x l) (sym (number-is x l) ∙ (e ∙ number-is y k));

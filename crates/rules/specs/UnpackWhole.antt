@@ -8,6 +8,8 @@ use lib.IntN.{ℤ}
 use lib.ListN.{length, take}
 use lib.Dec.{eqb}
 use Rattle.rules.specs.declared.Model.{Model}
+use Rattle.rules.specs.declared.Measured.{Measured}
+use Rattle.rules.specs.declared.Measured.the-variants as M
 use Rattle.rules.specs.Triangle.{trianglesOf}
 use Rattle.rules.specs.Answer.{Answer, refusal, accepted, triangle, no-triangle, numbers, packed, unpacked}
 use Rattle.rules.specs.Buffer.{zeroed, cleared, Buffers}
@@ -52,6 +54,15 @@ pub record VolumeResult : Type 0 where
   pub answer : Answer
   pub six : Given ℤ
   pub buffers : Buffers
+
+-- the volume call's enum
+abbrev pub measuredAnswer : Measured → Answer
+measuredAnswer (M.Volume m z) = unpacked m
+measuredAnswer (M.Refused n) = refusal n
+
+abbrev pub measuredSix : Measured → Given ℤ
+measuredSix (M.Volume m z) = given z
+measuredSix (M.Refused n) = not-given
 
 abbrev pub positionsIn : Parts → Given (List ℕ)
 positionsIn no-parts = not-given

@@ -4,12 +4,8 @@ use Prim.Native.Nat.{ℕ, _+_, _*_}
 use mathlib.Core.List.{List, [], _∷_}
 use lib.IntN.{ℤ, pos, _+ℤ_, _-ℤ_, _*ℤ_}
 use lib.ListN.{getD}
+use Rattle.rules.specs.declared.Point.{Point}
 use Rattle.rules.specs.declared.Triangle.{Triangle}
-
-pub record Point : Type 0 where
-  pub x : ℤ
-  pub y : ℤ
-  pub z : ℤ
 
 -- where a vertex is, by a list of positions, three for each vertex
 abbrev pub pointAt : List ℤ → ℕ → Point

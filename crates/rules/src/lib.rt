@@ -17,6 +17,13 @@ pub struct Triangle {
     pub r: u16,
 }
 
+// Where a vertex is.
+pub struct Point {
+    pub x: i64,
+    pub y: i64,
+    pub z: i64,
+}
+
 // The counts that a pack or a beginning states.
 #[repr(C)]
 pub struct Counts {
@@ -143,6 +150,12 @@ pub enum Packed {
 
 pub enum Unpacked {
     Model(Model),
+    Refused(u8),
+}
+
+// The volume call gives six times the volume besides.
+pub enum Measured {
+    Volume(Model, i64),
     Refused(u8),
 }
 

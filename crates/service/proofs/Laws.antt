@@ -1,100 +1,83 @@
 -- What a core promises, carried to the lent list of place records.
 -- Assumes nothing.
-use Prim.Native.Nat.{ℕ, _*_, _≤_, _<_}
-use native.Mathlib.Omega.{arith}
-use mathlib.Core.Bool.{Bool, true, false, _&&_, false≢true}
+use Prim.Native.Nat.{ℕ, _≤_, _<_}
 use mathlib.Core.List.{List}
-use mathlib.Core.Path.{_≡_, refl, sym, ap, _∙_}
+use mathlib.Core.Path.{_≡_, sym, ap, _∙_, subst}
 use lib.ListN.{length}
-use lib.Dec.{leb, ltb}
-use borrow.Author.Tests.{le-leb, leb-true, ltb-false}
 use Rattle.rules.specs.declared.Counts.{Counts}
 use Rattle.rules.specs.declared.Place.{Place}
 use Rattle.rules.specs.declared.Operation.{Operation}
 use Rattle.rules.specs.declared.Builder.{Builder}
 use Rattle.rules.specs.declared.Unpacked.{Unpacked}
+use Rattle.rules.specs.declared.Measured.{Measured}
 use Rattle.rules.specs.declared.Begun.{Begun}
 use Rattle.rules.specs.declared.Performed.{Performed}
 use Rattle.rules.specs.declared.Finished.{Finished}
-use Rattle.rules.specs.Limits.{maxPlaces, inRange}
 use Rattle.rules.specs.Answer.{unpackedAnswer}
-use Rattle.rules.specs.Buffer.{cleared}
-use Rattle.rules.specs.Unpack.{unpack}
-use Rattle.rules.specs.Fields.{Fields, no-pack, fields, fieldsOf}
+use Rattle.rules.specs.UnpackWhole.{unpackWhole, measuredAnswer, volume}
 use Rattle.rules.specs.Book.{answerOf}
 use Rattle.border_theory.specs.Memory.Layout.{openOf}
-use Rattle.border_theory.specs.Records.Plain.{countOf}
-use Rattle.border_theory.proofs.Records.Reading.{counted, memoryOf}
+use Rattle.border_theory.specs.Records.Lent.{lent}
 use Rattle.border_theory.specs.Records.Notes.{linkedAll, freedAll}
 use Rattle.border_theory.specs.Records.Changes.{clearedTo}
+use Rattle.border_theory.proofs.Records.Reading.{counted, memoryOf}
 use Rattle.border_theory.proofs.Records.Counting.{count-within}
-use Rattle.border_theory.proofs.Records.Clearing.{cleared-to}
+use Rattle.border_theory.proofs.Records.Clearing.{Clears}
+use Rattle.promises.specs.Promises.{lentTo, Unpacks, Measures, Beginning, Operating, Finishing}
+use Rattle.unpack_theory.specs.Lent.{clearedBy}
+use Rattle.unpack_theory.proofs.Lending.{Alike}
+use Rattle.unpack_theory.proofs.Cleared.{clearedAfter, cleared-by}
+use Rattle.positions_theory.specs.Unpacking.{unpackWholeOn, UnpackedWholeOn, MeasuredOn, clearedMeasuring}
+use Rattle.positions_theory.proofs.Lending.{AlikeVolumes, lend-unpack, lend-volume, unpack-whole-clears, volume-clears, measuring-by}
 use Rattle.state_theory.proofs.Reading.Flags.{loaded-open}
-use Rattle.unpack_theory.specs.Lent.{unpackOn, clearedBy, UnpackedOn}
-use Rattle.unpack_theory.proofs.Lending.{isPast, Alike, clearedIf, lend-places, lend-unpack}
-use Rattle.unpack_theory.proofs.Cleared.{unpacked-clears}
-use Rattle.promises.specs.Promises.{lentTo, Beginning, Operating, Finishing}
 use Rattle.state_theory.specs.Finishing.Core.{BeginsOn, FinishesOn, clearedBy as clearedBegun}
 use Rattle.state_theory.proofs.Finishing.Lifting.{begins-lifted}
 use Rattle.state_theory.specs.Performing.Core.{OperatesOn}
 use Rattle.state_theory.proofs.Performing.Lifting.{operates-lent, finishes-same}
-use Rattle.promises.specs.Promises.{Unpacks}
 
--- of a list's length only whether it is 1,024 counts
-pub counted-long : (k : ℕ) → leb maxPlaces k ≡ leb maxPlaces (countOf k)
-unfolding countOf
-counted-long k = go (ltb k maxPlaces) refl
-  where
-    go : (t : Bool) → ltb k maxPlaces ≡ t → leb maxPlaces k ≡ leb maxPlaces (elim t [ true ↦ k | false ↦ maxPlaces ])
-    go true e = refl
-    go false e = le-leb maxPlaces k (ltb-false k maxPlaces e)
+module _ (bytes ts : List ℕ) (ps : List Place) (r : Unpacked) (ts′ : List ℕ) (p : UnpackedWholeOn bytes ts (counted ps) r ts′) where
+  unpacks-same : Alike (unpackWhole bytes (lentTo ts ps)) (unpackWholeOn bytes (counted ps) ts)
+  unpacks-same = lend-unpack bytes ts ps
 
--- only a list of 1,024 records gets past 14
-past-long : (f : Fields) (n k : ℕ) → isPast f n k ≡ true → maxPlaces ≤ n
-past-long no-pack n k e = absurd (false≢true e)
-past-long (fields s ops) n k e = leb-true maxPlaces n (last (inRange s) (leb (3 * s .triangles) k) (leb maxPlaces n) e)
-  where
-    last : (a b c : Bool) → a && (b && c) ≡ true → c ≡ true
-    last true true c h = h
-    last true false c h = absurd (false≢true h)
-    last false b c h = absurd (false≢true h)
+  unpacks-answer : unpackedAnswer r ≡ unpackWhole bytes (lentTo ts ps) .answer
+  unpacks-answer = p .answer ∙ sym (unpacks-same .answer)
 
-pub places-after : (t : Bool) (n : ℕ) (ps : List Place) → (t ≡ true → maxPlaces ≤ length ps) → n ≡ elim t [ true ↦ maxPlaces | false ↦ 0 ]
-    → clearedTo n ps ≡ clearedIf t ps
-unfolding cleared clearedTo
-places-after true n ps h e = ap (λ (k : ℕ). clearedTo k ps) e ∙ cleared-to maxPlaces ps (h refl)
-places-after false n ps h e = ap (λ (k : ℕ). clearedTo k ps) e
-
--- no more than there are
-pub fits-after : (t : Bool) (n k : ℕ) → (t ≡ true → maxPlaces ≤ k) → n ≡ elim t [ true ↦ maxPlaces | false ↦ 0 ] → n ≤ k
-fits-after true n k h e = omega (arith, h refl, e)
-fits-after false n k h e = omega (arith, e)
-
-module _ (bytes ts : List ℕ) (ps : List Place) (r : Unpacked) (ts′ : List ℕ) (p : UnpackedOn bytes ts (counted ps) r ts′) where
-  same : Alike (unpack bytes (lentTo ts ps)) (unpackOn bytes (counted ps) ts)
-  same = lend-unpack bytes (lentTo ts ps) (counted ps) (counted-long (length ps))
-
-  answers : unpackedAnswer r ≡ unpack bytes (lentTo ts ps) .answer
-  answers = p .answer ∙ sym (same .answer)
-
-  past : Bool
-  past = isPast (fieldsOf bytes) (length ps) (length ts)
+  unpacks-clears : Clears ps (clearedBy r) (unpackWhole bytes (lentTo ts ps) .buffers .places)
+  unpacks-clears =
+      subst (λ (n : ℕ). Clears ps n (unpackWhole bytes (lentTo ts ps) .buffers .places))
+      (sym (cleared-by r ∙ ap clearedAfter unpacks-answer)) (unpack-whole-clears bytes (lentTo ts ps))
 
   pub unpacks-fit : clearedBy r ≤ length ps
-  unfolding past
-  unpacks-fit =
-      fits-after past (clearedBy r) (length ps) (past-long (fieldsOf bytes) (length ps) (length ts))
-      (unpacked-clears bytes (lentTo ts ps) r answers)
+  unpacks-fit = unpacks-clears .fits
 
   pub unpacks : (ps′ : List Place) → ps′ ≡ clearedTo (clearedBy r) ps → Unpacks bytes ts ps r ts′ ps′
-  unfolding past
   unpacks ps′ e = record {
-    answer = answers;
-    triangles = p .triangles ∙ sym (same .triangles);
-    places =
-        e ∙ places-after past (clearedBy r) ps (past-long (fieldsOf bytes) (length ps) (length ts))
-        (unpacked-clears bytes (lentTo ts ps) r answers)
-        ∙ sym (lend-places (fieldsOf bytes) (lentTo ts ps));
+    answer = unpacks-answer;
+    triangles = p .triangles ∙ sym (unpacks-same .triangles);
+    places = e ∙ sym (unpacks-clears .places);
+  }
+
+module _ (bytes ts : List ℕ) (ps : List Place) (r : Measured) (ts′ : List ℕ) (p : MeasuredOn bytes ts (counted ps) r ts′) where
+  measures-same : AlikeVolumes (volume bytes (lentTo ts ps)) (volume bytes (lent (counted ps) ts))
+  measures-same = lend-volume bytes ts ps
+
+  measures-answer : measuredAnswer r ≡ volume bytes (lentTo ts ps) .answer
+  measures-answer = p .answer ∙ sym (measures-same .answer)
+
+  measures-clears : Clears ps (clearedMeasuring r) (volume bytes (lentTo ts ps) .buffers .places)
+  measures-clears =
+      subst (λ (n : ℕ). Clears ps n (volume bytes (lentTo ts ps) .buffers .places))
+      (sym (measuring-by r ∙ ap clearedAfter measures-answer)) (volume-clears bytes (lentTo ts ps))
+
+  pub measures-fit : clearedMeasuring r ≤ length ps
+  measures-fit = measures-clears .fits
+
+  pub measures : (ps′ : List Place) → ps′ ≡ clearedTo (clearedMeasuring r) ps → Measures bytes ts ps r ts′ ps′
+  measures ps′ e = record {
+    answer = measures-answer;
+    six = p .six ∙ sym (measures-same .six);
+    triangles = p .triangles ∙ sym (measures-same .triangles);
+    places = e ∙ sym (measures-clears .places);
   }
 
 -- what the cores of the operation and of the finish ask of the memory that a list is read into

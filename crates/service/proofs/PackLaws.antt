@@ -1,53 +1,45 @@
--- What the packing's core promises, carried to the lent list of place records.
+-- What the cores of packing promise, carried to the lent list of place records.
 -- Assumes nothing.
 use Prim.Native.Nat.{ℕ, _≤_}
-use mathlib.Core.Bool.{Bool, true, false}
 use mathlib.Core.List.{List}
-use mathlib.Core.Path.{_≡_, sym, _∙_}
+use mathlib.Core.Path.{_≡_, sym, ap, _∙_, subst}
+use lib.IntN.{ℤ}
 use lib.ListN.{length}
 use Rattle.rules.specs.declared.Place.{Place}
 use Rattle.rules.specs.declared.Packed.{Packed}
-use Rattle.rules.specs.Limits.{maxPlaces}
-use Rattle.rules.specs.Triangle.{trianglesOf}
-use Rattle.rules.specs.Check.{check}
 use Rattle.rules.specs.Answer.{packedAnswer}
-use Rattle.rules.specs.Pack.{pack}
-use Rattle.border_theory.proofs.Records.Reading.{counted}
+use Rattle.rules.specs.Later.{Given}
+use Rattle.rules.specs.PackWhole.{packWhole}
 use Rattle.border_theory.specs.Records.Changes.{clearedTo}
-use Rattle.pack_theory.specs.Packing.Lent.{packOn, clearedBy, PackedOn}
-use Rattle.pack_theory.proofs.Packing.Lending.{isPast, Alike, lentTo, lend-pack, lend-places, past-long}
-use Rattle.pack_theory.proofs.Packing.Clearing.{packed-clears}
-use Rattle.promises.specs.Promises.{Packs}
-use Rattle.service.proofs.Laws.{counted-long, fits-after, places-after}
+use Rattle.border_theory.proofs.Records.Reading.{counted}
+use Rattle.border_theory.proofs.Records.Clearing.{Clears}
+use Rattle.pack_theory.specs.Packing.Lent.{lent, clearedBy, IsResult}
+use Rattle.pack_theory.proofs.Packing.Lending.{Alike}
+use Rattle.pack_theory.proofs.Packing.Clearing.{clearedAfter, cleared-by}
+use Rattle.positions_theory.proofs.PackLending.{lend-pack, pack-whole-clears}
+use Rattle.promises.specs.Promises.{packingBuffers, Packs}
 
-module _ (v : ℕ) (xs ns bs os : List ℕ) (ps : List Place) (r : Packed) (ns′ bs′ os′ : List ℕ)
-    (p : PackedOn v xs ns bs os (counted ps) r ns′ bs′ os′) where
-  same : Alike (pack v xs (lentTo ns ps bs os)) (packOn v xs (counted ps) ns bs os)
-  same = lend-pack v xs ns bs os ps (counted ps) (counted-long (length ps))
+module _ (v : ℕ) (xs : List ℕ) (g : Given (List ℤ)) (ns bs os : List ℕ) (ps : List Place) (r : Packed) (ns′ bs′ os′ : List ℕ)
+    (p : IsResult (packWhole v xs g (lent (counted ps) ns bs os)) r ns′ bs′ os′) where
+  same : Alike (packWhole v xs g (packingBuffers ns bs os ps)) (packWhole v xs g (lent (counted ps) ns bs os))
+  same = lend-pack v xs g ns bs os ps
 
-  answers : packedAnswer r ≡ pack v xs (lentTo ns ps bs os) .answer
+  answers : packedAnswer r ≡ packWhole v xs g (packingBuffers ns bs os ps) .answer
   answers = p .answer ∙ sym (same .answer)
 
-  past : Bool
-  past = isPast (check v xs) v (trianglesOf xs) (lentTo ns ps bs os)
-
-  past-fits : past ≡ true → maxPlaces ≤ length ps
-  unfolding past
-  past-fits = past-long (check v xs) v (trianglesOf xs) (lentTo ns ps bs os)
-
-  clears : clearedBy r ≡ elim past [ true ↦ maxPlaces | false ↦ 0 ]
-  unfolding past
-  clears = packed-clears v xs ns bs os ps r answers
+  clears : Clears ps (clearedBy r) (packWhole v xs g (packingBuffers ns bs os ps) .buffers .places)
+  clears =
+      subst (λ (n : ℕ). Clears ps n (packWhole v xs g (packingBuffers ns bs os ps) .buffers .places))
+      (sym (cleared-by r ∙ ap clearedAfter answers)) (pack-whole-clears v xs g (packingBuffers ns bs os ps))
 
   pub packs-fit : clearedBy r ≤ length ps
-  packs-fit = fits-after past (clearedBy r) (length ps) past-fits clears
+  packs-fit = clears .fits
 
-  pub packs : (ps′ : List Place) → ps′ ≡ clearedTo (clearedBy r) ps → Packs v xs ns bs os ps r ns′ bs′ os′ ps′
-  unfolding past
+  pub packs : (ps′ : List Place) → ps′ ≡ clearedTo (clearedBy r) ps → Packs v xs g ns bs os ps r ns′ bs′ os′ ps′
   packs ps′ e = record {
     answer = answers;
     numbering = p .numbering ∙ sym (same .numbering);
     bytes = p .bytes ∙ sym (same .bytes);
     order = p .order ∙ sym (same .order);
-    places = e ∙ places-after past (clearedBy r) ps past-fits clears ∙ sym (lend-places v xs ns bs os ps);
+    places = e ∙ sym (clears .places);
   }

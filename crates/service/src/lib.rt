@@ -1,6 +1,6 @@
-// The service's calls over a lent list of place records. Packing, unpacking and a beginning read no record: each calls its core and
-// clears as many as the answer says. An operation and a finish load the records into a plain memory and call the core that works
-// there; of these the operation then links and frees those that it touched, the finish changes nothing. What each call promises
+// The service's calls over a lent list of place records. Packing, unpacking, the volume call and a beginning read no record: each calls
+// its core and clears as many as the answer says. An operation and a finish load the records into a plain memory and call the core that
+// works there; of these the operation then links and frees those that it touched, the finish changes nothing. What each call promises
 // stands on one page, promises/specs/Promises.antt.
 use places::clear;
 use places::count;
@@ -13,14 +13,15 @@ use rules::Builder;
 use rules::Checked;
 use rules::Counts;
 use rules::Finished;
+use rules::Measured;
 use rules::Operation;
 use rules::Packed;
 use rules::Performed;
 use rules::Place;
 use rules::Unpacked;
+ghost use Rattle.rules.specs.Later.{not-given, given};
 ghost use Rattle.promises.specs.Promises.{Beginning, Operating, Finishing};
-ghost use Rattle.promises.specs.Promises.{Checking, Unpacks};
-ghost use Rattle.promises.specs.Promises.{Packs};
+ghost use Rattle.promises.specs.Promises.{Checking, Packs, Unpacks, Measures};
 
 // Checks any list of a model of v vertices: refusals 1 to 7, or its acceptance. It needs no place records.
 pub fn check(v: usize, list: &[u16]) -> Checked
@@ -29,15 +30,27 @@ pub fn check(v: usize, list: &[u16]) -> Checked
     mesh::check(v, list)
 }
 
-// Unpacks any bytes: refusals 12 to 20, or the model, whose triangles then stand in the first entries as built. After 15 to 20 the
-// first 3T triangle entries are zero. Past 14 the first 1,024 place records are left zero; after 12 to 14 nothing has changed.
+// Unpacks any bytes: refusals 12 to 20, 23, or the model, whose triangles then stand in the first entries as built. After 15 to 20 and
+// 23 the first 3T triangle entries are zero. Past 14 the first 1,024 place records are left zero; after 12 to 14 nothing has changed.
 pub fn unpack(pack: &[u8], triangles: &mut [u16], places: &mut [Place]) -> Unpacked
     ensures { λ r. ⌜ Unpacks (now (pack .entry)) (now (triangles .entry)) (now (places .entry)) r (now (triangles .exit))
         (now (places .exit)) ⌝ }
 {
     let n = count(places.len());
-    let r = unpacker::unpack_on(pack, triangles, n);
+    let r = positions::unpacking::unpack_whole_on(pack, triangles, n);
     clear(places, unpacker::cleared(r));
+    r
+}
+
+// Unpacks any bytes and gives six times the volume besides: refusals 12 to 20, 23 and 24, the last for a pack without positions and for
+// a model with a rim. The buffers are left as unpacking leaves them; after 24 as after 20.
+pub fn volume(pack: &[u8], triangles: &mut [u16], places: &mut [Place]) -> Measured
+    ensures { λ r. ⌜ Measures (now (pack .entry)) (now (triangles .entry)) (now (places .entry)) r (now (triangles .exit))
+        (now (places .exit)) ⌝ }
+{
+    let n = count(places.len());
+    let r = positions::measuring::volume_on(pack, triangles, n);
+    clear(places, positions::measuring::cleared(r));
     r
 }
 
@@ -53,11 +66,32 @@ pub fn pack(
     order: &mut [u16],
     places: &mut [Place],
 ) -> Packed
-    ensures { λ r. ⌜ Packs v (now (list .entry)) (now (numbering .entry)) (now (buffer .entry)) (now (order .entry)) (now (places .entry)) r
-        (now (numbering .exit)) (now (buffer .exit)) (now (order .exit)) (now (places .exit)) ⌝ }
+    ensures { λ r. ⌜ Packs v (now (list .entry)) not-given (now (numbering .entry)) (now (buffer .entry)) (now (order .entry))
+        (now (places .entry)) r (now (numbering .exit)) (now (buffer .exit)) (now (order .exit)) (now (places .exit)) ⌝ }
 {
     let n = count(places.len());
     let r = packer::pack_on(v, list, numbering, buffer, order, n);
+    clear(places, packer::cleared(r));
+    r
+}
+
+// Packs a list with positions, three for each old vertex: refusals 1 to 8, 22, 23, 9 to 11. The pack is that of the list, followed by the
+// positions in new numbering; all else is as in `pack`. After 23 nothing has changed.
+pub fn pack_positions(
+    v: usize,
+    list: &[u16],
+    positions: &[i16],
+    numbering: &mut [u16],
+    buffer: &mut [u8],
+    order: &mut [u16],
+    places: &mut [Place],
+) -> Packed
+    ensures { λ r. ⌜ Packs v (now (list .entry)) (given (now (positions .entry))) (now (numbering .entry)) (now (buffer .entry))
+        (now (order .entry)) (now (places .entry)) r (now (numbering .exit)) (now (buffer .exit)) (now (order .exit))
+        (now (places .exit)) ⌝ }
+{
+    let n = count(places.len());
+    let r = positions::packing::pack_whole_on(v, list, positions, numbering, buffer, order, n);
     clear(places, packer::cleared(r));
     r
 }

@@ -1,5 +1,6 @@
 // What the programs print.
 use crate::streams::Output;
+use rules::Measured;
 use rules::Model;
 use rules::Unpacked;
 ghost use Prim.Native.Nat.{_<_};
@@ -50,5 +51,13 @@ fn print_refused(out: Output, r: Unpacked) -> Output {
     match r {
         Unpacked::Model(_) => out,
         Unpacked::Refused(n) => print_refusal(out, n),
+    }
+}
+
+// Prints what the volume call answered: six times the volume.
+pub fn print_measured(out: Output, r: Measured) -> Output {
+    match r {
+        Measured::Volume(_, six) => out.bytes(b"six ").signed(six).bytes(b"\n"),
+        Measured::Refused(n) => print_refusal(out, n),
     }
 }

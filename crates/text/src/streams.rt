@@ -1,7 +1,10 @@
 // Reading and writing whose failures are noticed: each gets a line on standard error.
 use libc::STDERR_FILENO;
+use libc::STDIN_FILENO;
 use libc::STDOUT_FILENO;
+ghost use mathlib.Core.Path.{_≡_};
 ghost use Prim.Native.Nat.{_≤_};
+ghost use lib.IntN.{natAbs};
 ghost use lib.ListN.{length};
 ghost use Rattle.text.specs.Reads.{Fills};
 
@@ -69,6 +72,49 @@ pub fn say(program: &[u8], line: &[u8]) {
     io::write_all(STDERR_FILENO, b"\n");
 }
 
+// Says why a file could not be read, if it could not. No other call may stand between, for the system's reason is that of the last call
+// that failed.
+fn say_unread(program: &[u8], what: &[u8], r: Read) {
+    match r {
+        Read::To(_) => {}
+        Read::Failed => say_failed(program, what),
+    }
+}
+
+// Reads standard input until the buffer is full or the input ends, or says why it cannot be read.
+pub fn read_standard(program: &[u8], buffer: &mut [u8]) -> Read
+    ensures { λ r. ⌜ Fills r 0 (now (buffer .exit)) ⌝ }
+{
+    let r = read_full(STDIN_FILENO, buffer);
+    say_unread(program, b"cannot read standard input", r);
+    r
+}
+
+// The same of the file of a name.
+pub fn read_file(program: &[u8], name: &[u8], buffer: &mut [u8]) -> Read
+    ensures { λ r. ⌜ Fills r 0 (now (buffer .exit)) ⌝ }
+{
+    let fd = os::open_read(name);
+    if fd < 0 {
+        say_failed(program, name);
+        return Read::Failed;
+    }
+    let r = read_full(fd, buffer);
+    say_unread(program, name, r);
+    libc::close(fd);
+    r
+}
+
+// A number without its sign.
+fn magnitude(n: i64) -> u64
+    ensures { λ r. ⌜ r ≡ natAbs n ⌝ }
+{
+    if n < 0 {
+        return ((-1 - n) as u64) + 1;
+    }
+    n as u64
+}
+
 // A file that is open for writing: whether a write has failed, after which nothing more is written.
 pub struct Output {
     fd: i32,
@@ -104,6 +150,14 @@ impl Output {
         self.bytes(&text[..k])
     }
 
+    // Writes a signed number in decimal.
+    pub fn signed(self, n: i64) -> Output {
+        if n < 0 {
+            return self.bytes(b"-").decimal(magnitude(n));
+        }
+        self.decimal(magnitude(n))
+    }
+
     // Writes a number and the byte after it.
     pub fn number(self, n: u16, end: u8) -> Output {
         let mut text = [0u8; 1];
@@ -111,8 +165,7 @@ impl Output {
         self.decimal(n as u64).bytes(&text)
     }
 
-    // Ends standard output: says so if a write failed. No other call may stand between, for the system's reason is that of the last
-    // call that failed.
+    // Ends standard output: says so if a write failed. No other call may stand between, as above.
     pub fn end(self, program: &[u8]) {
         if self.failed {
             say_unwritten(program, b"standard output");

@@ -79,13 +79,24 @@ pub fn is_same(a: &[u8], b: &[u8]) -> bool {
     true
 }
 
-// A number with one more digit, at most 65,535.
-fn more(n: u16, digit: u8) -> u16 {
-    let wide = 10 * (n as u32) + ((digit % 10) as u32);
-    if 65535 < wide {
+// A number with one more digit; each that is over 65,535 becomes 65,536.
+pub fn more(n: u32, digit: u8) -> u32 {
+    if 65535 < n {
+        return 65536;
+    }
+    let longer = 10 * n + (digit as u32);
+    if 65535 < longer {
+        return 65536;
+    }
+    longer
+}
+
+// A number as 16 bits, the largest for each that is larger.
+pub fn clamped(n: u32) -> u16 {
+    if 65535 < n {
         return 65535;
     }
-    wide as u16
+    n as u16
 }
 
 // The number that a text is.
@@ -97,13 +108,13 @@ pub fn number_of(text: &[u8]) -> Number {
         if b < b'0' {
             return Number {
                 valid: false,
-                value,
+                value: 0,
             };
         }
         if b'9' < b {
             return Number {
                 valid: false,
-                value,
+                value: 0,
             };
         }
         value = more(value, b - b'0');
@@ -111,6 +122,6 @@ pub fn number_of(text: &[u8]) -> Number {
     }
     Number {
         valid: 0 < text.len(),
-        value,
+        value: clamped(value),
     }
 }

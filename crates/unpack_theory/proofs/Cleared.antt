@@ -1,13 +1,13 @@
 -- How many place records an unpacking clears is read off its answer: 12 to 14 are given before any is cleared, 15 to 20 past that.
 -- Assumes nothing.
-use Prim.Native.Nat.{ℕ, zero, suc, _≤_, _<_}
+use Prim.Native.Nat.{ℕ, zero, suc, _*_, _≤_, _<_}
 use native.Mathlib.Omega.{arith}
 use mathlib.Core.Bool.{Bool, true, false, _&&_}
 use mathlib.Core.List.{List}
-use mathlib.Core.Path.{_≡_, refl, sym, ap, _∙_}
+use mathlib.Core.Path.{_≡_, refl, sym, ap, _∙_, subst}
 use lib.ListN.{length}
 use lib.Dec.{leb}
-use borrow.Author.Tests.{le-leb, lt-leb}
+use borrow.Author.Tests.{leb-true, le-leb, lt-leb}
 use Rattle.rules.specs.declared.Counts.{Counts}
 use Rattle.rules.specs.declared.Place.{Place}
 use Rattle.rules.specs.declared.Unpacked.{Unpacked}
@@ -20,12 +20,13 @@ use Rattle.rules.specs.Machine.{Machine, Step, refused, begun, built, declared,
 use Rattle.rules.specs.Machine.{longEnough, empty}
 use Rattle.rules.specs.Answer.{Answer, refusal, accepted, triangle, no-triangle, numbers, packed, unpacked, unpackedAnswer}
 use Rattle.rules.specs.Bits.{bitsOfBytes}
-use Rattle.rules.specs.Buffer.{Buffers, lengths}
+use Rattle.rules.specs.Buffer.{cleared, Buffers, lengths}
 use Rattle.rules.specs.Fields.{Fields, no-pack, fields, fieldsOf}
 use Rattle.rules.specs.Unpack.{Ran, stopped, completed, runAll, runOf, restFits, UnpackResult, turnedDown, unpackRefused, unpackDone}
 use Rattle.rules.specs.Unpack.{unpackRun, unpackFields, unpack}
 use Rattle.unpack_theory.specs.Lent.{clearedBy}
-use Rattle.unpack_theory.proofs.Lending.{isPast}
+use Rattle.counting.proofs.Bools.{and-right}
+use Rattle.border_theory.proofs.Records.Clearing.{Clears, clears-none, clears-first}
 
 -- a call that is refused by 15 or a number above it, or is not refused
 abbrev LateStep : Step → Type 0
@@ -91,8 +92,8 @@ unfolding runAll
 late-run zero m xs = omega arith
 late-run (suc n) m xs = late-complete m xs (complete m) _ (late-read n m (readOperation xs) (λ k ys. late-run n k ys))
 
--- what is cleared after an answer
-abbrev clearedAfter : Answer → ℕ
+-- how many are cleared after an answer
+abbrev pub clearedAfter : Answer → ℕ
 clearedAfter (refusal k) = elim (leb k 14) [ true ↦ 0 | false ↦ maxPlaces ]
 clearedAfter accepted = maxPlaces
 clearedAfter (triangle t) = maxPlaces
@@ -101,56 +102,50 @@ clearedAfter (numbers x) = maxPlaces
 clearedAfter (packed n) = maxPlaces
 clearedAfter (unpacked m) = maxPlaces
 
-by-answer : (r : Unpacked) → clearedBy r ≡ clearedAfter (unpackedAnswer r)
-by-answer (U.Model m) = refl
-by-answer (U.Refused k) = refl
+pub cleared-by : (r : Unpacked) → clearedBy r ≡ clearedAfter (unpackedAnswer r)
+cleared-by (U.Model m) = refl
+cleared-by (U.Refused k) = refl
 
-abbrev clears : UnpackResult → ℕ
-clears r = clearedAfter (r .answer)
+-- a call that was lent r, answers a and leaves r′ has cleared as many as its answer says
+abbrev pub ClearsBy : Buffers → Answer → Buffers → Type 0
+ClearsBy r a r′ = Clears (r .places) (clearedAfter a) (r′ .places)
 
-abbrev clearing : Bool → ℕ
-clearing true = maxPlaces
-clearing false = 0
+abbrev Told : Buffers → UnpackResult → Type 0
+Told r x = ClearsBy r (x .answer) (x .buffers)
 
-run-clears : (s : Counts) (r : Buffers) (R : Ran) → Late R → clears (unpackRun s r R) ≡ maxPlaces
+run-clears : (s : Counts) (r : Buffers) (R : Ran) → Late R → maxPlaces ≤ length {A = Place} (r .places) → Told r (unpackRun s r R)
 unfolding unpackRun
-run-clears s r (stopped k) h = ap (λ (b : Bool). elim b [ true ↦ 0 | false ↦ maxPlaces ]) (lt-leb k 14 h)
-run-clears s r (completed m xs) h = go (restFits xs && asStated m) (oneFanEach (m .used) (m .triangles))
+run-clears s r (stopped k) h l =
+    subst (λ (b : Bool). Clears (r .places) (elim b [ true ↦ 0 | false ↦ maxPlaces ]) (cleared (r .places))) (sym (lt-leb k 14 h))
+    (clears-first (r .places) l)
+run-clears s r (completed m xs) h l = go (restFits xs && asStated m) (oneFanEach (m .used) (m .triangles))
   where
     go : (a b : Bool)
-        → clears (elim a [
+        → Told r
+        (elim a [
           | true ↦ elim b [ true ↦ unpackDone s (totals m) (m .triangles) r | false ↦ unpackRefused 20 s r ]
-          | false ↦
-              unpackRefused 19 s r
+          | false ↦ unpackRefused 19 s r
         ])
-        ≡ maxPlaces
-    go true true = refl
-    go true false = refl
-    go false b = refl
+    go true true = clears-first (r .places) l
+    go true false = clears-first (r .places) l
+    go false b = clears-first (r .places) l
 
-fields-clear : (f : Fields) (r : Buffers)
-    → clears (unpackFields r f) ≡ clearing (isPast f (length {A = Place} (r .places)) (length (r .triangles)))
+fields-clear : (r : Buffers) (f : Fields) → Told r (unpackFields r f)
 unfolding unpackFields
-fields-clear no-pack r = refl
-fields-clear (fields s ops) r = go (inRange s) (longEnough (lengths r) s)
+fields-clear r no-pack = clears-none (r .places)
+fields-clear r (fields s ops) = go (inRange s) (longEnough (lengths r) s) refl
   where
-    go : (a b : Bool)
-        → clears (elim a [ true ↦ elim b [ true ↦ unpackRun s r (runOf s ops) | false ↦ turnedDown 14 r ] | false ↦ turnedDown 13 r ])
-        ≡ clearing (a && b)
-    go true true = run-clears s r (runOf s ops) (late-run (suc (length (bitsOfBytes ops))) (empty s) (bitsOfBytes ops))
-    go true false = refl
-    go false b = refl
+    go : (a b : Bool) → longEnough (lengths r) s ≡ b
+        → Told r (elim a [ true ↦ elim b [ true ↦ unpackRun s r (runOf s ops) | false ↦ turnedDown 14 r ] | false ↦ turnedDown 13 r ])
+    go true true e =
+        run-clears s r (runOf s ops) (late-run (suc (length (bitsOfBytes ops))) (empty s) (bitsOfBytes ops))
+        (leb-true maxPlaces (length {A = Place} (r .places)) (and-right (leb (3 * s .triangles) (length (r .triangles))) _ e))
+    go true false e = clears-none (r .places)
+    go false b e = clears-none (r .places)
 
 -- past 14 the first 1,024, before it none
-pub unpacked-clears : (bytes : List ℕ) (b : Buffers) (r : Unpacked) → unpackedAnswer r ≡ unpack bytes b .answer
-    → clearedBy r ≡ elim (isPast (fieldsOf bytes) (length {A = Place} (b .places)) (length (b .triangles))) [ true ↦ maxPlaces | false ↦ 0 ]
-unpacked-clears bytes b r e =
-    by-answer r ∙ ap clearedAfter e ∙ fields-clear (fieldsOf bytes) b
-    ∙ same (isPast (fieldsOf bytes) (length {A = Place} (b .places)) (length (b .triangles)))
-  where
-    same : (t : Bool) → clearing t ≡ elim t [ true ↦ maxPlaces | false ↦ 0 ]
-    same true = refl
-    same false = refl
+pub unpack-clears : (bytes : List ℕ) (r : Buffers) → ClearsBy r (unpack bytes r .answer) (unpack bytes r .buffers)
+unpack-clears bytes r = fields-clear r (fieldsOf bytes)
 
 -- a refusal's number tells it
 pub cleared-early : (r : Unpacked) (k : ℕ) → r ≡ U.Refused k → k ≤ 14 → 0 ≡ clearedBy r

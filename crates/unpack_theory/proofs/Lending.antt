@@ -1,9 +1,9 @@
 -- Of the place list an unpacking's answer and triangles depend on its length only; and the answer of a run gives the unpacking's.
 -- Assumes nothing.
-use Prim.Native.Nat.{ℕ, _+_, _*_, _≤_, _<_}
+use Prim.Native.Nat.{ℕ, _*_, _≤_}
 use native.Mathlib.Omega.{arith}
 use mathlib.Core.Bool.{Bool, true, false, _&&_}
-use mathlib.Core.List.{List, [], _++_}
+use mathlib.Core.List.{List, _++_}
 use mathlib.Core.Path.{_≡_, refl, sym, ap, ap₂, _∙_, subst}
 use lib.ListN.{length, replicate, length-replicate}
 use lib.Dec.{leb}
@@ -17,10 +17,10 @@ use Rattle.rules.specs.Limits.{maxPlaces, inRange}
 use Rattle.rules.specs.Fan.{oneFanEach}
 use Rattle.rules.specs.Machine.{Machine, asStated, totals, longEnough}
 use Rattle.rules.specs.Answer.{refusal, unpacked, unpackedAnswer}
-use Rattle.rules.specs.Buffer.{freePlace, over, zeroed, cleared, Buffers, lengths}
+use Rattle.rules.specs.Buffer.{freePlace, over, zeroed, Buffers, lengths}
 use Rattle.rules.specs.Fields.{Fields, no-pack, fields, fieldsOf}
 use Rattle.rules.specs.Unpack.{Ran, stopped, completed, runOf, numbersOf, restFits, UnpackResult, turnedDown, unpackRefused, unpackDone}
-use Rattle.rules.specs.Unpack.{unpackEnded, unpackRun, unpackFields, unpack}
+use Rattle.rules.specs.Unpack.{unpackEnded, unpackRun, unpackFields}
 use Rattle.border_theory.specs.Records.Lent.{lent}
 use Rattle.cutborder.specs.declared.Stepped.{Stepped}
 use Rattle.cutborder.specs.declared.Stepped.the-variants.{Going, Refused}
@@ -28,11 +28,6 @@ use Rattle.counting.proofs.Bools.{and-left}
 use Rattle.unpack_theory.specs.Runs.{Beyond, bitsFrom, endBy, endAnswer, Ends, Answers, tidied}
 use Rattle.unpack_theory.specs.Lent.{unpackOn}
 use Rattle.unpack_theory.proofs.Ending.{whole-over}
-
--- whether the bytes get past 12 to 14, with n place records and k triangle entries
-abbrev pub isPast : Fields → ℕ → ℕ → Bool
-isPast no-pack n k = false
-isPast (fields s ops) n k = inRange s && (leb (3 * s .triangles) k && leb maxPlaces n)
 
 -- two tests: both passed, the second failed, the first failed
 abbrev pick : Bool → Bool → UnpackResult → UnpackResult → UnpackResult → UnpackResult
@@ -100,45 +95,6 @@ module _ (r r′ : Buffers) (e : r .triangles ≡ r′ .triangles) where
       ap₂ (λ (xs : List ℕ) (b : Bool). leb (3 * s .triangles) (length xs) && b) e h in
       rw (fields-pick r s ops, fields-pick r′ s ops, q)
       (alike-pick (inRange s) (longEnough (lengths r′) s) _ _ _ _ _ _ (alike-run s (runOf s ops)) (alike-down 14) (alike-down 13))
-
--- the place list afterwards
-abbrev pub clearedIf : Bool → List Place → List Place
-clearedIf true ps = cleared ps
-clearedIf false ps = ps
-
-places-pick : (a b : Bool) (r : Buffers) (x y z : UnpackResult) → x .buffers .places ≡ cleared (r .places) → y .buffers .places ≡ r .places
-    → z .buffers .places ≡ r .places → pick a b x y z .buffers .places ≡ clearedIf (a && b) (r .places)
-places-pick true true r x y z h i j = h
-places-pick true false r x y z h i j = i
-places-pick false b r x y z h i j = j
-
-places-ended : (a b : Bool) (r : Buffers) (x y z : UnpackResult) → x .buffers .places ≡ cleared (r .places)
-    → y .buffers .places ≡ cleared (r .places) → z .buffers .places ≡ cleared (r .places)
-    → pick a b x y z .buffers .places ≡ cleared (r .places)
-places-ended true true r x y z h i j = h
-places-ended true false r x y z h i j = i
-places-ended false b r x y z h i j = j
-
-places-run : (c : Counts) (r : Buffers) (R : Ran) → unpackRun c r R .buffers .places ≡ cleared (r .places)
-unfolding unpackRun
-places-run c r (stopped k) = refl
-places-run c r (completed M xs) =
-    ap (λ (x : UnpackResult). x .buffers .places) (ended-pick c r M (restFits xs))
-    ∙ places-ended (restFits xs && asStated M) (oneFanEach (M .used) (M .triangles)) r _ _ _ refl refl refl
-
-pub lend-places : (f : Fields) (r : Buffers)
-    → unpackFields r f .buffers .places ≡ clearedIf (isPast f (length {A = Place} (r .places)) (length (r .triangles))) (r .places)
-unfolding unpackFields
-lend-places no-pack r = refl
-lend-places (fields s ops) r =
-    ap (λ (x : UnpackResult). x .buffers .places) (fields-pick r s ops)
-    ∙ places-pick (inRange s) (longEnough (lengths r) s) r _ _ _ (places-run s r (runOf s ops)) refl refl
-
--- `unpackOn` with the length of the place list is `unpack`
-pub lend-unpack : (bytes : List ℕ) (r : Buffers) (n : ℕ) → leb maxPlaces (length {A = Place} (r .places)) ≡ leb maxPlaces n
-    → Alike (unpack bytes r) (unpackOn bytes n (r .triangles))
-lend-unpack bytes r n h =
-    alike-fields r (lent n (r .triangles)) refl (h ∙ ap (leb maxPlaces) (sym (length-replicate n freePlace))) (fieldsOf bytes)
 
 -- ---- 14, or the run
 

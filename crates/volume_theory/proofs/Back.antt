@@ -15,7 +15,8 @@ use Rattle.rules.specs.Fields.{fieldOf}
 use Rattle.rules.specs.Pack.{PackBuffers, pack}
 use Rattle.rules.specs.Unpack.{UnpackResult}
 use Rattle.rules.specs.Grid.{allInGrid, positionBytes, positionsFrom}
-use Rattle.rules.specs.Volume.{Point, pointAt}
+use Rattle.rules.specs.declared.Point.{Point}
+use Rattle.rules.specs.Volume.{pointAt}
 use Rattle.rules.specs.Later.{positionsTag, Given, not-given, given, Parts, partsOf}
 use Rattle.rules.specs.PackWhole.{positionsFit, packWhole}
 use Rattle.rules.specs.UnpackWhole.{fieldFits, unpackWhole, positionsIn}

@@ -30,7 +30,12 @@ use Rattle.rules.specs.PackWhole.{positionsFit, positionsOf, wholePackOf, whole
 use Rattle.roundtrip.proofs.Results.{PackedBy, packed-by, not-packed, stored-done, stored-refused}
 use Rattle.roundtrip.proofs.Each.{front-bytes, numbered, count, number-is}
 use Rattle.volume_theory.specs.Whole.{fieldLength, PassesRooms, Followed, PositionsFollowThePack}
+use Rattle.volume_theory.specs.Shorter.{besides}
 use Rattle.volume_theory.proofs.Positions.{length-positions-of, length-field, point-numbered, positions-in-grid}
+
+-- 8 and 22, then p
+abbrev pub byRooms : PackBuffers → Bool → Bool → PackResult → PackResult
+byRooms r a b p = elim a [ true ↦ elim b [ true ↦ p | false ↦ turnedDown 22 r ] | false ↦ turnedDown 8 r ]
 
 module _ (v : ℕ) (xs : List ℕ) (zs : List ℤ) (r : PackBuffers) where
   abbrev ts : List Triangle
@@ -39,25 +44,21 @@ module _ (v : ℕ) (xs : List ℕ) (zs : List ℤ) (r : PackBuffers) where
   abbrev qs : List ℕ
   qs = orderFor most (trianglesOf xs)
 
-  -- 8 and 22, then p
-  abbrev byRooms : Bool → Bool → PackResult → PackResult
-  byRooms a b p = elim a [ true ↦ elim b [ true ↦ p | false ↦ turnedDown 22 r ] | false ↦ turnedDown 8 r ]
+  rooms-pass : (a b : Bool) (p : PackResult) → a ≡ true → b ≡ true → byRooms r a b p ≡ p
+  rooms-pass a b p h k = ap (λ (t : Bool). byRooms r t b p) h ∙ ap (λ (t : Bool). byRooms r true t p) k
 
-  rooms-pass : (a b : Bool) (p : PackResult) → a ≡ true → b ≡ true → byRooms a b p ≡ p
-  rooms-pass a b p h k = ap (λ (t : Bool). byRooms t b p) h ∙ ap (λ (t : Bool). byRooms true t p) k
-
-  rooms-fail : (a b : Bool) (p q : PackResult) → (a ≡ true → b ≡ true → ⊥) → byRooms a b p ≡ byRooms a b q
+  rooms-fail : (a b : Bool) (p q : PackResult) → (a ≡ true → b ≡ true → ⊥) → byRooms r a b p ≡ byRooms r a b q
   rooms-fail true true p q h = absurd (h refl refl)
   rooms-fail true false p q h = refl
   rooms-fail false b p q h = refl
 
-  rooms-same : (a b : Bool) (p q : PackResult) (k : ℕ) → byRooms a b q .answer ≡ refusal k → (q .answer ≡ refusal k → p ≡ q)
-      → byRooms a b p ≡ byRooms a b q
+  rooms-same : (a b : Bool) (p q : PackResult) (k : ℕ) → byRooms r a b q .answer ≡ refusal k → (q .answer ≡ refusal k → p ≡ q)
+      → byRooms r a b p ≡ byRooms r a b q
   rooms-same true true p q k e h = h e
   rooms-same true false p q k e h = refl
   rooms-same false b p q k e h = refl
 
-  abbrev run : PackResult
+  abbrev pub run : PackResult
   run = wholeChosen v (trianglesOf xs) zs r (orderFor most (trianglesOf xs)) (chosenFor most (trianglesOf xs))
 
   earlier-at : (c : Checked) → (c ≡ Accepted → packLongEnough v r ≡ true → orderLongEnough ts r ≡ true → ⊥)
@@ -82,14 +83,14 @@ module _ (v : ℕ) (xs : List ℕ) (zs : List ℤ) (r : PackBuffers) where
   unfit f h = passed h ∙ ap (λ (t : Bool). elim t [ true ↦ run | false ↦ turnedDown 23 r ]) f
 
   module _ (fit : positionsFit v zs ≡ true) where
-    runs : PassesRooms v xs r → packWhole v xs (given zs) r ≡ run
+    pub runs : PassesRooms v xs r → packWhole v xs (given zs) r ≡ run
     runs h = passed h ∙ ap (λ (t : Bool). elim t [ true ↦ run | false ↦ turnedDown 23 r ]) fit
 
     -- the pack with the positions is no shorter
     abbrev field : Packing → List ℕ
     field s = fieldOf positionsTag (positionBytes (positionsOf zs (s .numbered)))
 
-    longer : (os : List Operation) (s : Packing)
+    pub longer : (os : List Operation) (s : Packing)
         → length (wholePackOf v ts zs os s) ≡ length (packOf v ts os s) + (3 + 6 * length (s .numbered))
     longer os s = length-append (packOf v ts os s) (field s) ∙ omega (arith, length-field positionsTag zs (s .numbered))
 
@@ -121,10 +122,8 @@ module _ (v : ℕ) (xs : List ℕ) (zs : List ℤ) (r : PackBuffers) where
     refused : (k : ℕ) → pack v xs r .answer ≡ refusal k → packWhole v xs (given zs) r ≡ pack v xs r
     refused k e = refused-checked (check v xs) k e
 
-    module _ (n : ℕ) (e : pack v xs r .answer ≡ packed n) where
-      p : PackedBy most v xs r n
-      p = packed-by most v xs r n e
-
+    -- the list alone is packed into the same buffers but for that of the pack, which is bs
+    module _ (bs : List ℕ) (n : ℕ) (p : PackedBy most v xs (besides r bs) n) where
       abbrev whole : List ℕ
       whole = wholePackOf v (trianglesOf xs) zs (p .operations) (p .last)
 
@@ -134,7 +133,7 @@ module _ (v : ℕ) (xs : List ℕ) (zs : List ℤ) (r : PackBuffers) where
           runs (record { list = p .accepted; rooms = p .enough; order = p .ordered }) ∙ ap (wholeChosen v ts zs r qs) (p .chose)
 
       whole-length : length whole ≡ n + fieldLength v
-      whole-length = omega (arith, longer (p .operations) (p .last), p .long, count v xs r n p)
+      whole-length = omega (arith, longer (p .operations) (p .last), p .long, count v xs (besides r bs) n p)
 
       too-long : length (r .pack) < n + fieldLength v → packWhole v xs (given zs) r ≡ packRefused 11 v ts r
       too-long h =
@@ -148,18 +147,18 @@ module _ (v : ℕ) (xs : List ℕ) (zs : List ℤ) (r : PackBuffers) where
           stores ∙ stored-done v ts (wholeContentsOf v ts zs qs (p .operations) (p .last)) r
           (le-leb (length whole) (length (r .pack)) (omega (arith, whole-length)))
 
-      follows : n + fieldLength v ≤ length (r .pack) → Followed v n zs r (packWhole v xs (given zs) r) (pack v xs r)
+      pub follows : n + fieldLength v ≤ length (r .pack) → Followed v n zs r (packWhole v xs (given zs) r) (pack v xs (besides r bs))
       follows h = record {
         positions = positionsOf zs (p .last .numbered);
-        count = omega (arith, length-positions-of zs (p .last .numbered), count v xs r n p);
+        count = omega (arith, length-positions-of zs (p .last .numbered), count v xs (besides r bs) n p);
         range = positions-in-grid zs (p .last .numbered) (and-right (eqb (length zs) (3 * v)) (allInGrid zs) fit);
         points =
-            λ x l. ap (pointAt (positionsOf zs (p .last .numbered))) (number-is v xs r n p x l)
-            ∙ point-numbered zs x (p .last .numbered) (numbered v xs r n p x l);
+            λ x l. ap (pointAt (positionsOf zs (p .last .numbered))) (number-is v xs (besides r bs) n p x l)
+            ∙ point-numbered zs x (p .last .numbered) (numbered v xs (besides r bs) n p x l);
         answer = ap (λ (x : PackResult). x .answer) (done h) ∙ ap packed whole-length;
         bytes =
             ap (λ (x : PackResult). x .buffers .pack) (done h)
-            ∙ ap (λ (bs : List ℕ). over (bs ++ field (p .last)) (r .pack)) (sym (front-bytes v xs r n p));
+            ∙ ap (λ (k : List ℕ). over (k ++ field (p .last)) (r .pack)) (sym (front-bytes v xs (besides r bs) n p));
         numbering =
             ap (λ (x : PackResult). x .buffers .numbering) (done h) ∙ sym (ap (λ (x : PackResult). x .buffers .numbering) (p .result));
         order =
@@ -177,7 +176,7 @@ Answers p = Refuses p ⊎ ((n : ℕ) × (p .answer ≡ packed n))
 
 module _ (v : ℕ) (xs : List ℕ) (zs : List ℤ) (r : PackBuffers) where
   rooms-answer : (A : PackResult → Type 0) → A (turnedDown 8 r) → A (turnedDown 22 r) → (a b : Bool) (p : PackResult) → A p
-      → A (byRooms v xs zs r a b p)
+      → A (byRooms r a b p)
   rooms-answer A x y true true p h = h
   rooms-answer A x y true false p h = y
   rooms-answer A x y false b p h = x
@@ -230,11 +229,15 @@ packed-whole v xs zs r k e = by-fit (positionsFit v zs) refl
     by-length : positionsFit v zs ≡ true → (n : ℕ) → pack v xs r .answer ≡ packed n → (t : Bool)
         → leb (n + fieldLength v) (length (r .pack)) ≡ t → PackedWhole v xs zs r k
     by-length f n a true l =
-        let g = follows v xs zs r f n a (leb-true (n + fieldLength v) (length (r .pack)) l) in
+        let g = follows v xs zs r f (r .pack) n (packed-by most v xs r n a) (leb-true (n + fieldLength v) (length (r .pack)) l) in
         let q : packed k ≡ packed (n + fieldLength v) = sym e ∙ g .answer in
         record { fit = f; n = n; alone = a; long = cc; followed = g }
     by-length f n a false l =
-        never (11, ap (λ (x : PackResult). x .answer) (too-long v xs zs r f n a (leb-false (n + fieldLength v) (length (r .pack)) l)))
+        never (
+          11,
+          ap (λ (x : PackResult). x .answer)
+              (too-long v xs zs r f (r .pack) n (packed-by most v xs r n a) (leb-false (n + fieldLength v) (length (r .pack)) l)),
+        )
 
     by-answer : positionsFit v zs ≡ true → Answers (pack v xs r) → PackedWhole v xs zs r k
     by-answer f (inl h) = never (h .0, ap (λ (x : PackResult). x .answer) (refused v xs zs r f (h .0) (h .1)) ∙ h .1)
@@ -249,6 +252,6 @@ positions-follow-the-pack v xs zs r = record {
   earlier = earlier v xs zs r;
   unfit = unfit v xs zs r;
   refused = refused v xs zs r;
-  too-long = too-long v xs zs r;
-  follows = follows v xs zs r;
+  too-long = λ f n e. too-long v xs zs r f (r .pack) n (packed-by most v xs r n e);
+  follows = λ f n e. follows v xs zs r f (r .pack) n (packed-by most v xs r n e);
 }

@@ -2,10 +2,14 @@ pub mod Amounts
 pub mod Back
 pub mod Beside
 pub mod Determinant
+pub mod Fitting
 pub mod Forth
 pub mod Integers
+pub mod Measuring
 pub mod Order
 pub mod Packed
 pub mod Positions
+pub mod Shorter
+pub mod Triple
 pub mod Volume
 pub mod Whole

@@ -1,6 +1,6 @@
 -- The positions of the numbered vertices, in the order of their numbers.
 -- Assumes nothing.
-use Prim.Native.Nat.{ℕ, zero, suc, _+_, _*_}
+use Prim.Native.Nat.{ℕ, suc, _+_, _*_}
 use native.Mathlib.Omega.{arith}
 use mathlib.Core.Bool.{Bool, true, false, false≢true}
 use mathlib.Core.List.{List, [], _∷_}
@@ -12,11 +12,12 @@ use borrow.Author.Tests.{eqb-true}
 use Rattle.rules.specs.Choice.{has}
 use Rattle.rules.specs.Pack.{indexOf}
 use Rattle.rules.specs.Fields.{fieldOf}
-use Rattle.rules.specs.Grid.{inGrid, allInGrid, positionBytes}
-use Rattle.counting.proofs.Bools.{and-left, and-right, and-both}
+use Rattle.rules.specs.Grid.{allInGrid, positionBytes}
+use Rattle.counting.proofs.Bools.{and-both}
 use Rattle.rules.specs.Volume.{pointAt}
 use Rattle.rules.specs.PackWhole.{positionsOf}
 use Rattle.wire_theory.proofs.Positions.{length-positions}
+use Rattle.wire_theory.proofs.Grid.{each-grid}
 
 pub length-positions-of : (zs : List ℤ) (vs : List ℕ) → length (positionsOf zs vs) ≡ 3 * length vs
 unfolding positionsOf
@@ -50,15 +51,9 @@ point-numbered zs x (v ∷ vs) h = go (eqb x v) refl h (λ k. point-numbered zs 
         past-first (p .x) (p .y) (p .z) (positionsOf zs vs) (indexOf x vs) ∙ again k
 
 -- positions in range
-pub each-in-grid : (zs : List ℤ) → allInGrid zs ≡ true → (i : ℕ) → inGrid (getD zs i (pos 0)) ≡ true
-unfolding allInGrid
-each-in-grid [] h i = refl
-each-in-grid (z ∷ zs) h zero = and-left (inGrid z) (allInGrid zs) h
-each-in-grid (z ∷ zs) h (suc i) = each-in-grid zs (and-right (inGrid z) (allInGrid zs) h) i
-
 pub positions-in-grid : (zs : List ℤ) (vs : List ℕ) → allInGrid zs ≡ true → allInGrid (positionsOf zs vs) ≡ true
 unfolding positionsOf allInGrid
 positions-in-grid zs [] h = refl
 positions-in-grid zs (v ∷ vs) h =
-    and-both _ _ (each-in-grid zs h (3 * v))
-    (and-both _ _ (each-in-grid zs h (3 * v + 1)) (and-both _ _ (each-in-grid zs h (3 * v + 2)) (positions-in-grid zs vs h)))
+    and-both _ _ (each-grid zs h (3 * v))
+    (and-both _ _ (each-grid zs h (3 * v + 1)) (and-both _ _ (each-grid zs h (3 * v + 2)) (positions-in-grid zs vs h)))

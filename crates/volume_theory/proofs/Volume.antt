@@ -22,12 +22,12 @@ use Rattle.rules.specs.Volume.{sixVolumes}
 use Rattle.counting.proofs.Counts.{same-yes}
 use Rattle.mesh_theory.specs.Fans.Corner.{Once}
 use Rattle.mesh_theory.proofs.Chains.Turning.{about-length}
+use Rattle.wire_theory.proofs.Grid.{each-grid}
 use Rattle.volume_theory.specs.Axes.{Axis, alongX, alongY, alongZ, det, volume}
 use Rattle.volume_theory.specs.Claims.{SameTrianglesSameVolume, InsideOutOtherSign, MovedByAtMost, VolumeIsAtMost}
 use Rattle.volume_theory.proofs.Determinant.{by-axes, det-turned, volume-axes}
 use Rattle.volume_theory.proofs.Amounts.{volume-amount, volume-moved}
 use Rattle.volume_theory.proofs.Order.{any-order}
-use Rattle.volume_theory.proofs.Positions.{each-in-grid}
 
 pub same-triangles-same-volume : SameTrianglesSameVolume
 same-triangles-same-volume zs ts us o o′ h =
@@ -85,7 +85,7 @@ in-range (pos n) h = let k = ltb-true n gridSteps h in omega arith
 in-range (negsuc n) h = let k = ltb-true n gridSteps h in omega arith
 
 each-in-range : (zs : List ℤ) → allInGrid zs ≡ true → (i : ℕ) → natAbs (getD zs i (pos 0)) ≤ 2048
-each-in-range zs h i = in-range (getD zs i (pos 0)) (each-in-grid zs h i)
+each-in-range zs h i = in-range (getD zs i (pos 0)) (each-grid zs h i)
 
 pub volume-is-at-most : VolumeIsAtMost
 volume-is-at-most zs ts h =

@@ -27,7 +27,7 @@ use Rattle.roundtrip.proofs.Back.{no-two-packs-of-one-list}
 use Rattle.volume_theory.specs.Whole.{PacksOfTwoFieldsReadAsBefore, positionsGiven}
 use Rattle.volume_theory.specs.Whole.{NoTwoPacksOfOneListAndPositions}
 
-tested-none : (r : Buffers) (u : UnpackResult) (g : Given Model) → thenTested not-given r u g ≡ u
+pub tested-none : (r : Buffers) (u : UnpackResult) (g : Given Model) → thenTested not-given r u g ≡ u
 unfolding thenTested
 tested-none r u not-given = refl
 tested-none r u (given m) = refl

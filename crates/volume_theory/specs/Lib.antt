@@ -3,4 +3,6 @@
 -- Assumes nothing.
 pub mod Axes
 pub mod Claims
+pub mod Near
+pub mod Shorter
 pub mod Whole

@@ -15,13 +15,15 @@ use borrow.Author.Tests.{eq-eqb, ne-eqb, le-leb, lt-leb}
 use Rattle.rules.specs.declared.Counts.{Counts}
 use Rattle.rules.specs.Fields.{wordAt, Field, no-field, field, takeField, Fields, no-pack, fields, countsFrom, lastField, firstField}
 use Rattle.rules.specs.Fields.{fieldsOf}
+use Rattle.rules.specs.Later.{not-given, given, no-parts, lastPart, laterPart, afterOperations, afterCounts, partsOf}
+use Rattle.rules.specs.Later as R
 use Rattle.rules.specs.Limits.{between, inRange}
 use Rattle.wire_theory.proofs.Lists.{below-all}
 use Rattle.wire_theory.proofs.Fields.{pack-found, found-part, PackFound}
 use Rattle.wire.specs.declared.fields.Contents.the-variants.{At, Nothing}
 use Rattle.wire.specs.declared.fields.PackFields.{PackFields}
 use Rattle.wire.specs.declared.fields.PackFields.the-variants.{Found, Refused}
-use Rattle.wire.specs.Fields.{contentsFrom, fieldAt, ranged, tested, packFields, PartFound, Parted}
+use Rattle.wire.specs.Fields.{contentsFrom, fieldAt, ranged, tested, packFields, PartFound, Parted, ThirdAt}
 
 no-such : (cs ds : List ℕ) → no-field ≡ field cs ds → ⊥
 no-such cs ds e = let z : _≡_ {A = ℕ} 0 1 = cc in omega arith
@@ -287,3 +289,90 @@ short-first a b e = rw e
 
 pub by-last : (a b : Bool) → a ≡ true → b ≡ (a && b)
 by-last a b e = rw e
+
+-- ---- the parts
+
+module _ (bs : List ℕ) where
+  pub no-first : fieldAt bs 0 1 ≡ Nothing → partsOf bs ≡ no-parts
+  unfolding fieldAt partsOf
+  no-first e = go (takeField 1 bs) refl e
+    where
+      go : (f : Field) → takeField 1 bs ≡ f → contentsFrom 0 f ≡ Nothing → afterCounts bs (takeField 1 bs) ≡ no-parts
+      go no-field f e = ap (afterCounts bs) f
+      go (field cs ds) f e = let z : _≡_ {A = ℕ} 0 1 = cc in absurd (omega arith)
+
+  module _ (x a : ℕ) (first : fieldAt bs 0 1 ≡ At x a) where
+    after-first : partsOf bs ≡ afterOperations bs (takeField 2 (drop a bs))
+    unfolding partsOf
+    after-first =
+        let p : Parts bs 0 1 x a = parts bs 0 1 x a first in
+        ap (afterCounts bs) (p .taken) ∙ ap (λ (us : List ℕ). afterOperations bs (takeField 2 us)) (sym (p .after))
+
+    pub no-second : fieldAt bs a 2 ≡ Nothing → partsOf bs ≡ no-parts
+    unfolding fieldAt
+    no-second e = after-first ∙ go (takeField 2 (drop a bs)) refl e
+      where
+        go : (f : Field) → takeField 2 (drop a bs) ≡ f → contentsFrom a f ≡ Nothing
+            → afterOperations bs (takeField 2 (drop a bs)) ≡ no-parts
+        go no-field f e = ap (afterOperations bs) f
+        go (field cs ds) f e = let z : _≡_ {A = ℕ} 0 1 = cc in absurd (omega arith)
+
+    module _ (y b : ℕ) (second : fieldAt bs a 2 ≡ At y b) where
+      after-second : partsOf bs ≡ laterPart (take b bs) (drop b bs)
+      after-second =
+          let p : Parts bs a 2 y b = parts bs a 2 y b second in
+          let n : length bs - length (drop b bs) ≡ b = omega (arith, length-drop b bs, p .within) in
+          after-first ∙ ap (afterOperations bs) (p .taken ∙ ap (field (p .cs)) (sym (p .after)))
+          ∙ ap (λ (k : ℕ). laterPart (take k bs) (drop b bs)) n
+
+      pub two-fields : b ≡ length bs → partsOf bs ≡ R.parts bs not-given
+      unfolding laterPart
+      two-fields e =
+          let d : drop b bs ≡ [] = drop-of-length-le bs {i = b} (omega arith) in
+          after-second ∙ ap₂ laterPart (ap (λ (k : ℕ). take k bs) e ∙ take-length bs) d
+
+      module _ (longer : b ≡ length bs → ⊥) where
+        -- some bytes follow
+        after-third : partsOf bs ≡ lastPart (take b bs) (takeField 3 (drop b bs))
+        unfolding laterPart
+        after-third = after-second ∙ go (drop b bs) (omega (arith, length-drop b bs, parts bs a 2 y b second .within, longer))
+          where
+            go : (us : List ℕ) → 0 < length us → laterPart (take b bs) us ≡ lastPart (take b bs) (takeField 3 us)
+            go [] h = absurd (omega arith)
+            go (u ∷ us) h = refl
+
+        pub no-third : fieldAt bs b 3 ≡ Nothing → partsOf bs ≡ no-parts
+        unfolding fieldAt
+        no-third e = after-third ∙ go (takeField 3 (drop b bs)) refl e
+          where
+            go : (f : Field) → takeField 3 (drop b bs) ≡ f → contentsFrom b f ≡ Nothing
+                → lastPart (take b bs) (takeField 3 (drop b bs)) ≡ no-parts
+            go no-field f e = ap (lastPart (take b bs)) f
+            go (field cs ds) f e = let z : _≡_ {A = ℕ} 0 1 = cc in absurd (omega arith)
+
+        module _ (z c : ℕ) (third : fieldAt bs b 3 ≡ At z c) where
+          pub more-than-three : (c ≡ length bs → ⊥) → partsOf bs ≡ no-parts
+          more-than-three h =
+              let p : Parts bs b 3 z c = parts bs b 3 z c third in
+              after-third ∙ ap (lastPart (take b bs)) (p .taken)
+              ∙ go (p .cs) (p .ds) (omega (arith, ap length (p .after), length-drop c bs, p .within, h))
+            where
+              go : (cs ds : List ℕ) → 0 < length ds → lastPart (take b bs) (field cs ds) ≡ no-parts
+              go cs [] h = absurd (omega arith)
+              go cs (d ∷ ds) h = refl
+
+          pub three-fields : c ≡ length bs → ThirdAt bs b z
+          three-fields e =
+              let p : Parts bs b 3 z c = parts bs b 3 z c third in
+              let d : p .ds ≡ [] = sym (p .after) ∙ drop-of-length-le bs {i = c} (omega arith) in
+              let l : length (p .cs) ≡ length (drop (b + 3) bs) = omega (arith, length-drop (b + 3) bs, p .end, p .within) in
+              let s : p .cs ≡ drop z bs =
+              sym (p .inner) ∙ ap (λ (k : ℕ). take k (drop (b + 3) bs)) l ∙ take-length (drop (b + 3) bs)
+              ∙ ap (λ (k : ℕ). drop k bs) (sym (p .start)) in
+              record {
+                end = omega (arith, p .end, p .within);
+                start = omega (arith, p .start, p .end, p .within);
+                found =
+                    after-third ∙ ap (lastPart (take b bs)) (p .taken ∙ ap (field (p .cs)) d)
+                    ∙ ap (λ (us : List ℕ). R.parts (take b bs) (given us)) s;
+              }

@@ -8,11 +8,14 @@ use lib.Dec.{leb}
 use lib.ListN.{length, take, drop}
 use Rattle.rules.specs.declared.Counts.{Counts}
 use Rattle.rules.specs.Fields.{Field, no-field, field, takeField, Fields, no-pack, fields, fieldsOf}
+use Rattle.rules.specs.Later.{not-given, given, no-parts, parts, partsOf}
 use Rattle.rules.specs.Limits.{inRange}
 use Rattle.rules.specs.Buffer.{over}
 use Rattle.wire_theory.specs.Header.{headerOf}
 use Rattle.wire.specs.declared.fields.Contents.{Contents}
 use Rattle.wire.specs.declared.fields.Contents.the-variants.{At, Nothing}
+use Rattle.wire.specs.declared.fields.PackParts.{PackParts}
+use Rattle.wire.specs.declared.fields.PackParts.the-variants.{Two, Three, Neither}
 use Rattle.wire.specs.declared.fields.PackFields.{PackFields}
 use Rattle.wire.specs.declared.fields.PackFields.the-variants.{Found, Refused}
 
@@ -48,6 +51,17 @@ pub record PartFound (bs : List ℕ) (s : Counts) (a b : ℕ) : Type 0 where
 
 abbrev pub Parted : List ℕ → PackFields → Type 0
 Parted bs r = (s : Counts) (a b : ℕ) → r ≡ Found s a b → PartFound bs s a b
+
+-- the parts of a pack: the first two fields end at b, the contents of the third begin at c
+pub record ThirdAt (bs : List ℕ) (b c : ℕ) : Type 0 where
+  pub end : b ≤ length bs
+  pub start : c ≤ length bs
+  pub found : partsOf bs ≡ parts (take b bs) (given (drop c bs))
+
+abbrev pub PartsTold : List ℕ → PackParts → Type 0
+PartsTold bs Two = partsOf bs ≡ parts bs not-given
+PartsTold bs (Three b c) = ThirdAt bs b c
+PartsTold bs Neither = partsOf bs ≡ no-parts
 
 abbrev pub pickBuffer : Bool → List ℕ → List ℕ → List ℕ
 pickBuffer true a b = a

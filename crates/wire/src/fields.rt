@@ -13,11 +13,13 @@ ghost use Rattle.rules.specs.Fields.{wordAt, countsFrom};
 ghost use Rattle.rules.specs.Limits.{between, inRange};
 ghost use Rattle.rules.specs.Machine.{longEnough};
 ghost use Rattle.wire_theory.specs.Header.{headerOf};
-ghost use Rattle.wire.specs.Fields.{fieldAt, packFields, Parted, headed};
+ghost use Rattle.wire.specs.Fields.{fieldAt, packFields, Parted, PartsTold, headed};
 
 const COUNTS_TAG: u8 = 1;
 
 const OPERATIONS_TAG: u8 = 2;
+
+pub const POSITIONS_TAG: u8 = 3;
 
 // So many bytes stand before the operations: 11 for the counts with their tag and length, 3 for the operations' tag and length.
 pub const HEADER: usize = 14;
@@ -28,6 +30,13 @@ pub enum PackFields {
     Refused(u8),
 }
 
+// The first two fields of a pack alone; or where they end and where the contents of a field of positions after them begin; or neither.
+pub enum PackParts {
+    Two,
+    Three(usize, usize),
+    Neither,
+}
+
 // Where the contents of a field start and end.
 enum Contents {
     At(usize, usize),
@@ -35,7 +44,7 @@ enum Contents {
 }
 
 // The number in two bytes.
-fn word_at(pack: &[u8], i: usize) -> u16
+pub fn word_at(pack: &[u8], i: usize) -> u16
     requires { ⌜ i + 1 < length (now pack) ⌝ }
     ensures { λ r. ⌜ r ≡ wordAt (now (pack .entry)) i ⌝ }
 {
@@ -138,6 +147,31 @@ pub fn fields_of(pack: &[u8]) -> PackFields
     } else {
         PackFields::Refused(13)
     }
+}
+
+// The parts of any bytes. That the first field has eight bytes is left to `fields_of`.
+pub fn parts_of(pack: &[u8]) -> PackParts
+    ensures { λ r. ⌜ PartsTold (now (pack .entry)) r ⌝ }
+{
+    let first = field_at(pack, 0, COUNTS_TAG);
+    let Contents::At(_, a) = first else {
+        return PackParts::Neither;
+    };
+    let second = field_at(pack, a, OPERATIONS_TAG);
+    let Contents::At(_, b) = second else {
+        return PackParts::Neither;
+    };
+    if b == pack.len() {
+        return PackParts::Two;
+    }
+    let third = field_at(pack, b, POSITIONS_TAG);
+    let Contents::At(from, to) = third else {
+        return PackParts::Neither;
+    };
+    if to != pack.len() {
+        return PackParts::Neither;
+    }
+    PackParts::Three(b, from)
 }
 
 // The high byte of a number of two bytes.

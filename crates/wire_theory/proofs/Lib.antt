@@ -1,6 +1,7 @@
 pub mod Buffer
 pub mod Bytes
 pub mod Fields
+pub mod Grid
 pub mod Later
 pub mod Lists
 pub mod Numbers

@@ -1,13 +1,13 @@
 -- Positions as bytes: what is written is read, and what is read was written.
 -- Assumes nothing.
-use Prim.Native.Nat.{ℕ, _+_, _-_, _*_, _≤_, _<_}
+use Prim.Native.Nat.{ℕ, zero, suc, _+_, _-_, _*_, _≤_, _<_}
 use native.Mathlib.Omega.{arith}
 use mathlib.Core.Bool.{Bool, true, false}
 use mathlib.Core.List.{List, [], _∷_, _++_}
 use mathlib.Core.Path.{_≡_, refl, ap, ap₂, _∙_}
 use lib.Dec.{ltb}
 use lib.IntN.{ℤ, pos, negsuc}
-use lib.ListN.{length}
+use lib.ListN.{length, getD}
 use borrow.Author.Tests.{ltb-true, ltb-false, lt-ltb, le-ltb}
 use Rattle.rules.specs.Fields.{word}
 use Rattle.rules.specs.Grid.{gridSteps, inGrid, allInGrid, unsignedOf, signedOf, positionBytes, positionsFrom}
@@ -16,11 +16,11 @@ use Rattle.wire_theory.specs.Shape.{Bytes}
 use Rattle.wire_theory.proofs.Fields.{word-back, word-again}
 
 -- a number of 16 bits, signed and back
-signed-below : (n : ℕ) → n < 32768 → signedOf n ≡ pos n
+pub signed-below : (n : ℕ) → n < 32768 → signedOf n ≡ pos n
 unfolding signedOf
 signed-below n h = rw (lt-ltb n 32768 h, signedOf) refl
 
-signed-from : (n : ℕ) → 32768 ≤ n → signedOf n ≡ negsuc (65535 - n)
+pub signed-from : (n : ℕ) → 32768 ≤ n → signedOf n ≡ negsuc (65535 - n)
 unfolding signedOf
 signed-from n h = rw (le-ltb n 32768 h, signedOf) refl
 
@@ -75,3 +75,16 @@ unfolding positionsFrom
 length-from [] n l = omega arith
 length-from (a ∷ []) n l = absurd (omega arith)
 length-from (a ∷ (b ∷ bs)) n l = omega (arith, length-from bs (n - 1) (omega arith))
+
+-- a position where its two bytes stand
+pub position-at : (bs : List ℕ) (i : ℕ) → 2 * i + 1 < length bs
+    → getD (positionsFrom bs) i (pos 0) ≡ signedOf (256 * getD bs (2 * i) 0 + getD bs (2 * i + 1) 0)
+unfolding positionsFrom
+position-at [] i l = absurd (omega arith)
+position-at (a ∷ []) i l = absurd (omega arith)
+position-at (a ∷ (b ∷ bs)) zero l = refl
+position-at (a ∷ (b ∷ bs)) (suc i) l =
+    let e : suc (suc (2 * i)) ≡ 2 * suc i = omega arith in
+    let f : suc (suc (2 * i + 1)) ≡ 2 * suc i + 1 = omega arith in
+    position-at bs i (omega arith)
+    ∙ (λ j. signedOf (256 * getD (a ∷ (b ∷ bs)) (e j) 0 + getD (a ∷ (b ∷ bs)) (f j) 0))

@@ -1,4 +1,4 @@
-//! What happens in shortened loops, counted over the compared runs.
+//! What happens in shortened loops, and other things by their names, counted over the compared runs.
 
 use cutborder::book::Book;
 use cutborder::ops::Op;
@@ -6,8 +6,8 @@ use std::collections::BTreeMap;
 
 pub type Kinds = BTreeMap<&'static str, usize>;
 
-/// Kinds that must be met.
-const ALL: [&str; 11] = [
+/// What can happen in shortened loops.
+pub const SHORTENED: [&str; 11] = [
     "split 1",
     "split k - 2",
     "forward with three places",
@@ -46,8 +46,12 @@ fn kind(book: &Book, op: Op) -> Option<&'static str> {
 /// Counts an operation before it is tried; a refused one is none.
 pub fn note(kinds: &mut Kinds, book: &Book, op: Op) {
     if let Some(kind) = kind(book, op).filter(|_| book.test(op) == 0) {
-        *kinds.entry(kind).or_default() += 1;
+        count(kinds, kind);
     }
+}
+
+pub fn count(kinds: &mut Kinds, kind: &'static str) {
+    *kinds.entry(kind).or_default() += 1;
 }
 
 /// Counts operations from the beginning of a book on, as far as they are accepted.
@@ -60,9 +64,9 @@ pub fn note_all(kinds: &mut Kinds, mut book: Book, ops: &[Op]) {
     }
 }
 
-/// Each kind was met.
-pub fn met(kinds: &Kinds) {
-    for kind in ALL {
+/// Each of these was met.
+pub fn met(kinds: &Kinds, all: &[&str]) {
+    for &kind in all {
         assert!(kinds.contains_key(kind), "never met: {kind}: {kinds:?}");
     }
 }

@@ -3,6 +3,7 @@
 #[path = "../../expected.rs"]
 pub mod expected;
 pub mod kinds;
+pub mod texts;
 
 use cutborder::across::Across;
 use cutborder::book::{Finish, Spot};
@@ -62,6 +63,22 @@ extern "C" {
         places_len: usize,
         size: *mut u32,
     ) -> u32;
+    fn cutborder_pack_positions(
+        v: usize,
+        list: *const u16,
+        len: usize,
+        positions: *const i16,
+        positions_len: usize,
+        numbering: *mut u16,
+        numbering_len: usize,
+        buffer: *mut u8,
+        buffer_len: usize,
+        order: *mut u16,
+        order_len: usize,
+        places: *mut Place,
+        places_len: usize,
+        size: *mut u32,
+    ) -> u32;
     fn cutborder_unpack(
         pack: *const u8,
         len: usize,
@@ -71,6 +88,17 @@ extern "C" {
         places_len: usize,
         model: *mut [u16; 5],
         euler: *mut i32,
+    ) -> u32;
+    fn cutborder_volume(
+        pack: *const u8,
+        len: usize,
+        triangles: *mut u16,
+        triangles_len: usize,
+        places: *mut Place,
+        places_len: usize,
+        model: *mut [u16; 5],
+        euler: *mut i32,
+        six: *mut i64,
     ) -> u32;
     // The search alone, of the library `search`.
     fn cutborder_link(v: usize, list: *const u16, len: usize, links: *mut Links) -> u32;
@@ -82,7 +110,7 @@ pub const LINKS: usize = 4_096 + 24_576;
 pub type Links = [u16; LINKS];
 
 /// What the memory for results holds before a call: a refusal leaves it so.
-const BEFORE: (u16, i32) = (7_777, -7_777);
+const BEFORE: (u16, i32, i64) = (7_777, -7_777, -7_777_777_777_777);
 
 /// An answer's number; the results that it came with are as they were if it is a refusal.
 fn verdict(n: u32, untouched: bool) -> Result<(), Refusal> {
@@ -105,8 +133,21 @@ pub fn unpack(pack: &[u8], triangles: &mut [u16], places: &mut [Place]) -> Resul
     let (ts, ps) = ((triangles.as_mut_ptr(), triangles.len()), (places.as_mut_ptr(), places.len()));
     let n = unsafe { cutborder_unpack(pack.as_ptr(), pack.len(), ts.0, ts.1, ps.0, ps.1, &mut model, &mut euler) };
     verdict(n, model == [BEFORE.0; 5] && euler == BEFORE.1)?;
+    Ok(answer(model, euler))
+}
+
+/// What unpacking answers, and six times the volume.
+pub fn volume(pack: &[u8], triangles: &mut [u16], places: &mut [Place]) -> Result<(Answer, i64), Refusal> {
+    let (mut model, mut euler, mut six) = ([BEFORE.0; 5], BEFORE.1, BEFORE.2);
+    let (ts, ps) = ((triangles.as_mut_ptr(), triangles.len()), (places.as_mut_ptr(), places.len()));
+    let n = unsafe { cutborder_volume(pack.as_ptr(), pack.len(), ts.0, ts.1, ps.0, ps.1, &mut model, &mut euler, &mut six) };
+    verdict(n, model == [BEFORE.0; 5] && (euler, six) == (BEFORE.1, BEFORE.2))?;
+    Ok((answer(model, euler), six))
+}
+
+fn answer(model: [u16; 5], euler: i32) -> Answer {
     let [v, t, edges, rims, unions] = model.map(u32::from);
-    Ok(Answer { v, t, edges, rims, unions, euler })
+    Answer { v, t, edges, rims, unions, euler }
 }
 
 /// The buffers of a packing.
@@ -129,14 +170,26 @@ impl Buffers {
     }
 }
 
-/// A packing: the pack's length.
-pub fn pack(v: usize, list: &[u16], lent: PackRooms) -> Result<usize, Refusal> {
+/// A packing, with positions by old vertex if they are given: the pack's length.
+pub fn pack(v: usize, list: &[u16], positions: Option<&[i16]>, lent: PackRooms) -> Result<usize, Refusal> {
     let mut size = u32::from(BEFORE.0);
-    let (ns, bs) = ((lent.numbering.as_mut_ptr(), lent.numbering.len()), (lent.out.as_mut_ptr(), lent.out.len()));
-    let (os, ps) = ((lent.order.as_mut_ptr(), lent.order.len()), (lent.places.as_mut_ptr(), lent.places.len()));
-    let n = unsafe { cutborder_pack(v, list.as_ptr(), list.len(), ns.0, ns.1, bs.0, bs.1, os.0, os.1, ps.0, ps.1, &mut size) };
+    let (ls, ns) = ((list.as_ptr(), list.len()), (lent.numbering.as_mut_ptr(), lent.numbering.len()));
+    let (bs, os) = ((lent.out.as_mut_ptr(), lent.out.len()), (lent.order.as_mut_ptr(), lent.order.len()));
+    let ps = (lent.places.as_mut_ptr(), lent.places.len());
+    let n = match positions.map(|zs| (zs.as_ptr(), zs.len())) {
+        None => unsafe { cutborder_pack(v, ls.0, ls.1, ns.0, ns.1, bs.0, bs.1, os.0, os.1, ps.0, ps.1, &mut size) },
+        Some(zs) => unsafe {
+            cutborder_pack_positions(v, ls.0, ls.1, zs.0, zs.1, ns.0, ns.1, bs.0, bs.1, os.0, os.1, ps.0, ps.1, &mut size)
+        },
+    };
     verdict(n, size == u32::from(BEFORE.0))?;
     Ok(size as usize)
+}
+
+/// Positions as the service is lent them, in 16 bits. The second program takes 32: what 16 do not hold is lent as the nearest number
+/// that they hold, which is out of the grid as well, so that both answer 23.
+pub fn narrow(positions: &[i32]) -> Vec<i16> {
+    positions.iter().map(|&z| z.clamp(i16::MIN.into(), i16::MAX.into()) as i16).collect()
 }
 
 /// Links a list for searching: refusals 1 to 4.
@@ -230,29 +283,5 @@ impl Building {
                     .collect()
             })
             .collect()
-    }
-}
-
-/// All that the program `unpack` must print for some bytes.
-pub fn printed(input: &[u8]) -> String {
-    let (mut triangles, mut places) = (vec![0; 24_576], vec![Place::default(); 1_024]);
-    let answer = if input.len() > MAX_INPUT { Err(12) } else { expected::unpack(input, &mut triangles, &mut places) };
-    match answer {
-        Err(n) => format!("refused {n}\n"),
-        Ok(a) => {
-            let head = format!("model {} {} {} {} {}\n", a.v, a.t, a.edges, a.rims, a.unions);
-            let line = |t: &[u16]| format!("{} {} {}\n", t[0], t[1], t[2]);
-            head + &triangles[..3 * a.t as usize].chunks(3).map(line).collect::<String>()
-        }
-    }
-}
-
-/// All that the program `pack` must write for a model: the pack, or the line of a refusal; and its order, if it has one.
-pub fn written(v: u64, list: &[u16]) -> (Vec<u8>, Option<String>) {
-    let t = list.len() / 3;
-    let mut lent = Buffers::ample(v.min(4_096) as usize, t);
-    match expected::pack(v, list, lent.lend()) {
-        Ok(n) => (lent.pack[..n].to_vec(), Some(lent.order[..t].iter().map(|k| format!("{k}\n")).collect())),
-        Err(n) => (format!("refused {n}\n").into_bytes(), None),
     }
 }

@@ -4,21 +4,19 @@
 
 mod building;
 mod packings;
+mod positions;
 mod searching;
+mod unpackings;
 
-use compare::expected::{self, LEVEL};
+use compare::check;
 use compare::kinds::{self, Kinds};
-use compare::{check, unpack};
-use cutborder::fast::Unpacker;
 use cutborder::gen::{self, Model};
-use cutborder::proto::unhex;
 use cutborder::rng::Rng;
 use cutborder::{plain, Place};
 use std::collections::BTreeMap;
 use std::time::Instant;
 
 const MODELS: [&str; 2] = [include_str!("../../../reference/vectors/models.txt"), include_str!("../../definitions/models.txt")];
-const PACKS: &str = include_str!("../../../reference/vectors/packs.txt");
 
 type Tally = BTreeMap<u8, usize>;
 
@@ -118,27 +116,6 @@ fn lists(rng: &mut Rng, rounds: usize) -> (usize, Tally) {
     (n, tally)
 }
 
-/// A pack, sound or spoilt, or any bytes.
-fn bytes(rng: &mut Rng) -> Vec<u8> {
-    let mut b = if rng.chance(1, 6) { (0..rng.below(40)).map(|_| rng.below(256) as u8).collect() } else { expected::random_pack(rng, 40) };
-    match rng.below(6) {
-        0 if !b.is_empty() => b.truncate(rng.below(b.len())),
-        1 => b.extend((0..rng.range(1, 4)).map(|_| rng.below(256) as u8)),
-        2 if !b.is_empty() => {
-            let i = rng.below(b.len().min(20));
-            b[i] ^= 1 << rng.below(8);
-        }
-        // A whole field, or what looks like one.
-        3 if rng.chance(1, 2) => {
-            let n = rng.below(5) as u8;
-            b.extend([rng.range(1, 5) as u8, 0, n]);
-            b.extend((0..n).map(|_| rng.below(256) as u8));
-        }
-        _ => {}
-    }
-    b
-}
-
 /// A number of place records: mostly enough, sometimes fewer or more.
 fn records(rng: &mut Rng) -> usize {
     match rng.below(20) {
@@ -153,62 +130,10 @@ fn used_places(records: usize) -> Vec<Place> {
     vec![Place { vertex: 9, before: 9, after: 9, open: true }; records]
 }
 
-/// Some bytes unpacked in buffers of some length: the answer and every buffer afterwards, and the same of the second program's fast
-/// engine.
-fn unpacking(rng: &mut Rng, b: &[u8], fast: &mut Unpacker, tally: &mut Tally, kinds: &mut Kinds) {
-    let known = expected::fields(b);
-    let t = known.map_or(1, |(c, _)| c.t as usize);
-    let numbers = if rng.chance(1, 16) { rng.below(3 * t + 1) } else { 3 * t + rng.below(4) };
-    let records = records(rng);
-    let (mut triangles, mut expected) = (vec![7u16; numbers], vec![7u16; numbers]);
-    let (mut places, mut expected_places) = (used_places(records), used_places(records));
-    let (mut fast_triangles, mut fast_places) = (expected.clone(), places.clone());
-    let answer = expected::unpack(b, &mut expected, &mut expected_places);
-    assert_eq!(unpack(b, &mut triangles, &mut places), answer, "pack {b:02x?}");
-    assert_eq!(triangles, expected, "triangles of pack {b:02x?}");
-    assert_eq!(places, expected_places, "places after pack {b:02x?}");
-    assert_eq!(fast.unpack_at(LEVEL, b, &mut fast_triangles, &mut fast_places), answer, "fast engine, pack {b:02x?}");
-    assert_eq!((fast_triangles, fast_places), (expected, expected_places), "fast engine, pack {b:02x?}");
-    count(tally, &answer);
-    if let Some(book) = known.ok().and_then(|(c, _)| expected::begin(c, numbers, records).ok()) {
-        kinds::note_all(kinds, book, &gen::read_ops(&b[14..]));
-    }
-}
-
-/// Bytes that are no pack, or hardly one.
-fn strings(rng: &mut Rng, rounds: usize) -> (usize, Tally) {
-    let (mut tally, mut kinds, mut fast) = (Tally::new(), Kinds::new(), Unpacker::new());
-    for _ in 0..rounds {
-        let b = bytes(rng);
-        unpacking(rng, &b, &mut fast, &mut tally, &mut kinds);
-    }
-    met(&tally, &[0, 12, 13, 14, 15, 16, 17, 18, 19]);
-    (rounds, tally)
-}
-
-/// Packs of all kinds, sound and spoilt.
-fn unpacks(rng: &mut Rng, rounds: usize, kinds: &mut Kinds) -> (usize, Tally) {
-    let mut tally = Tally::new();
-    let mut packs: Vec<Vec<u8>> = PACKS.lines().filter(|l| !l.starts_with('#')).map(|l| unhex(l).expect("hexadecimal")).collect();
-    packs.extend(models().iter().filter_map(expected::packed));
-    let mut fast = Unpacker::new();
-    for i in 0..rounds + packs.len() {
-        let b = match i.checked_sub(packs.len()) {
-            None => packs[i].clone(),
-            Some(n) if n % 4 == 0 => bytes(rng),
-            Some(n) if n % 4 == 1 => expected::packed(&gen::sound(rng, 200)).unwrap_or_default(),
-            _ => expected::random_pack(rng, 120),
-        };
-        unpacking(rng, &b, &mut fast, &mut tally, kinds);
-    }
-    met(&tally, &[0, 12, 13, 14, 15, 16, 17, 18, 19, 20]);
-    (rounds + packs.len(), tally)
-}
-
 /// What happened in shortened loops: all that can.
 fn shortened(kinds: &Kinds) {
     println!("    shortened loops: {kinds:?}");
-    kinds::met(kinds);
+    kinds::met(kinds, &kinds::SHORTENED);
 }
 
 /// Runs a part and prints its line.
@@ -230,13 +155,12 @@ fn main() {
     part("lists", || lists(&mut rng, 2_000 * scale));
     part("searches", || searching::lists(&mut rng, 1_000 * scale));
     println!("    with links that are not the list's: {} answered", searching::foreign(&mut rng, 500 * scale));
-    part("byte strings", || strings(&mut rng, 5_000 * scale));
-    let mut kinds = Kinds::new();
-    part("unpacks", || unpacks(&mut rng, 4_000 * scale, &mut kinds));
-    shortened(&kinds);
-    let mut kinds = Kinds::new();
-    part("packings", || packings::random(&mut rng, 2_000 * scale, &mut kinds));
-    shortened(&kinds);
+    part("byte strings", || unpackings::strings(&mut rng, 5_000 * scale));
+    part("unpacks", || unpackings::unpacks(&mut rng, 4_000 * scale));
+    part("packs with positions", || positions::ways(&mut rng, 1_000 * scale));
+    part("several refusals of such packs", || positions::faults_together(&mut rng, 4_000 * scale));
+    positions::volumes(&mut rng, 500 * scale);
+    part("packings", || packings::random(&mut rng, 2_000 * scale));
     part("several refusals at once", || packings::faults_together(&mut rng));
     let t = Instant::now();
     let mut kinds = Kinds::new();

@@ -1,13 +1,24 @@
-//! Packing compared with the second program: the answer and all four buffers afterwards.
+//! Packing, with and without positions, compared with the second program: the answer and all four buffers afterwards.
 
 use crate::{count, met, models, records, used_places, Tally};
-use compare::expected::{self, LEVEL, LIMITS};
+use compare::expected::{self, contents_of, with_field, LEVEL, LIMITS, UNFIT};
 use compare::kinds::{self, Kinds};
-use compare::{pack, unpack, Buffers};
+use compare::{narrow, pack, unpack, Buffers};
 use cutborder::fast::Packer;
 use cutborder::gen::{self, Model};
 use cutborder::rng::Rng;
-use cutborder::{Place, Refusal};
+use cutborder::{gen02, Place, Refusal};
+
+/// What was answered without positions, with positions that fit and with others, the ways in which these are 23, and what happened in
+/// shortened loops.
+#[derive(Default)]
+struct Seen {
+    plain: Tally,
+    fit: Tally,
+    unfit: Tally,
+    ways: Kinds,
+    kinds: Kinds,
+}
 
 /// A flat model with a long rim or many of them, which full loops would hardly hold.
 fn filigree(rng: &mut Rng) -> Model {
@@ -29,12 +40,12 @@ fn filigree(rng: &mut Rng) -> Model {
 }
 
 /// Models of all kinds, good and bad, packed in buffers of all lengths: the answer and every buffer afterwards.
-pub fn random(rng: &mut Rng, rounds: usize, kinds: &mut Kinds) -> (usize, Tally) {
-    let mut tally = Tally::new();
+pub fn random(rng: &mut Rng, rounds: usize) -> (usize, Tally) {
+    let mut seen = Seen::default();
     let mut fast = Packer::new();
     let known = models();
     for m in &known {
-        packing(rng, m, &mut fast, &mut tally, kinds);
+        packing(rng, m, &mut fast, &mut seen);
     }
     for i in 0..rounds {
         let max_t = [6, 20, 60, 200, 600][rng.below(5)];
@@ -51,16 +62,25 @@ pub fn random(rng: &mut Rng, rounds: usize, kinds: &mut Kinds) -> (usize, Tally)
                 _ => gen::sound(rng, max_t),
             },
         };
-        packing(rng, &m, &mut fast, &mut tally, kinds);
+        packing(rng, &m, &mut fast, &mut seen);
     }
-    met(&tally, &[0, 1, 2, 3, 4, 5, 6, 7, 8, 9, 10, 11, 22]);
-    (rounds + known.len(), tally)
+    crate::shortened(&seen.kinds);
+    (2 * (rounds + known.len()), told(seen))
 }
 
-/// Buffers for a model that hold anything, mostly long enough, sometimes shorter or longer.
-fn buffers(rng: &mut Rng, m: &Model) -> Buffers {
+/// Every answer was met without positions, with such as fit (9 and 10 by `faults_together`), and with others, 23 in every way.
+fn told(seen: Seen) -> Tally {
+    println!("    with positions: answers {:?}, with such as do not fit {:?}, ways of 23 {:?}", seen.fit, seen.unfit, seen.ways);
+    met(&seen.plain, &[0, 1, 2, 3, 4, 5, 6, 7, 8, 9, 10, 11, 22]);
+    met(&seen.fit, &[0, 1, 2, 3, 4, 5, 6, 7, 8, 11, 22]);
+    met(&seen.unfit, &[1, 2, 3, 4, 5, 6, 7, 8, 22, 23]);
+    kinds::met(&seen.ways, &UNFIT.map(|(way, _)| way));
+    seen.plain
+}
+
+/// Buffers for a model that hold anything, mostly long enough for a pack of this length, sometimes shorter or longer.
+fn buffers(rng: &mut Rng, m: &Model, long: usize) -> Buffers {
     let (v, t) = ((m.v as usize).min(5_000), m.list.len() / 3);
-    let long = expected::packed(m).map_or(20, |p| p.len());
     let size = match rng.below(8) {
         0 => rng.below(long + 1),
         1 => long,
@@ -81,13 +101,15 @@ fn buffers(rng: &mut Rng, m: &Model) -> Buffers {
     }
 }
 
-/// One packing of a model by the service and by the second program: what both answer, and the buffers afterwards.
-fn alike(m: &Model, before: &Buffers) -> (Result<usize, Refusal>, Buffers) {
+/// One packing of a model, with positions if they are given, by the service and by the second program: what both answer, and the buffers
+/// afterwards.
+fn alike(m: &Model, positions: Option<&[i32]>, before: &Buffers) -> (Result<usize, Refusal>, Buffers) {
     let (mut lent, mut expected) = (before.clone(), before.clone());
-    let answer = expected::pack(m.v, &m.list, expected.lend());
-    assert_eq!(pack(m.v as usize, &m.list, lent.lend()), answer, "model {}", m.line());
+    let answer = expected::pack(m.v, &m.list, positions, expected.lend());
+    let found = pack(m.v as usize, &m.list, positions.map(narrow).as_deref(), lent.lend());
+    assert_eq!(found, answer, "model {}, positions {positions:?}", m.line());
     assert_eq!(lent.numbering, expected.numbering, "numbering of model {}", m.line());
-    assert_eq!(lent.pack, expected.pack, "pack of model {}", m.line());
+    assert_eq!(lent.pack, expected.pack, "pack of model {}, positions {positions:?}", m.line());
     assert_eq!(lent.order, expected.order, "order of model {}", m.line());
     assert_eq!(lent.places, expected.places, "places after model {}", m.line());
     (answer, lent)
@@ -107,11 +129,12 @@ fn ordered(m: &Model, size: usize, after: &Buffers) {
     }
 }
 
-/// One packing of a model, and the same by the second program's fast engine, which has no order buffer and no 22.
-fn packing(rng: &mut Rng, m: &Model, fast: &mut Packer, tally: &mut Tally, kinds: &mut Kinds) {
-    let before = buffers(rng, m);
-    let (answer, after) = alike(m, &before);
-    count(tally, &answer);
+/// One packing of a model, and the same by the second program's fast engine, which has no order buffer and no 22; then one with positions.
+fn packing(rng: &mut Rng, m: &Model, fast: &mut Packer, seen: &mut Seen) {
+    let long = expected::packed(m, None).map_or(20, |p| p.len());
+    let before = buffers(rng, m, long);
+    let (answer, after) = alike(m, None, &before);
+    count(&mut seen.plain, &answer);
     if let Ok(size) = answer {
         ordered(m, size, &after);
     }
@@ -124,12 +147,44 @@ fn packing(rng: &mut Rng, m: &Model, fast: &mut Packer, tally: &mut Tally, kinds
     }
     if matches!(answer, Ok(_) | Err(11)) {
         let (ops, chosen) = expected::choose(m.v, &m.list, LIMITS).expect("a packing");
-        kinds::note_all(kinds, expected::begin(chosen.book.counts, m.list.len(), 1_024).expect("counts"), &ops);
+        kinds::note_all(&mut seen.kinds, expected::begin(chosen.book.counts, m.list.len(), 1_024).expect("counts"), &ops);
     }
+    with_positions(rng, m, long, seen);
 }
 
-/// Models that 7, 9, 10, 11 or nothing refuses, each with short and long buffers in every combination: the first refusal in the order
-/// 7, 8, 22, 9 to 11 is answered, and what is not past 22 changes nothing.
+/// One packing of a model with positions, some of which do not fit; without them its pack has so many bytes.
+fn with_positions(rng: &mut Rng, m: &Model, long: usize, seen: &mut Seen) {
+    let mut positions = gen02::positions(rng, (m.v as usize).min(5_000));
+    let unfit = (rng.chance(1, 2) && !positions.is_empty()).then(|| UNFIT[rng.below(UNFIT.len())]);
+    if let Some((_, spoil)) = unfit {
+        spoil(rng, &mut positions);
+    }
+    let before = buffers(rng, m, long + 3 + 2 * positions.len());
+    let (answer, after) = alike(m, Some(&positions), &before);
+    match (unfit, answer) {
+        (None, Ok(size)) => follows(m, &positions, &before, size, &after),
+        (Some((way, _)), Err(23)) => kinds::count(&mut seen.ways, way),
+        _ => {}
+    }
+    count(if unfit.is_some() { &mut seen.unfit } else { &mut seen.fit }, &answer);
+}
+
+/// The pack is that of the list followed by the positions in new numbering, and all else is as without them.
+fn follows(m: &Model, positions: &[i32], before: &Buffers, size: usize, after: &Buffers) {
+    let mut lent = before.clone();
+    let n = pack(m.v as usize, &m.list, None, lent.lend()).expect("a pack");
+    let mut renumbered = vec![0; positions.len()];
+    for (old, &new) in lent.numbering[..m.v as usize].iter().enumerate() {
+        renumbered[3 * usize::from(new)..][..3].copy_from_slice(&positions[3 * old..][..3]);
+    }
+    let whole = with_field(&lent.pack[..n], &contents_of(&renumbered));
+    assert!(after.pack[..size] == whole && after.pack[size..] == before.pack[size..], "pack of {}, positions {positions:?}", m.line());
+    lent.pack.clone_from(&after.pack);
+    assert!(unchanged(&lent, after), "buffers of model {}, positions {positions:?}", m.line());
+}
+
+/// Models that 7, 9, 10, 11 or nothing refuses, each with short and long buffers in every combination, without positions, with such as
+/// fit and with others: the first refusal in the order 7, 8, 22, 23, 9 to 11 is answered, and what is not past 23 changes nothing.
 pub fn faults_together(rng: &mut Rng) -> (usize, Tally) {
     let mut tally = Tally::new();
     let tetrahedron = Model { v: 4, list: vec![0, 1, 2, 1, 0, 3, 2, 1, 3, 0, 2, 3] };
@@ -137,33 +192,39 @@ pub fn faults_together(rng: &mut Rng) -> (usize, Tally) {
     let branches = std::iter::repeat_with(|| gen::branches(rng, 101)).flatten().next().expect("branches");
     for (m, own) in [(tetrahedron, 0), (pinched, 7), (gen::fan(1_025), 9), (branches, 10)] {
         let t = m.list.len() / 3;
-        let each = (0..32).map(|i| ([1, 2, 4].map(|bit| i & bit != 0), [0, t - 1, t, t + 1][i / 8]));
-        each.for_each(|(short, order)| count(&mut tally, &fault(&m, own, short, order)));
+        let fit = gen02::positions(rng, m.v as usize);
+        let unfit = [&fit[1..], &[-2_049]].concat();
+        for positions in [None, Some(&fit[..]), Some(&unfit)] {
+            let each = (0..32).map(|i| ([1, 2, 4].map(|bit| i & bit != 0), [0, t - 1, t, t + 1][i / 8]));
+            each.for_each(|(short, order)| count(&mut tally, &fault(&m, own, positions, short, order)));
+        }
     }
-    met(&tally, &[0, 7, 8, 9, 10, 11, 22]);
+    met(&tally, &[0, 7, 8, 9, 10, 11, 22, 23]);
     (tally.values().sum(), tally)
 }
 
 /// A model that is refused by its own number, or by none, with too few numbering entries, place records or bytes, or none of these, and
 /// so many order entries.
-fn fault(m: &Model, own: Refusal, short: [bool; 3], order: usize) -> Result<usize, Refusal> {
+fn fault(m: &Model, own: Refusal, positions: Option<&[i32]>, short: [bool; 3], order: usize) -> Result<usize, Refusal> {
     let [few_numbers, few_records, few_bytes] = short;
+    let long = expected::packed(m, None).map_or(4_000, |p| p.len()) + positions.map_or(0, |zs| 3 + 2 * zs.len());
     let before = Buffers {
         numbering: vec![7; m.v as usize - usize::from(few_numbers)],
-        pack: vec![5; if few_bytes { 13 } else { 4_000 }],
+        pack: vec![5; long - usize::from(few_bytes)],
         order: vec![9; order],
         places: used_places(1_024 - usize::from(few_records)),
     };
-    let (answer, after) = alike(m, &before);
+    let (answer, after) = alike(m, positions, &before);
     let expected = match own {
         7 => 7,
         _ if few_numbers || few_records => 8,
         _ if order < m.list.len() / 3 => 22,
+        _ if positions.is_some_and(|zs| zs.last() == Some(&-2_049)) => 23,
         0 if few_bytes => 11,
         own => own,
     };
     assert_eq!(answer.err().unwrap_or(0), expected, "model {}", m.line());
-    assert!(!matches!(expected, 7 | 8 | 22) || unchanged(&before, &after), "{expected} changed a buffer, model {}", m.line());
+    assert!(!matches!(expected, 7 | 8 | 22 | 23) || unchanged(&before, &after), "{expected} changed a buffer, model {}", m.line());
     answer
 }
 

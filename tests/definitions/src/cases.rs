@@ -52,7 +52,7 @@ fn lent(rng: &mut Rng, m: &Model, size: usize) -> PackBuffers {
 }
 
 fn packed_size(m: &Model) -> usize {
-    expected::packed(m).map_or(20, |p| p.len())
+    expected::packed(m, None).map_or(20, |p| p.len())
 }
 
 pub fn packing(rng: &mut Rng, max_t: usize) -> Packing {
@@ -88,7 +88,7 @@ pub fn whole_packing(rng: &mut Rng, max_t: usize) -> Packing {
 
 pub fn unpacking(rng: &mut Rng, max_t: usize) -> Unpacking {
     let bytes = short(150, || expected::random_pack(rng, max_t), |b| b);
-    let t = expected::fields(&bytes).map_or(1, |(c, _)| c.t as usize);
+    let t = expected::stated_triangles(&bytes);
     // A count near the limits is tried; its buffers are not: they would only be long.
     let n = if t > 400 { 5 } else { length(rng, 3 * t) };
     let lent = UnpackBuffers { triangles: vec![6; n], places: places(rng) };
@@ -98,7 +98,7 @@ pub fn unpacking(rng: &mut Rng, max_t: usize) -> Unpacking {
 /// A pack that may have positions, unpacked and measured.
 pub fn whole(rng: &mut Rng) -> Whole {
     let bytes = short(220, || expected::random_whole_pack(rng), |b| b);
-    let t = expected::stated_triangles(&bytes).unwrap_or(1);
+    let t = expected::stated_triangles(&bytes);
     let n = if t > 400 { 5 } else { length(rng, 3 * t) };
     let triangles = (0..n).map(|i| (i % 5) as u16).collect();
     let places = places(rng);

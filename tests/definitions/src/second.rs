@@ -5,7 +5,7 @@ use cutborder::book::Book;
 use cutborder::fields::Fields;
 use cutborder::ops::{encode_ops, Counts, Op};
 use cutborder::plain::{self, Chosen, PackRooms};
-use cutborder::{volume, Answer, Place, Refusal};
+use cutborder::{volume, Answer, Level, Place, Refusal};
 
 #[derive(Clone)]
 pub struct PackBuffers {
@@ -35,11 +35,7 @@ impl Packing {
         let mut left = lent.clone();
         let answer = if limits == LIMITS {
             let PackBuffers { numbering, places, pack, order } = &mut left;
-            let rooms = PackRooms { numbering, places, out: pack, order };
-            match &positions {
-                None => expected::pack(v, list, rooms),
-                Some(p) => expected::pack_whole(v, list, p, rooms),
-            }
+            expected::pack(v, list, positions.as_deref(), PackRooms { numbering, places, out: pack, order })
         } else {
             pack_within(limits, v, list, positions.as_deref(), &mut left)
         };
@@ -110,9 +106,11 @@ pub struct Unpacking {
 }
 
 impl Unpacking {
+    /// The definition `unpack` is that of packs of two fields, on which `unpackWhole` is built: to it a third field is 12, as in the base.
     pub fn new(bytes: &[u8], lent: UnpackBuffers) -> Unpacking {
         let mut left = lent.clone();
-        let answer = expected::unpack(bytes, &mut left.triangles, &mut left.places);
+        let two = Fields::split(Level::BASE, bytes);
+        let answer = two.and_then(|_| expected::unpack(bytes, &mut left.triangles, &mut left.places));
         Unpacking { bytes: bytes.to_vec(), lent, answer, left }
     }
 }
@@ -130,9 +128,9 @@ pub struct Whole {
 impl Whole {
     pub fn new(bytes: &[u8], lent: UnpackBuffers) -> Whole {
         let mut left = lent.clone();
-        let unpacked = expected::unpack_whole(bytes, &mut left.triangles, &mut left.places);
+        let unpacked = expected::unpack(bytes, &mut left.triangles, &mut left.places);
         let mut left_measured = lent.clone();
-        let measured = expected::measure(bytes, &mut left_measured.triangles, &mut left_measured.places);
+        let measured = expected::volume(bytes, &mut left_measured.triangles, &mut left_measured.places);
         Whole { bytes: bytes.to_vec(), lent, unpacked, left, measured, left_measured }
     }
 }

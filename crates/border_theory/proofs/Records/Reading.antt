@@ -6,15 +6,16 @@ use native.Mathlib.Omega.{arith}
 use mathlib.Core.Path.{_≡_, refl, sym, ap, _∙_, subst}
 use mathlib.Core.Bool.{Bool, true, false}
 use mathlib.Core.List.{List, [], _∷_, _++_}
-use lib.Dec.{ltb}
-use lib.ListN.{length, set, take, length-append, length-replicate}
+use lib.Dec.{leb, ltb}
+use lib.ListN.{length, set, take, replicate, length-append, length-replicate}
 use lib.Seq.{take-suc, set-at, set-append-left}
 use borrow.Author.Tests.{ltb-true, ltb-false}
 use Rattle.rules.specs.declared.Place.{Place}
+use Rattle.rules.specs.Limits.{maxPlaces}
 use Rattle.rules.specs.Buffer.{freePlace}
 use Rattle.rules.specs.View.{placeAt}
 use Rattle.border_theory.specs.Records.Plain.{memorySize, storedAt, recordAt, records, loaded, blank, countOf}
-use Rattle.border_theory.proofs.Records.Counting.{count-within}
+use Rattle.border_theory.proofs.Records.Counting.{count-within, count-enough}
 use Rattle.border_theory.proofs.Records.Stored.{length-stored, record-other, record-same}
 
 -- how many records of a list are read, and the plain memory that they are read into
@@ -23,6 +24,10 @@ counted ps = countOf (length ps)
 
 abbrev pub memoryOf : List Place → List ℕ
 memoryOf ps = loaded (counted ps) ps blank
+
+-- so many free records are enough if and only if the list is
+pub counted-enough : (ps : List Place) → leb maxPlaces (length ps) ≡ leb maxPlaces (length (replicate (counted ps) freePlace))
+counted-enough ps = count-enough (length ps) ∙ ap (leb maxPlaces) (sym (length-replicate (counted ps) freePlace))
 
 -- lengths
 pub length-loaded : (n : ℕ) (ps : List Place) (m : List ℕ) → length (loaded n ps m) ≡ length m

@@ -27,7 +27,7 @@ abbrev refusal : Checked → ℕ → ℕ
 refusal Accepted m = suc m
 refusal (Refused n) m = n
 
-accepted-refused : (m : ℕ) → Accepted ≡ Refused m → ⊥
+pub accepted-refused : (m : ℕ) → Accepted ≡ Refused m → ⊥
 accepted-refused m e = let k : suc m ≡ m = ap (λ (c : Checked). refusal c m) e in omega arith
 
 refused-number : (n m : ℕ) → Refused n ≡ Refused m → n ≡ m

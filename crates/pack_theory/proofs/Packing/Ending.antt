@@ -145,7 +145,7 @@ ends-sized : (v : ℕ) (xs : List ℕ) (c : Chosen) (budget : ℕ) (buffer : Lis
 ends-sized v xs c budget buffer (Refused k) fs ns rest buffer′ m e b = tt
 ends-sized v xs c budget buffer (Ended t at) fs ns rest buffer′ m e b = (omega (arith, e .writes .position), omega (arith, e .near, b))
 
-zeroed-all : (bs bs′ : List ℕ) → length bs′ ≡ length bs → zeroed (length bs′) bs′ ≡ zeroed (length bs) bs
+pub zeroed-all : (bs bs′ : List ℕ) → length bs′ ≡ length bs → zeroed (length bs′) bs′ ≡ zeroed (length bs) bs
 zeroed-all bs bs′ e =
     ap (λ (l : List ℕ). replicate (length bs′) 0 ++ l) (drop-of-length-le bs′ {i = length bs′} (omega arith))
     ∙ ap (λ (n : ℕ). replicate n 0 ++ []) e

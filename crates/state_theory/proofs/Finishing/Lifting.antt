@@ -2,12 +2,11 @@
 -- Assumes nothing.
 use Prim.Native.Nat.{ℕ, _*_, _≤_}
 use native.Mathlib.Omega.{arith}
-use mathlib.Core.Bool.{Bool, true, false, _&&_}
+use mathlib.Core.Bool.{Bool, _&&_}
 use mathlib.Core.List.{List}
-use mathlib.Core.Path.{_≡_, refl, sym, ap, ap₂, _∙_}
-use lib.ListN.{length, length-replicate}
-use lib.Dec.{leb, ltb}
-use borrow.Author.Tests.{le-leb, ltb-false}
+use mathlib.Core.Path.{_≡_, sym, ap, ap₂, _∙_}
+use lib.ListN.{length}
+use lib.Dec.{leb}
 use Rattle.rules.specs.declared.Counts.{Counts}
 use Rattle.rules.specs.declared.Place.{Place}
 use Rattle.rules.specs.declared.Builder.{Builder}
@@ -18,24 +17,14 @@ use Rattle.rules.specs.Limits.{maxPlaces, inRange}
 use Rattle.rules.specs.Machine.{begun, empty, test, beginning}
 use Rattle.rules.specs.Answer.{begunAnswer}
 use Rattle.rules.specs.Book.{answerOf}
-use Rattle.rules.specs.Buffer.{freePlace, cleared, Buffers}
+use Rattle.rules.specs.Buffer.{cleared, Buffers}
 use Rattle.rules.specs.Build.{begins, BegunBy, Begins}
-use Rattle.border_theory.specs.Records.Plain.{countOf}
-use Rattle.border_theory.proofs.Records.Reading.{counted}
+use Rattle.border_theory.proofs.Records.Reading.{counted, counted-enough}
 use Rattle.border_theory.specs.Records.Changes.{clearedTo}
 use Rattle.border_theory.proofs.Records.Counting.{count-within}
 use Rattle.border_theory.proofs.Records.Clearing.{cleared-to}
 use Rattle.border_theory.specs.Records.Lent.{lent as lentOf}
 use Rattle.state_theory.specs.Finishing.Core.{BegunLeaves, BeginsOn, clearedAfter, clearedBy}
-
--- of a list's length only whether it is 1,024 counts
-counted-long : (k : ℕ) → leb maxPlaces (countOf k) ≡ leb maxPlaces k
-unfolding countOf
-counted-long k = go (ltb k maxPlaces) refl
-  where
-    go : (t : Bool) → ltb k maxPlaces ≡ t → leb maxPlaces (elim t [ true ↦ k | false ↦ maxPlaces ]) ≡ leb maxPlaces k
-    go true e = refl
-    go false e = sym (le-leb maxPlaces k (ltb-false k maxPlaces e))
 
 module _ (stated : Counts) (xs : List ℕ) (ps : List Place) where
   abbrev list : Buffers
@@ -45,7 +34,7 @@ module _ (stated : Counts) (xs : List ℕ) (ps : List Place) where
   unfolding beginning
   begins-same =
       ap (λ (b : Bool). test (inRange stated) 13 (test (leb (3 * stated .triangles) (length xs) && b) 14 (begun (empty stated))))
-      (ap (leb maxPlaces) (length-replicate (counted ps) freePlace) ∙ counted-long (length ps))
+      (sym (counted-enough ps))
 
   left-by : (a : Checked) (b : Builder) (xs′ : List ℕ) (ps′ : List Place) → BegunLeaves stated xs (counted ps) a b xs′
       → ps′ ≡ clearedTo (clearedAfter a) ps → BegunBy list stated a b (record { triangles = xs′; places = ps′ })

@@ -1,16 +1,19 @@
-//! The programs `unpack` and `pack` compared with the second program. `programs FOLDER`
+//! The programs `unpack`, `volume` and `pack` compared with the second program. `programs FOLDER`
 //!
-//! Every pack and model of the second program's vectors, random ones, sound and spoilt, input that is too long, and input that is none;
-//! packs in files that are named; files that are not there; what cannot be read.
+//! Every pack and model of the second program's vectors, random ones, sound and spoilt, with positions and without, input that is too long,
+//! and input that is none; packs in files that are named; files that are not there; what cannot be read.
 
-use compare::expected;
+use compare::expected::{self, UNFIT};
+use compare::texts;
 use cutborder::gen::{self, Model};
+use cutborder::gen02;
 use cutborder::proto::unhex;
 use cutborder::rng::Rng;
 use std::ffi::{c_char, CStr};
 use std::fs::{self, File, OpenOptions};
 use std::io::Write;
 use std::os::fd::FromRawFd;
+use std::path::{Path, PathBuf};
 use std::process::{Command, Stdio};
 
 const PACKS: &str = include_str!("../../../../reference/vectors/packs.txt");
@@ -44,55 +47,98 @@ fn printed_from(command: &str, program: &str, input: Stdio) -> (String, String) 
     (String::from_utf8(out.stdout).expect("text"), String::from_utf8(out.stderr).expect("text"))
 }
 
-/// The program `unpack` on packs of all kinds.
-fn unpacks(program: &str) -> usize {
+/// A torus of the most vertices and triangles.
+fn torus() -> Model {
+    Model::of(&gen::grid(64, 64, true, true, || true))
+}
+
+/// Bytes that are the two fields, whole and in order, and so many in all.
+fn fields_of_length(n: usize) -> Vec<u8> {
+    let mut bytes = unhex("0100080003000100030001020000").expect("hexadecimal");
+    bytes[12..].copy_from_slice(&((n - 14) as u16).to_be_bytes());
+    bytes.resize(n, 0xe0);
+    bytes
+}
+
+/// A program that reads packs, on packs of all kinds.
+fn readings(program: &str, expected: fn(&[u8]) -> String) -> usize {
     let mut packs: Vec<Vec<u8>> = PACKS.lines().filter(|l| !l.starts_with('#')).map(|l| unhex(l).expect("hexadecimal")).collect();
     let mut rng = Rng::new(7);
     packs.extend((0..150).map(|_| expected::random_pack(&mut rng, 100)));
-    packs.push(expected::packed(&Model::of(&gen::grid(64, 64, true, true, || true))).expect("a pack"));
-    packs.extend([vec![0; 65_536], vec![0; 65_537], vec![1; 200_000]]);
+    packs.extend((0..400).map(|_| expected::random_whole_pack(&mut rng)));
+    let positions = gen02::positions(&mut rng, 4_096);
+    packs.extend([None, Some(&positions[..])].map(|p| expected::packed(&torus(), p).expect("a pack")));
+    packs.extend([vec![0; 65_536], vec![0; 65_537], vec![1; 200_000], fields_of_length(65_536), fields_of_length(65_537)]);
     for p in &packs {
-        assert_eq!(printed(program, p), compare::printed(p), "pack of {} bytes: {:02x?}", p.len(), &p[..p.len().min(60)]);
+        assert_eq!(printed(program, p), expected(p), "pack of {} bytes: {:02x?}", p.len(), &p[..p.len().min(60)]);
     }
     packs.len()
 }
 
-/// What the program writes to the file that `--order` names, and beside it; a file that held something before.
-fn ordered(program: &str, input: &[u8]) -> (Vec<u8>, String) {
-    let file = std::env::temp_dir().join(format!("order-{}", std::process::id()));
-    fs::write(&file, OLD_ORDER).expect("a file");
-    let out = written(program, &["--order", file.to_str().expect("a name")], input);
-    let order = fs::read_to_string(&file).expect("the order");
-    fs::remove_file(&file).expect("the file");
-    (out, order)
+/// A folder of this process's own.
+fn fresh_folder(name: &str) -> PathBuf {
+    let folder = std::env::temp_dir().join(format!("{name}-{}", std::process::id()));
+    fs::create_dir_all(&folder).expect("a folder");
+    folder
 }
 
-/// The program `pack` on models of all kinds, the paper's and both fans among them; and what `unpack` prints for its packs.
-fn packs(folder: &str) -> usize {
-    let (pack, unpack) = (format!("{folder}/pack"), format!("{folder}/unpack"));
-    let mut texts: Vec<String> = MODELS.lines().chain(MORE_MODELS.lines()).filter(|l| !l.starts_with('#')).map(String::from).collect();
-    let mut rng = Rng::new(11);
-    texts.extend([gen::fan(1_024), gen::fan(1_025), Model::of(&gen::grid(64, 64, true, true, || true))].iter().map(Model::line));
-    texts.extend((0..100).map(|_| gen::model(&mut rng, 150).line()));
-    let mut n = 0;
-    for text in &texts {
-        let words: Vec<u64> = text.split_ascii_whitespace().filter_map(|w| w.parse().ok()).collect();
-        let list: Vec<u16> = words[1..].iter().map(|&x| x as u16).collect();
-        let spaced = text.replace(' ', if n % 2 == 0 { " " } else { "\n\t" });
-        let answer = written(&pack, &[], spaced.as_bytes());
-        let (expected, order) = compare::written(words[0], &list);
-        assert_eq!(answer, expected, "model {text}");
-        assert_eq!(ordered(&pack, spaced.as_bytes()), (expected, order.unwrap_or(OLD_ORDER.into())), "model {text}");
-        if !answer.starts_with(b"refused") {
-            assert_eq!(printed(&unpack, &answer), compare::printed(&answer), "model {text}");
-        }
-        n += 1;
+/// What the program writes with `--order`, and to the file that this names, which held something before; positions are given as text.
+fn ordered(program: &str, folder: &Path, input: &[u8], positions: Option<&str>) -> (Vec<u8>, String) {
+    let name = |file: &str| folder.join(file).to_str().expect("a name").to_string();
+    let mut args = vec!["--order".to_string(), name("order")];
+    fs::write(&args[1], OLD_ORDER).expect("a file");
+    if let Some(text) = positions {
+        let at = if text.len() % 2 == 0 { 0 } else { 2 };
+        args.splice(at..at, ["--positions".to_string(), name("positions")]);
+        fs::write(name("positions"), text).expect("a file");
     }
+    let out = written(program, &args.iter().map(String::as_str).collect::<Vec<_>>(), input);
+    (out, fs::read_to_string(name("order")).expect("the order"))
+}
+
+/// The packings of a model, without positions, with some and with such that do not fit; and what is read from the packs.
+fn packings(folder: &str, own: &Path, rng: &mut Rng, text: &str) -> usize {
+    let words: Vec<u64> = text.split_ascii_whitespace().filter_map(|w| w.parse().ok()).collect();
+    let (v, list) = (words[0], words[1..].iter().map(|&x| x as u16).collect::<Vec<u16>>());
+    let spaced = text.replace(' ', if list.len() % 2 == 0 { " " } else { "\n\t" });
+    let sound = gen02::positions(rng, v.clamp(1, 4_096) as usize);
+    let mut unfit = sound.clone();
+    UNFIT[rng.below(UNFIT.len())].1(rng, &mut unfit);
+    assert_eq!(written(&format!("{folder}/pack"), &[], spaced.as_bytes()), texts::packed(v, &list, None).0, "model {text}");
+    for positions in [None, Some(sound), Some(unfit)] {
+        let (pack, order) = texts::packed(v, &list, positions.as_deref());
+        let grid = positions.as_deref().map(texts::lines_of);
+        let answer = ordered(&format!("{folder}/pack"), own, spaced.as_bytes(), grid.as_deref());
+        assert_eq!(answer, (pack.clone(), order.clone().unwrap_or(OLD_ORDER.into())), "model {text}, positions {positions:?}");
+        if order.is_some() {
+            assert_eq!(printed(&format!("{folder}/unpack"), &pack), texts::unpacked(&pack), "model {text}");
+            assert_eq!(printed(&format!("{folder}/volume"), &pack), texts::measured(&pack), "model {text}, positions {positions:?}");
+        }
+    }
+    4
+}
+
+/// The program `pack` on models of all kinds, the paper's and both fans among them; and what the others print for its packs.
+fn packs(folder: &str) -> usize {
+    let mut models: Vec<String> = MODELS.lines().chain(MORE_MODELS.lines()).filter(|l| !l.starts_with('#')).map(String::from).collect();
+    let mut rng = Rng::new(11);
+    models.extend([gen::fan(1_024), gen::fan(1_025), torus()].iter().map(Model::line));
+    models.extend((0..100).map(|_| gen::model(&mut rng, 150).line()));
+    models.extend((0..200).map(|_| gen02::model(&mut rng).line()));
+    let own = fresh_folder("pack");
+    let mut n: usize = models.iter().map(|text| packings(folder, &own, &mut rng, text)).sum();
+    let pack = format!("{folder}/pack");
+    let too_many = texts::lines_of(&[0; 3 * 4_096 + 1]);
+    assert_eq!(ordered(&pack, &own, torus().line().as_bytes(), Some(&too_many)), (b"refused 23\n".to_vec(), OLD_ORDER.into()));
+    fs::remove_dir_all(&own).expect("the folder");
     for (text, line) in [
         ("", NO_MODEL),
         ("x", NO_MODEL),
         ("3 0 1 -2", NO_MODEL),
+        ("3 0 1 -0", NO_MODEL),
+        ("-3 0 1 2", NO_MODEL),
         ("3 0 1 65536", NO_MODEL),
+        ("3 0 1 65535", "refused 3\n"),
         ("3", "refused 1\n"),
         ("65536 0 1 2", "refused 2\n"),
         ("99999999999999999999999 0 1 2", "refused 2\n"),
@@ -101,7 +147,7 @@ fn packs(folder: &str) -> usize {
         n += 1;
     }
     assert_eq!(printed(&pack, "3 ".repeat(30_000).as_bytes()), "refused 1\n");
-    n + 1
+    n + 2
 }
 
 extern "C" {
@@ -143,22 +189,22 @@ fn odd(program: &str, line: &str) -> usize {
     4
 }
 
-/// The program `unpack` on files: those that are there print as they would alone, each other gets a line of its own on standard error.
-fn named(unpack: &str) -> usize {
-    let folder = std::env::temp_dir().join(format!("unpack-{}", std::process::id()));
-    fs::create_dir_all(&folder).expect("a folder");
+/// A program that reads packs, on files: those that are there print as they would alone, each other gets a line of its own on standard
+/// error.
+fn named(program: &str, expected: fn(&[u8]) -> String) -> usize {
+    let folder = fresh_folder("named");
     let packs: Vec<Vec<u8>> = PACKS.lines().filter(|l| !l.starts_with('#')).take(9).map(|l| unhex(l).expect("hexadecimal")).collect();
-    let (mut command, mut expected) = (Command::new(unpack), String::new());
+    let (mut command, mut text) = (Command::new(program), String::new());
     for (i, p) in packs.iter().enumerate() {
         let file = folder.join(i.to_string());
         fs::write(&file, p).expect("a pack");
         command.arg(&file).arg(folder.join(format!("no{i}")));
-        expected += &compare::printed(p);
+        text += &expected(p);
     }
     let out = command.arg("").arg("x".repeat(5_000)).arg(&folder).stdin(Stdio::null()).output().expect("the program starts");
     fs::remove_dir_all(&folder).expect("the folder");
     assert!(out.status.success(), "status {:?}", out.status);
-    assert_eq!(String::from_utf8_lossy(&out.stdout), expected);
+    assert_eq!(String::from_utf8_lossy(&out.stdout), text);
     let said = String::from_utf8_lossy(&out.stderr).into_owned();
     assert_eq!(said.lines().count(), packs.len() + 3, "{said}");
     assert!((0..packs.len()).all(|i| said.contains(&format!("no{i}: No such file"))), "{said}");
@@ -170,9 +216,11 @@ fn main() {
         eprintln!("usage: programs FOLDER");
         std::process::exit(2);
     };
-    let unpack = format!("{folder}/unpack");
-    let alike = unpacks(&unpack) + named(&unpack) + odd(&unpack, "refused 12\n");
-    println!("program unpack: {alike} inputs alike");
+    for (name, expected) in [("unpack", texts::unpacked as fn(&[u8]) -> String), ("volume", texts::measured)] {
+        let program = format!("{folder}/{name}");
+        let alike = readings(&program, expected) + named(&program, expected) + odd(&program, "refused 12\n");
+        println!("program {name}: {alike} inputs alike");
+    }
     let alike = packs(&folder) + odd(&format!("{folder}/pack"), NO_MODEL);
     println!("program pack: {alike} inputs alike");
 }

@@ -1,8 +1,10 @@
 //! What the stored programs of crates/ are run on, and what they must print: `stored FOLDER` writes stdin, args, data and stdout of
 //! each into FOLDER, from the second program's vectors and answers. The test command holds them against the stored ones.
 
-use compare::expected::{self, Calls};
-use compare::{printed, written};
+use compare::expected::{self, contents_of, with_field, Calls};
+use compare::texts;
+use cutborder::gen::{self, Model};
+use cutborder::gen02;
 use cutborder::proto::unhex;
 use cutborder::rng::Rng;
 use std::fs;
@@ -14,8 +16,11 @@ const CALLS: &str = include_str!("../../../../reference/vectors/calls.txt");
 /// A pack that 20 refuses; those of the vectors have the peaks of full loops.
 const TWENTY: &str = "0100080005000400050002020005e0370026db";
 
-/// M2 of the paper.
+/// M2 of the paper, as text and as a list, its triangles turned over, and corners for it: six times its volume is -125.
+const M2_TEXT: &[u8] = b"4\n0 1 2\n1 0 3\n2 1 3\n0 2 3\n";
 const M2: [u16; 12] = [0, 1, 2, 1, 0, 3, 2, 1, 3, 0, 2, 3];
+const M2_TURNED: [u16; 12] = [1, 0, 2, 0, 1, 3, 1, 2, 3, 2, 0, 3];
+const CORNERS: [i32; 12] = [0, 0, 0, 5, 0, 0, 0, 5, 0, 0, 0, 5];
 
 /// A program's input and the output that is expected.
 fn store(folder: &Path, program: &str, input: &[u8], output: &[u8]) {
@@ -25,30 +30,56 @@ fn store(folder: &Path, program: &str, input: &[u8], output: &[u8]) {
     fs::write(at.join("stdout"), output).expect("stdout");
 }
 
-/// The files that the program `unpack` is given beside M2 on standard input, and all that it must print: the other models of the
-/// vectors that are accepted, and the first pack of each refusal.
-fn unpacks(folder: &Path, m2: &[u8]) {
-    let (mut args, mut output) = (String::from("-\n"), printed(m2));
-    fs::create_dir_all(folder.join("unpack/data")).expect("a folder");
-    for (i, line) in PACKS.lines().filter(|l| !l.starts_with('#')).chain([TWENTY]).enumerate() {
-        let pack = unhex(line).expect("hexadecimal");
+/// A file that a program finds where it is run.
+fn store_data(folder: &Path, program: &str, name: &str, contents: &[u8]) {
+    let at = folder.join(program).join("data");
+    fs::create_dir_all(&at).expect("a folder");
+    fs::write(at.join(name), contents).expect("data");
+}
+
+/// Packs with positions: M2's, turned over, and with positions that 23 refuses; a triangle's, which has a rim; spheres of any size.
+fn whole_packs() -> Vec<Vec<u8>> {
+    let m2 = |list: &[u16]| texts::packed(4, list, Some(&CORNERS)).0;
+    let (two, _) = texts::packed(4, &M2, None);
+    let rim = texts::packed(3, &[0, 1, 2], Some(&CORNERS[..9])).0;
+    let mut packs = vec![m2(&M2), m2(&M2_TURNED), with_field(&two, &contents_of(&CORNERS[..9])), rim];
+    let mut rng = Rng::new(13);
+    packs.extend((1..4).map(|f| {
+        let sphere = Model::of(&gen::icosphere(f));
+        expected::packed(&sphere, Some(&gen02::positions(&mut rng, sphere.v as usize))).expect("a pack")
+    }));
+    packs
+}
+
+/// The files that a program is given that reads packs, beside one on standard input, and all that it must print: each that is accepted,
+/// of all that follow, and the first pack of each refusal.
+fn readings(folder: &Path, program: &str, first: &[u8], printed: fn(&[u8]) -> String, refusals: &[u8]) {
+    let (mut args, mut output) = (String::from("-\n"), printed(first));
+    let vectors = PACKS.lines().filter(|l| !l.starts_with('#')).chain([TWENTY]).map(|l| unhex(l).expect("hexadecimal"));
+    for (i, pack) in vectors.chain(whole_packs()).enumerate() {
         let text = printed(&pack);
         let name = match text.strip_prefix("refused ") {
             Some(n) => format!("refused-{}", n.trim_end()),
             None => format!("accepted-{}", i + 1),
         };
-        let file = folder.join("unpack/data").join(&name);
-        if pack != m2 && !file.exists() {
-            fs::write(file, &pack).expect("a pack");
+        if pack != first && !args.contains(&format!("{name}\n")) {
+            store_data(folder, program, &name, &pack);
             args += &(name + "\n");
             output += &text;
         }
     }
-    for n in [12, 13, 15, 16, 17, 18, 19, 20] {
-        assert!(args.contains(&format!("refused-{n}\n")), "no pack that {n} refuses");
+    for n in refusals {
+        assert!(args.contains(&format!("refused-{n}\n")), "{program}: no pack that {n} refuses");
     }
-    fs::write(folder.join("unpack/args"), args).expect("args");
-    store(folder, "unpack", m2, output.as_bytes());
+    store(folder, program, first, output.as_bytes());
+    fs::write(folder.join(program).join("args"), args).expect("args");
+}
+
+/// M2 with positions for the program `pack`.
+fn packing(folder: &Path) {
+    store(folder, "pack", M2_TEXT, &texts::packed(4, &M2, Some(&CORNERS)).0);
+    store_data(folder, "pack", "corners", texts::lines_of(&CORNERS).as_bytes());
+    fs::write(folder.join("pack/args"), "--positions\ncorners\n").expect("args");
 }
 
 /// Building calls: the vectors, lines that are no call, and random lists, model after model.
@@ -70,9 +101,12 @@ fn main() {
         eprintln!("usage: stored FOLDER");
         std::process::exit(2);
     };
+    let folder = Path::new(&folder);
     let (input, output) = calls();
-    store(Path::new(&folder), "build", input.as_bytes(), output.as_bytes());
-    let (bytes, _) = written(4, &M2);
-    store(Path::new(&folder), "pack", b"4\n0 1 2\n1 0 3\n2 1 3\n0 2 3\n", &bytes);
-    unpacks(Path::new(&folder), &bytes);
+    store(folder, "build", input.as_bytes(), output.as_bytes());
+    packing(folder);
+    let (m2, _) = texts::packed(4, &M2, None);
+    readings(folder, "unpack", &m2, texts::unpacked, &[12, 13, 15, 16, 17, 18, 19, 20, 23]);
+    let (m2, _) = texts::packed(4, &M2, Some(&CORNERS));
+    readings(folder, "volume", &m2, texts::measured, &[12, 13, 15, 16, 17, 18, 19, 20, 23, 24]);
 }

@@ -7,44 +7,38 @@ use Rattle.text.proofs.words.number_of.Statement.{statement}
 use Rattle.text.proofs.words.number_of.Tie as tie
 
 abbrev Inv-loop : tie.InvT-loop
-Inv-loop text value₀ i₀ value i = (i ≤ length text) × (value ≤ 65535)
+Inv-loop text value₀ i₀ value i = i ≤ length text
 
 abbrev μ-loop : tie.MeasureT-loop
 μ-loop text value₀ i₀ value i = length text - i
 
--- src/lib.rt:95:5
 loop-holds : tie.Need-loop-holds Inv-loop μ-loop
 loop-holds c = search needs
 
--- src/lib.rt:96:17
 shared-slice-read-b : tie.Need-shared-slice-read-b Inv-loop μ-loop
 shared-slice-read-b c = search needs
 
--- src/lib.rt:98:13
 returns : tie.Need-returns Inv-loop μ-loop
 returns c = search needs
 
--- src/lib.rt:101:13
 returns-2 : tie.Need-returns-2 Inv-loop μ-loop
 returns-2 c = search needs
 
--- src/lib.rt:103:9
 more-requires : tie.Need-more-requires Inv-loop μ-loop
 more-requires c κs = search needs
 
--- src/lib.rt:104:9
 add-i : tie.Need-add-i Inv-loop μ-loop
 add-i c = search needs
 
--- src/lib.rt:95:5
 loop-less : tie.Need-loop-less Inv-loop μ-loop
 loop-less c = search needs
 
--- src/lib.rt:95:5
 loop-again : tie.Need-loop-again Inv-loop μ-loop
 loop-again c = search needs
 
--- src/lib.rt:92:1
+clamped-requires : tie.Need-clamped-requires Inv-loop μ-loop
+clamped-requires c κs = search needs
+
 returns-3 : tie.Need-returns-3 Inv-loop μ-loop
 returns-3 c = search needs
 
@@ -62,4 +56,5 @@ number-of-spec =
     add-i
     loop-less
     loop-again
+    clamped-requires
     returns-3)

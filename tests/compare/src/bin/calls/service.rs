@@ -2,10 +2,10 @@
 
 use crate::words::{ample, hash, hash_places, joined, number, Args, Text};
 use compare::expected::LEVEL;
-use compare::{check, pack, unpack, Buffers, Building, STATE};
+use compare::{check, narrow, pack, unpack, volume, Buffers, Building, STATE};
 use cutborder::ops::{Counts, Op};
 use cutborder::proto::hex;
-use cutborder::{Place, Refusal};
+use cutborder::{Answer, Place, Refusal};
 
 /// What a buffer's numbers hold before a call, its bytes, and its place records.
 const NUMBER: u16 = 43_690;
@@ -13,9 +13,8 @@ const BYTE: u8 = 0xaa;
 const PLACE: Place = Place { vertex: NUMBER, before: NUMBER, after: NUMBER, open: true };
 
 /// Calls and arguments of requests that have not landed.
-const LATER: [&str; 13] =
-    ["volume", "bench", "reader", "totals", "scan", "table", "fans", "sprues", "seat", "turn", "fetch", "window", "as"];
-const LATER_GIVEN: [&str; 3] = ["positions", "note", "codes"];
+const LATER: [&str; 12] = ["bench", "reader", "totals", "scan", "table", "fans", "sprues", "seat", "turn", "fetch", "window", "as"];
+const LATER_GIVEN: [&str; 2] = ["note", "codes"];
 
 /// The builder, with the buffers of the last accepted beginning.
 pub struct Calls {
@@ -48,7 +47,14 @@ impl Calls {
                 let (v, list) = args.model()?;
                 Ok(answer(check(v as usize, &list).map(|()| String::new())))
             }
-            ("unpack", _) => unpacking(&args),
+            ("unpack", _) => in_buffers(&args, |b, triangles, places| {
+                let a = unpack(b, triangles, places)?;
+                Ok(format!("{} triangles={}", six_numbers(&a), joined(&triangles[..3 * a.t as usize])))
+            }),
+            ("volume", _) => in_buffers(&args, |b, triangles, places| {
+                let (a, six) = volume(b, triangles, places)?;
+                Ok(format!("{} six={six}", six_numbers(&a)))
+            }),
             ("begin", _) => self.begin(&args),
             ("op", _) => {
                 let built = self.builder.operate(operation(rest).ok_or("no such operation")?);
@@ -104,7 +110,8 @@ fn packing(args: &Args) -> Text {
         pack: vec![BYTE; args.length("room", 65_536)?],
         order: vec![NUMBER; args.length("order", t)?],
     };
-    let head = answer(pack(v as usize, &list, b.lend()).map(|n| {
+    let positions = args.positions()?.map(|zs| narrow(&zs));
+    let head = answer(pack(v as usize, &list, positions.as_deref(), b.lend()).map(|n| {
         let (numbering, order) = (joined(&b.numbering[..v as usize]), joined(&b.order[..t]));
         format!("len={n} pack={} numbering={numbering} order={order}", hex(&b.pack[..n]))
     }));
@@ -112,14 +119,16 @@ fn packing(args: &Args) -> Text {
     Ok(format!("{head} | rooms numbering={numbering} places={places} room={room} order={order}"))
 }
 
-fn unpacking(args: &Args) -> Text {
+fn six_numbers(a: &Answer) -> String {
+    format!("{} {} {} {} {} {}", a.v, a.t, a.edges, a.rims, a.unions, a.euler)
+}
+
+/// A call that reads a pack, in the buffers that the line asks for.
+fn in_buffers(args: &Args, call: impl Fn(&[u8], &mut [u16], &mut [Place]) -> Result<String, Refusal>) -> Text {
     let bytes = args.pack()?;
     let mut triangles = vec![NUMBER; args.length("triangles", ample(&bytes))?];
     let mut places = vec![PLACE; args.length("places", 1_024)?];
-    let head = answer(unpack(&bytes, &mut triangles, &mut places).map(|a| {
-        let built = joined(&triangles[..3 * a.t as usize]);
-        format!("{} {} {} {} {} {} triangles={built}", a.v, a.t, a.edges, a.rims, a.unions, a.euler)
-    }));
+    let head = answer(call(&bytes, &mut triangles, &mut places));
     Ok(format!("{head} | rooms triangles={} places={}", hash(&triangles), hash_places(&places)))
 }
 

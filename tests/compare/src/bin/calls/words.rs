@@ -4,6 +4,7 @@ use compare::expected;
 use cutborder::proto::unhex;
 use cutborder::Place;
 use std::fmt::{Display, Write};
+use std::str::FromStr;
 
 /// The longest buffer that a line may ask for.
 const LONGEST_BUFFER: u64 = 1 << 24;
@@ -48,14 +49,22 @@ impl<'a> Args<'a> {
         unhex(self.get("pack").ok_or("no pack")?).ok_or("not hexadecimal")
     }
 
+    /// A list, if it is given.
+    fn list<T: FromStr>(&self, key: &str) -> Result<Option<Vec<T>>, &'static str> {
+        match self.get(key) {
+            None => Ok(None),
+            Some("") => Ok(Some(Vec::new())),
+            Some(s) => s.split(',').map(str::parse).collect::<Result<_, _>>().map(Some).map_err(|_| "no such list"),
+        }
+    }
+
     /// V and the list.
     pub fn model(&self) -> Result<(u64, Vec<u16>), &'static str> {
-        let v = self.number("v")?;
-        let list = match self.get("list").ok_or("no list")? {
-            "" => Vec::new(),
-            s => s.split(',').map(str::parse).collect::<Result<_, _>>().map_err(|_| "no such list")?,
-        };
-        Ok((v, list))
+        Ok((self.number("v")?, self.list("list")?.ok_or("no list")?))
+    }
+
+    pub fn positions(&self) -> Result<Option<Vec<i32>>, &'static str> {
+        self.list("positions")
     }
 }
 
@@ -65,7 +74,7 @@ pub fn number(s: &str) -> Option<u64> {
 
 /// The triangle buffer that is ample for a pack.
 pub fn ample(pack: &[u8]) -> usize {
-    expected::fields(pack).map_or(UNKNOWN, |(counts, _)| 3 * counts.t as usize)
+    expected::fields(pack).map_or(UNKNOWN, |f| 3 * f.counts.t as usize)
 }
 
 pub fn joined<T: Display>(items: &[T]) -> String {

@@ -1,0 +1,84 @@
+//! The cost of positions: packing and unpacking with them, and the volume, which is to cost at most 10 nanoseconds a triangle more than
+//! unpacking the same pack.
+
+use crate::{grown, medians, packings, print_ratio, unpackings};
+use compare::expected::{self, LEVEL};
+use cutborder::fast::Unpacker;
+use cutborder::gen::{self, Model};
+use cutborder::rng::Rng;
+use cutborder::{volume, Place};
+use std::hint::black_box;
+
+/// A pack's first two fields, and the contents of a third.
+pub fn parts(pack: &[u8]) -> (&[u8], Option<&[u8]>) {
+    let f = expected::fields(pack).expect("a pack");
+    (&pack[..14 + f.ops.len()], f.positions)
+}
+
+/// Positions by old vertex, tested and written as the second program does it.
+pub fn put_field(out: &mut [u8], positions: &[i32], numbering: &[u16]) {
+    assert!(positions.len() == 3 * numbering.len() && positions.iter().all(|&z| volume::in_range(z)));
+    let contents = volume::write(positions, numbering);
+    out[0] = 3;
+    out[1..3].copy_from_slice(&(contents.len() as u16).to_be_bytes());
+    out[3..3 + contents.len()].copy_from_slice(&contents);
+}
+
+/// The models of the first table as they are made and shuffled, and closed ones of growing size.
+fn models() -> Vec<(String, Model)> {
+    let mut rng = Rng::new(42);
+    let mut out = Vec::new();
+    for (name, m) in grown() {
+        let shuffled = gen::relist(&mut rng, &m);
+        out.push((name.into(), m));
+        out.push((format!("{name} shuffled"), shuffled));
+    }
+    let torus = |n: usize| (format!("torus {}", 2 * n * n), Model::of(&gen::grid(n, n, true, true, || true)));
+    out.extend([8, 16, 32].map(torus));
+    out
+}
+
+/// The volume call, and the second program's fast engine followed by its sum of determinants; and the same pack unpacked by the service.
+fn volumes(pack: &[u8], m: &Model, repeats: usize) -> Option<((f64, f64), (f64, f64))> {
+    let (mut triangles, mut expected) = (vec![0; m.list.len()], vec![0; m.list.len()]);
+    let (mut places, mut expected_places) = (vec![Place::default(); 1_024], vec![Place::default(); 1_024]);
+    compare::volume(pack, &mut triangles, &mut places).ok()?;
+    let (two, field) = parts(pack);
+    let field = field.expect("positions");
+    let mut unpacker = Unpacker::new();
+    let mut ours = || _ = black_box(compare::volume(black_box(pack), &mut triangles, &mut places)).expect("a volume");
+    let theirs = || {
+        black_box(unpacker.unpack_at(LEVEL, black_box(two), &mut expected, &mut expected_places)).expect("an accepted pack");
+        assert!(volume::sound(black_box(field), m.v as u32));
+        black_box(volume::six(black_box(expected.as_chunks().0), field));
+    };
+    let ratio = medians(repeats, &mut ours, theirs);
+    let (mut unpacked, mut cleared) = (vec![0; m.list.len()], vec![Place::default(); 1_024]);
+    let unpacking = || _ = black_box(compare::unpack(black_box(pack), &mut unpacked, &mut cleared)).expect("an accepted pack");
+    Some((ratio, medians(repeats, &mut ours, unpacking)))
+}
+
+/// Prints a line for each model; one with a rim has no volume.
+pub fn table(repeats: usize) {
+    println!("with positions: nanoseconds a triangle, median of {repeats} calls, ours and the second program's, and their ratio");
+    println!("its fast engine has no positions: what it has for them elsewhere, written plainly, is called after the engine");
+    println!("more: what the volume costs more than unpacking the same pack, ours; at most 10 is asked");
+    println!(
+        "{:<16} {:>6} {:>6}  {:>8} {:>8} {:>6}  {:>8} {:>8} {:>6}  {:>8} {:>8} {:>6}  {:>6}",
+        "model", "V", "T", "unpack", "second", "ratio", "pack", "second", "ratio", "volume", "second", "ratio", "more"
+    );
+    let mut rng = Rng::new(13);
+    for (name, m) in models() {
+        let t = (m.list.len() / 3) as f64;
+        let positions: Vec<i32> = (0..3 * m.v).map(|_| rng.below(4_096) as i32 - 2_048).collect();
+        print!("{name:<16} {:>6} {:>6}", m.v, t);
+        print_ratio(unpackings(&m, Some(&positions), repeats), t);
+        print_ratio(packings(&m, Some(&positions), repeats), t);
+        let pack = expected::packed(&m, Some(&positions)).expect("a pack");
+        if let Some((ratio, (volume, unpack))) = volumes(&pack, &m, repeats) {
+            print_ratio(ratio, t);
+            print!("  {:>6.1}", (volume - unpack) / t);
+        }
+        println!();
+    }
+}

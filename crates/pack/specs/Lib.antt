@@ -1,0 +1,3 @@
+-- What the contracts of this program cite.
+-- Assumes nothing.
+pub mod Texts

@@ -1,0 +1,54 @@
+// The positions' file, and the positions of its numbers.
+use crate::numbers::Told;
+use crate::numbers::read_numbers;
+use crate::numbers::say_unread;
+use rules::VERTICES;
+use text::streams::say_failed;
+ghost use Prim.Native.Nat.{_≤_};
+ghost use lib.ListN.{length};
+ghost use Rattle.pack.specs.Texts.{Holds};
+
+// Three positions for each vertex, and one more to tell a longer list.
+pub const POSITIONS: usize = 3 * VERTICES + 1;
+
+// Reads the numbers of the file of a name, as many as fit, or says why it cannot be read whole.
+pub fn read_positions(name: &[u8], part: &mut [u8], numbers: &mut [u16]) -> Told
+    ensures { λ r. ⌜ Holds r (now (numbers .exit)) ⌝ }
+{
+    let fd = os::open_read(name);
+    if fd < 0 {
+        say_failed(b"pack", name);
+        return Told::Unread;
+    }
+    let t = read_numbers(fd, true, part, numbers);
+    say_unread(
+        t,
+        name,
+        b"the positions are too long: they have 16,777,216 bytes or more",
+    );
+    libc::close(fd);
+    t
+}
+
+// A number of 16 bits as a signed one: a negative number n stands as 65,536 + n.
+fn signed(w: u16) -> i16 {
+    if w < 32768 {
+        return w as i16;
+    }
+    -1 - ((65535 - w) as i16)
+}
+
+// Puts the positions that numbers stand for into a buffer, as many as fit, and answers how many.
+pub fn put_positions(numbers: &[u16], positions: &mut [i16]) -> usize
+    ensures { λ r. ⌜ r ≤ length (now (positions .exit)) ⌝ }
+{
+    let mut i = 0;
+    while i < numbers.len() {
+        if positions.len() <= i {
+            return i;
+        }
+        positions[i] = signed(numbers[i]);
+        i += 1;
+    }
+    i
+}

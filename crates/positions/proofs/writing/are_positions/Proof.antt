@@ -1,0 +1,79 @@
+-- `positions::writing::are_positions` meets its contract.
+-- The loop's invariant: the positions from i on are in range. The measure is i.
+-- Assumes nothing.
+use native.Mathlib.Omega.{arith}
+use Prim.Native.Nat.{_-_}
+use borrow.Author.Needs.{needs}
+use borrow.Author.Tests.{not-true, not-false}
+use Rattle.positions_theory.proofs.Words.{Near, other-count, none-near, more-near, one-far, all-near, near-told}
+use Rattle.positions.proofs.writing.are_positions.Statement.{statement}
+use Rattle.positions.proofs.writing.are_positions.Tie as tie
+
+abbrev Inv-loop : tie.InvT-loop
+Inv-loop positions v i₀ i = Near positions v i
+
+abbrev μ-loop : tie.MeasureT-loop
+μ-loop positions v i₀ i = i
+
+returns : tie.Need-returns Inv-loop μ-loop
+returns c = let a = c .before .args in other-count (a .positions .now) (a .v) (λ e. c .if1 .taken (omega arith))
+
+returns-2 : tie.Need-returns-2 Inv-loop μ-loop
+returns-2 c = let a = c .before .before .args in other-count (a .positions .now) (a .v) (λ e. c .if2 .taken (omega arith))
+
+loop-holds : tie.Need-loop-holds Inv-loop μ-loop
+loop-holds c = let e = c .before in none-near _ _ (omega (arith, e .if1 .left, c .if2 .left))
+
+sub-i : tie.Need-sub-i Inv-loop μ-loop
+sub-i c = omega (arith, c .loop-test .taken)
+
+mul-is-near : tie.Need-mul-is-near Inv-loop μ-loop
+mul-is-near c = search needs
+
+shared-slice-copy-out-is-near : tie.Need-shared-slice-copy-out-is-near Inv-loop μ-loop
+shared-slice-copy-out-is-near c = omega (arith, c .loop-test .taken, c .before .loop .inv .within)
+
+is-near-requires : tie.Need-is-near-requires Inv-loop μ-loop
+is-near-requires c κs = search needs
+
+returns-3 : tie.Need-returns-3 Inv-loop μ-loop
+returns-3 c =
+    let n = c .before in
+    let l = n .before .before in
+    let a = l .before .before .before .before in
+    one-far _ _ _ _ (l .before .loop .inv)
+    (near-told _ (a .args .positions .now) (l .before .loop .i - 1) (n .before .is-near-arg .given) (n .is-near .ensures))
+    (not-true _ (c .if3 .taken))
+
+loop-less : tie.Need-loop-less Inv-loop μ-loop
+loop-less c = omega (arith, c .before .before .before .loop-test .taken)
+
+loop-again : tie.Need-loop-again Inv-loop μ-loop
+loop-again c =
+    let n = c .before in
+    let l = n .before .before in
+    let a = l .before .before .before .before in
+    more-near _ _ _ _ (l .loop-test .taken) (l .before .loop .inv)
+    (near-told _ (a .args .positions .now) (l .before .loop .i - 1) (n .before .is-near-arg .given) (n .is-near .ensures))
+    (not-false _ (c .if3 .left))
+
+returns-4 : tie.Need-returns-4 Inv-loop μ-loop
+returns-4 c = all-near _ _ _ (c .loop-test .left) (c .before .loop .inv)
+
+pub are-positions-spec : {M : Type 1} → statement M
+are-positions-spec =
+    tie.close
+    (tie.spec
+    Inv-loop
+    μ-loop
+    returns
+    returns-2
+    loop-holds
+    sub-i
+    mul-is-near
+    shared-slice-copy-out-is-near
+    is-near-requires
+    returns-3
+    loop-less
+    loop-again
+    returns-4)

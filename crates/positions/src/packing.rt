@@ -1,0 +1,110 @@
+// Packing a list with positions. Where 23 fails only 1 to 8 and 22 are tested; else the list is packed into the buffer without the bytes
+// that the field takes, and the field is written after the pack.
+use crate::writing::are_positions;
+use crate::writing::put_field;
+use cutborder::PLACES;
+use mesh::check_into;
+use packer::cleared;
+use packer::pack_on;
+use places::buffers::clear_bytes;
+use rules::CORNERS;
+use rules::Checked;
+use rules::Packed;
+use rules::VERTICES;
+ghost use mathlib.Core.Bool.{true};
+ghost use mathlib.Core.Path.{_≡_};
+ghost use Rattle.rules.specs.PackWhole.{positionsFit};
+ghost use Rattle.positions_theory.specs.Packing.{PackedWholeOn, Unfit, beforeField, clearedAfter, Followable, Follows};
+
+// The answer to positions that do not fit: the first of 1 to 8, 22 and 23. The numbering and the order have so many entries.
+fn unfit(v: usize, list: &[u16], numbering: usize, order: usize, n: usize) -> Packed
+    ensures { λ r. ⌜ Unfit v (now (list .entry)) numbering order n r ⌝ }
+{
+    let mut chains = [0u16; VERTICES + CORNERS];
+    let checked = check_into(v, list, &mut chains);
+    if let Checked::Refused(k) = checked {
+        return Packed::Refused(k);
+    }
+    if numbering < v {
+        return Packed::Refused(8);
+    }
+    if n < PLACES {
+        return Packed::Refused(8);
+    }
+    if order < list.len() / 3 {
+        return Packed::Refused(22);
+    }
+    Packed::Refused(23)
+}
+
+// How many bytes of the buffer are left for the list's own pack, before the field of the positions.
+fn before_field(buffer: &[u8], positions: &[i16]) -> usize
+    ensures { λ r. ⌜ r ≡ beforeField (now (buffer .entry)) (now (positions .entry)) ⌝ }
+{
+    let field = 3 + 2 * positions.len();
+    if buffer.len() < field {
+        return 0;
+    }
+    buffer.len() - field
+}
+
+// After the list alone was packed into a part of the buffer and answered r: all is cleared if that part was.
+fn clear_after(r: Packed, buffer: &mut [u8])
+    ensures { λ _. ⌜ now (buffer .exit) ≡ clearedAfter r (now (buffer .entry)) ⌝ }
+{
+    if 0 < cleared(r) {
+        clear_bytes(buffer);
+    }
+}
+
+// The field follows the pack of the list, whose packing answered r.
+fn follow(r: Packed, positions: &[i16], numbering: &[u16], buffer: &mut [u8]) -> Packed
+    requires { ⌜ Followable r (now positions) (now numbering) (now buffer) ⌝ }
+    ensures { λ s. ⌜ Follows r (now (positions .entry)) (now (numbering .entry)) (now (buffer .entry)) s (now (buffer .exit)) ⌝ }
+{
+    let Packed::Length(k) = r else {
+        clear_after(r, buffer);
+        return r;
+    };
+    put_field(buffer, k as usize, positions, numbering);
+    Packed::Length(k + 3 + 2 * (positions.len() as u32))
+}
+
+// Packs a list with positions that fit.
+fn pack_fitting(
+    v: usize,
+    list: &[u16],
+    positions: &[i16],
+    numbering: &mut [u16],
+    buffer: &mut [u8],
+    order: &mut [u16],
+    n: usize,
+) -> Packed
+    requires { ⌜ positionsFit v (now positions) ≡ true ⌝ }
+    ensures { λ r. ⌜ PackedWholeOn v (now (list .entry)) (now (positions .entry)) (now (numbering .entry)) (now (buffer .entry))
+        (now (order .entry)) n r (now (numbering .exit)) (now (buffer .exit)) (now (order .exit)) ⌝ }
+{
+    let end = before_field(buffer, positions);
+    let r = pack_on(v, list, numbering, &mut buffer[..end], order, n);
+    follow(r, positions, numbering, buffer)
+}
+
+// Packs any list of a model of v vertices, with any positions by old vertex, into any buffers, where n place records were lent. After 1
+// to 8, 22 and 23 nothing has changed.
+pub fn pack_whole_on(
+    v: usize,
+    list: &[u16],
+    positions: &[i16],
+    numbering: &mut [u16],
+    buffer: &mut [u8],
+    order: &mut [u16],
+    n: usize,
+) -> Packed
+    ensures { λ r. ⌜ PackedWholeOn v (now (list .entry)) (now (positions .entry)) (now (numbering .entry)) (now (buffer .entry))
+        (now (order .entry)) n r (now (numbering .exit)) (now (buffer .exit)) (now (order .exit)) ⌝ }
+{
+    if !are_positions(positions, v) {
+        return unfit(v, list, numbering.len(), order.len(), n);
+    }
+    pack_fitting(v, list, positions, numbering, buffer, order, n)
+}

@@ -1,0 +1,10 @@
+pub mod Filling
+pub mod Following
+pub mod Lending
+pub mod Measuring
+pub mod PackLending
+pub mod Packing
+pub mod Renumbering
+pub mod Unpacking
+pub mod Words
+pub mod Written

@@ -1,0 +1,164 @@
+-- Unpacking a pack that may have positions: the core of two fields, and 23.
+-- Assumes nothing.
+use Prim.Native.Nat.{ℕ, _+_, _*_, _≤_}
+use native.Mathlib.Omega.{arith}
+use mathlib.Core.Bool.{Bool, true, false}
+use mathlib.Core.List.{List, _++_}
+use mathlib.Core.Path.{_≡_, refl, sym, ap, _∙_, subst}
+use lib.ListN.{length, take, drop, replicate, length-take}
+use lib.Seq.{drop-at}
+use Rattle.rules.specs.declared.Model.{Model}
+use Rattle.rules.specs.declared.Unpacked.{Unpacked}
+use Rattle.rules.specs.declared.Unpacked.the-variants as U
+use Rattle.rules.specs.Answer.{Answer, refusal, unpacked, unpackedAnswer}
+use Rattle.rules.specs.Buffer.{zeroed, Buffers}
+use Rattle.rules.specs.Unpack.{numbersOf, UnpackResult, unpack}
+use Rattle.rules.specs.Later.{not-given, given, Parts, no-parts, parts, partsOf}
+use Rattle.rules.specs.UnpackWhole.{fieldFits, modelIn, leftBy20, thenTested, unpackParts, unpackWhole}
+use borrow.Author.Tests.{leb-true}
+use Rattle.counting.proofs.Bools.{and-left}
+use Rattle.border_theory.specs.Records.Lent.{lent}
+use Rattle.unpack_theory.specs.Lent.{UnpackedOn}
+use Rattle.mesh_theory.proofs.Chains.Prefix.{length-numbers}
+use Rattle.roundtrip.proofs.Results.{unpacked-by}
+use Rattle.roundtrip.proofs.Back.{triangles-are, list-is}
+use Rattle.volume_theory.proofs.Whole.{tested-none, accepts}
+use Rattle.positions_theory.specs.Unpacking.{UnpackedWholeOn, testedAnswer, testedTriangles, RoomFor}
+
+-- the buffer of an accepted unpacking, past its triangles
+beyond : (bytes : List ℕ) (r : Buffers) (m : Model) → unpack bytes r .answer ≡ unpacked m
+    → drop (3 * m .triangles) (unpack bytes r .buffers .triangles) ≡ drop (3 * m .triangles) (r .triangles)
+beyond bytes r m e =
+    let u = unpacked-by bytes r m e in
+    let xs = numbersOf (u .end .triangles) in
+    let l : length xs ≡ 3 * m .triangles = length-numbers (u .end .triangles) ∙ ap (λ (k : ℕ). 3 * k) (triangles-are bytes r m u) in
+    ap (λ (x : UnpackResult). drop (3 * m .triangles) (x .buffers .triangles)) (u .result)
+    ∙ drop-at xs (drop (length xs) (r .triangles)) (3 * m .triangles) l ∙ ap (λ (k : ℕ). drop k (r .triangles)) l
+
+pub zeroed-same : (n : ℕ) (ts us : List ℕ) → drop n us ≡ drop n ts → zeroed n us ≡ zeroed n ts
+zeroed-same n ts us e = ap (λ (vs : List ℕ). replicate n 0 ++ vs) e
+
+-- no fields, and two
+pub no-parts-on : (bytes ts : List ℕ) (n : ℕ) → partsOf bytes ≡ no-parts → UnpackedWholeOn bytes ts n (U.Refused 12) ts
+unfolding unpackParts
+no-parts-on bytes ts n e = record {
+  answer = sym (ap (λ (p : Parts). unpackParts (lent n ts) p .answer) e);
+  triangles = sym (ap (λ (p : Parts). unpackParts (lent n ts) p .buffers .triangles) e);
+}
+
+pub two-parts-on : (bytes ts : List ℕ) (n : ℕ) (r : Unpacked) (ts′ : List ℕ) → partsOf bytes ≡ parts bytes not-given
+    → UnpackedOn bytes ts n r ts′ → UnpackedWholeOn bytes ts n r ts′
+unfolding unpackParts
+two-parts-on bytes ts n r ts′ e h =
+    let u = unpack bytes (lent n ts) in
+    let w : unpackWhole bytes (lent n ts) ≡ u = ap (unpackParts (lent n ts)) e ∙ tested-none (lent n ts) u (modelIn (u .answer)) in
+    record {
+      answer = h .answer ∙ sym (ap (λ (x : UnpackResult). x .answer) w);
+      triangles = h .triangles ∙ sym (ap (λ (x : UnpackResult). x .buffers .triangles) w);
+    }
+
+-- three
+module _ (bytes two bs ts : List ℕ) (n : ℕ) (e : partsOf bytes ≡ parts two (given bs)) where
+  abbrev u : UnpackResult
+  u = unpack two (lent n ts)
+
+  by-answer : (a : Answer) → a ≡ u .answer → unpackWhole bytes (lent n ts) ≡ thenTested (given bs) (lent n ts) u (modelIn a)
+  unfolding unpackParts
+  by-answer a f = ap (unpackParts (lent n ts)) e ∙ ap (λ (x : Answer). thenTested (given bs) (lent n ts) u (modelIn x)) (sym f)
+
+  pub three-parts-on : (r : Unpacked) (ts′ : List ℕ) → UnpackedOn two ts n r ts′
+      → UnpackedWholeOn bytes ts n (testedAnswer bs r) (testedTriangles bs r ts′)
+  unfolding thenTested
+  three-parts-on (U.Refused k) ts′ h =
+      let w = by-answer (refusal k) (h .answer) in
+      record {
+        answer = h .answer ∙ sym (ap (λ (x : UnpackResult). x .answer) w);
+        triangles = h .triangles ∙ sym (ap (λ (x : UnpackResult). x .buffers .triangles) w);
+      }
+  three-parts-on (U.Model m) ts′ h = go (fieldFits (m .vertices) (given bs)) refl
+    where
+      w : unpackWhole bytes (lent n ts) ≡ thenTested (given bs) (lent n ts) u (given m)
+      w = by-answer (unpacked m) (h .answer)
+
+      w-by : (t : Bool) → UnpackResult
+      w-by t = elim t [ true ↦ u | false ↦ record { answer = refusal 23; buffers = leftBy20 m (lent n ts) } ]
+
+      accepted : unpack two (lent n ts) .answer ≡ unpacked m
+      accepted = sym (h .answer)
+
+      go : (t : Bool) → fieldFits (m .vertices) (given bs) ≡ t
+          → UnpackedWholeOn bytes ts n (elim t [ true ↦ U.Model m | false ↦ U.Refused 23 ])
+          (elim t [ true ↦ ts′ | false ↦ zeroed (3 * m .triangles) ts′ ])
+      go true f =
+          let v = w ∙ ap w-by f in
+          record {
+            answer = h .answer ∙ sym (ap (λ (x : UnpackResult). x .answer) v);
+            triangles = h .triangles ∙ sym (ap (λ (x : UnpackResult). x .buffers .triangles) v);
+          }
+      go false f =
+          let v = w ∙ ap w-by f in
+          record {
+            answer = sym (ap (λ (x : UnpackResult). x .answer) v);
+            triangles =
+                zeroed-same (3 * m .triangles) ts ts′
+                (ap (drop (3 * m .triangles)) (h .triangles) ∙ beyond two (lent n ts) m accepted)
+                ∙ sym (ap (λ (x : UnpackResult). x .buffers .triangles) v);
+          }
+
+-- the buffer holds the triangles of an accepted unpacking
+pub room-on : (bytes ts : List ℕ) (n : ℕ) (r : Unpacked) (ts′ : List ℕ) → UnpackedOn bytes ts n r ts′ → length ts′ ≡ length ts
+    → RoomFor r ts′
+room-on bytes ts n (U.Refused k) ts′ h l = tt
+room-on bytes ts n (U.Model m) ts′ h l =
+    let u = unpacked-by bytes (lent n ts) m (sym (h .answer)) in
+    let k = leb-true (3 * u .counts .triangles) (length ts) (and-left _ _ (u .enough)) in
+    omega (arith, l, k, ap (λ (x : Model). x .triangles) (u .model))
+
+-- 23, of an accepted unpacking
+module _ (bs ts : List ℕ) (r : Unpacked) (m : Model) (b : Bool) (e : r ≡ U.Model m) (k : b ≡ fieldFits (m .vertices) (given bs)) where
+  pub tested-fits : b ≡ true → (U.Model m ≡ testedAnswer bs r) × (ts ≡ testedTriangles bs r ts)
+  tested-fits h =
+      subst (λ (x : Unpacked). (U.Model m ≡ testedAnswer bs x) × (ts ≡ testedTriangles bs x ts)) (sym e) (
+        sym (ap (λ (t : Bool). elim t as (λ _. Unpacked) [ true ↦ U.Model m | false ↦ U.Refused 23 ]) (sym k ∙ h)),
+        sym (ap (λ (t : Bool). elim t as (λ _. List ℕ) [ true ↦ ts | false ↦ zeroed (3 * m .triangles) ts ]) (sym k ∙ h)),
+      )
+
+  pub tested-fails : b ≡ false → (ts′ : List ℕ) → ts′ ≡ zeroed (3 * m .triangles) ts
+      → (U.Refused 23 ≡ testedAnswer bs r) × (ts′ ≡ testedTriangles bs r ts)
+  tested-fails h ts′ z =
+      subst (λ (x : Unpacked). (U.Refused 23 ≡ testedAnswer bs x) × (ts′ ≡ testedTriangles bs x ts)) (sym e) (
+        sym (ap (λ (t : Bool). elim t as (λ _. Unpacked) [ true ↦ U.Model m | false ↦ U.Refused 23 ]) (sym k ∙ h)),
+        z ∙ sym (ap (λ (t : Bool). elim t as (λ _. List ℕ) [ true ↦ ts | false ↦ zeroed (3 * m .triangles) ts ]) (sym k ∙ h)),
+      )
+
+  pub room-for : RoomFor r ts → 3 * m .triangles ≤ length ts
+  room-for h = subst (λ (x : Unpacked). RoomFor x ts) e h
+
+-- what is answered and left is the definition's
+pub as-told : (bytes ts : List ℕ) (n : ℕ) (r s : Unpacked) (us vs : List ℕ) → UnpackedWholeOn bytes ts n s vs → r ≡ s → us ≡ vs
+    → UnpackedWholeOn bytes ts n r us
+as-told bytes ts n r s us vs h e f = record { answer = ap unpackedAnswer e ∙ h .answer; triangles = f ∙ h .triangles }
+
+-- the triangle buffer of an accepted one, past its triangles, whatever the parts
+pub whole-beyond : (bytes ts : List ℕ) (n : ℕ) (m : Model) (ts′ : List ℕ) → UnpackedWholeOn bytes ts n (U.Model m) ts′
+    → drop (3 * m .triangles) ts′ ≡ drop (3 * m .triangles) ts
+whole-beyond bytes ts n m ts′ h =
+    let a = accepts bytes (lent n ts) m (sym (h .answer)) in
+    ap (drop (3 * m .triangles)) (h .triangles ∙ ap (λ (x : UnpackResult). x .buffers .triangles) (a .same))
+    ∙ beyond (a .two) (lent n ts) m (a .accepted)
+
+pub as-model : (bytes ts : List ℕ) (n : ℕ) (r : Unpacked) (m : Model) (ts′ : List ℕ) → UnpackedWholeOn bytes ts n r ts′ → r ≡ U.Model m
+    → UnpackedWholeOn bytes ts n (U.Model m) ts′
+as-model bytes ts n r m ts′ h e = subst (λ (x : Unpacked). UnpackedWholeOn bytes ts n x ts′) e h
+
+-- the buffer holds the triangles of an accepted one
+pub whole-long : (bytes ts : List ℕ) (n : ℕ) (m : Model) (ts′ : List ℕ) → UnpackedWholeOn bytes ts n (U.Model m) ts′
+    → 3 * m .triangles ≤ length ts′
+whole-long bytes ts n m ts′ h =
+    let a = accepts bytes (lent n ts) m (sym (h .answer)) in
+    let by = unpacked-by (a .two) (lent n ts) m (a .accepted) in
+    let same = h .triangles ∙ ap (λ (x : UnpackResult). x .buffers .triangles) (a .same) in
+    let e : length (take (3 * m .triangles) ts′) ≡ 3 * m .triangles =
+    ap (λ (us : List ℕ). length (take (3 * m .triangles) us)) same ∙ ap length (list-is (a .two) (lent n ts) m by)
+    ∙ length-numbers (by .end .triangles) ∙ ap (λ (k : ℕ). 3 * k) (triangles-are (a .two) (lent n ts) m by) in
+    omega (arith, e, length-take (3 * m .triangles) ts′)

@@ -1,0 +1,1 @@
+// Theorems about the cores of packing and unpacking with positions. No code.

@@ -1,0 +1,47 @@
+// Reads a pack from standard input and prints a line with six times the volume of its model: `six` and the number, in cubic grid steps,
+// negative where the model is inside out. A refused pack prints one line with its number. With arguments it does so for each in turn:
+// the pack of the file that it names, or for "-" that of standard input. What cannot be read gets a line on standard error and prints
+// nothing; after a write that fails there is such a line too, and the program ends.
+use positions::measuring::volume_on;
+use rules::Builder;
+use rules::CORNERS;
+use text::packs::BUFFER;
+use text::packs::pack_count;
+use text::packs::read_pack;
+use text::show::print_measured;
+use text::streams::Output;
+use text::streams::Read;
+ghost use Rattle.text.specs.Reads.{Fills};
+
+// Measures what was read, if it was.
+fn measure_read(out: Output, r: Read, pack: &[u8], triangles: &mut [u16]) -> Output
+    requires { ⌜ Fills r 0 (now pack) ⌝ }
+{
+    let Read::To(n) = r else {
+        return out;
+    };
+    let answer = volume_on(&pack[..n], triangles, Builder::MAX_PLACES);
+    print_measured(out, answer)
+}
+
+// Reads each pack and measures it.
+fn measure_each(pack: &mut [u8], triangles: &mut [u16]) -> Output {
+    let n = pack_count();
+    let mut out = Output::fresh();
+    let mut i = 0;
+    while i < n {
+        i += 1;
+        let r = read_pack(b"volume", i, pack);
+        out = measure_read(out, r, pack, triangles);
+        if out.failed {
+            return out;
+        }
+    }
+    out
+}
+
+fn main() {
+    let mut pack = [0u8; BUFFER];
+    let mut triangles = [0u16; CORNERS];
+    measure_each(&mut pack, &mut triangles).end(b"volume");
+}

@@ -1,0 +1,147 @@
+//! Unpacking and the volume call compared with the second program: the answers and both buffers afterwards.
+
+use crate::{count, met, models, records, used_places, Tally};
+use compare::expected::{self, LEVEL};
+use compare::kinds::{self, Kinds};
+use compare::{unpack, volume};
+use cutborder::fast::Unpacker;
+use cutborder::proto::unhex;
+use cutborder::rng::Rng;
+use cutborder::{gen, gen02, Answer, Place, Refusal};
+use std::fmt::Debug;
+
+const PACKS: &str = include_str!("../../../reference/vectors/packs.txt");
+
+/// What is lent to either call.
+#[derive(Clone, PartialEq)]
+pub struct Lent {
+    pub triangles: Vec<u16>,
+    pub places: Vec<Place>,
+}
+
+/// Either call, the service's or the second program's.
+type Call<A> = fn(&[u8], &mut [u16], &mut [Place]) -> Result<A, Refusal>;
+
+/// One call of the service and of the second program: what both answer, and the buffers afterwards.
+fn alike<A: Debug + PartialEq>(b: &[u8], before: &Lent, ours: Call<A>, second: Call<A>) -> (Result<A, Refusal>, Lent) {
+    let (mut lent, mut expected) = (before.clone(), before.clone());
+    let answer = second(b, &mut expected.triangles, &mut expected.places);
+    assert_eq!(ours(b, &mut lent.triangles, &mut lent.places), answer, "pack {b:02x?}");
+    assert_eq!(lent.triangles, expected.triangles, "triangles of pack {b:02x?}");
+    assert_eq!(lent.places, expected.places, "places after pack {b:02x?}");
+    (answer, lent)
+}
+
+pub fn unpacked(b: &[u8], before: &Lent) -> (Result<Answer, Refusal>, Lent) {
+    alike(b, before, unpack, expected::unpack)
+}
+
+pub fn measured(b: &[u8], before: &Lent) -> (Result<(Answer, i64), Refusal>, Lent) {
+    alike(b, before, volume, expected::volume)
+}
+
+/// Buffers that hold anything, mostly long enough for what some bytes state, sometimes shorter or longer.
+pub fn buffers(rng: &mut Rng, b: &[u8]) -> Lent {
+    let t = expected::stated_triangles(b);
+    let numbers = if rng.chance(1, 16) { rng.below(3 * t + 1) } else { 3 * t + rng.below(4) };
+    Lent { triangles: vec![7; numbers], places: used_places(records(rng)) }
+}
+
+/// What was answered, and what happened in shortened loops.
+#[derive(Default)]
+struct Seen {
+    unpacks: Tally,
+    volumes: Tally,
+    kinds: Kinds,
+}
+
+/// Some bytes unpacked and measured in buffers of some length.
+fn unpacking(rng: &mut Rng, b: &[u8], fast: &mut Unpacker, seen: &mut Seen) {
+    let before = buffers(rng, b);
+    let (answer, after) = unpacked(b, &before);
+    count(&mut seen.unpacks, &answer);
+    count(&mut seen.volumes, &measured(b, &before).0);
+    let fields = expected::fields(b);
+    if answer != Err(23) {
+        // The fast engine knows two fields and no 23.
+        let two = fields.map_or(b.len(), |f| 14 + f.ops.len());
+        let mut lent = before.clone();
+        let found = fast.unpack_at(LEVEL, &b[..two], &mut lent.triangles, &mut lent.places);
+        assert!(found == answer && lent == after, "fast engine, pack {b:02x?}");
+    }
+    let Ok(f) = fields else { return };
+    if let Ok(book) = expected::begin(f.counts, before.triangles.len(), before.places.len()) {
+        kinds::note_all(&mut seen.kinds, book, &gen::read_ops(f.ops));
+    }
+}
+
+/// A pack, with positions or without, sound or spoilt, or any bytes.
+fn bytes(rng: &mut Rng) -> Vec<u8> {
+    let mut b = match rng.below(6) {
+        0 => (0..rng.below(40)).map(|_| rng.below(256) as u8).collect(),
+        1 | 2 => expected::random_whole_pack(rng),
+        _ => expected::random_pack(rng, 40),
+    };
+    match rng.below(6) {
+        0 if !b.is_empty() => b.truncate(rng.below(b.len())),
+        1 => b.extend((0..rng.range(1, 4)).map(|_| rng.below(256) as u8)),
+        2 if !b.is_empty() => {
+            let most = if rng.chance(1, 2) { 20 } else { b.len() };
+            let i = rng.below(b.len().min(most));
+            b[i] ^= 1 << rng.below(8);
+        }
+        // A whole field, or what looks like one.
+        3 if rng.chance(1, 2) => {
+            let n = rng.below(5) as u8;
+            b.extend([rng.range(1, 5) as u8, 0, n]);
+            b.extend((0..n).map(|_| rng.below(256) as u8));
+        }
+        _ => {}
+    }
+    b
+}
+
+/// A sound model's pack, or nothing if it is refused; half of them have positions.
+fn sound_pack(rng: &mut Rng) -> Vec<u8> {
+    let m = gen::sound(rng, 200);
+    let positions = rng.chance(1, 2).then(|| gen02::positions(rng, m.v as usize));
+    expected::packed(&m, positions.as_deref()).unwrap_or_default()
+}
+
+/// Bytes that are no pack, or hardly one.
+pub fn strings(rng: &mut Rng, rounds: usize) -> (usize, Tally) {
+    let (mut seen, mut fast) = (Seen::default(), Unpacker::new());
+    for _ in 0..rounds {
+        let b = bytes(rng);
+        unpacking(rng, &b, &mut fast, &mut seen);
+    }
+    told(seen, &[0, 12, 13, 14, 15, 16, 17, 18, 19, 23], rounds)
+}
+
+/// Packs of all kinds, sound and spoilt.
+pub fn unpacks(rng: &mut Rng, rounds: usize) -> (usize, Tally) {
+    let mut packs: Vec<Vec<u8>> = PACKS.lines().filter(|l| !l.starts_with('#')).map(|l| unhex(l).expect("hexadecimal")).collect();
+    packs.extend(models().iter().filter_map(|m| expected::packed(m, None)));
+    let (mut seen, mut fast) = (Seen::default(), Unpacker::new());
+    for i in 0..rounds + packs.len() {
+        let b = match i.checked_sub(packs.len()) {
+            None => packs[i].clone(),
+            Some(n) if n % 5 == 0 => bytes(rng),
+            Some(n) if n % 5 == 1 => sound_pack(rng),
+            Some(n) if n % 5 == 2 => expected::random_whole_pack(rng),
+            _ => expected::random_pack(rng, 120),
+        };
+        unpacking(rng, &b, &mut fast, &mut seen);
+    }
+    crate::shortened(&seen.kinds);
+    told(seen, &[0, 12, 13, 14, 15, 16, 17, 18, 19, 20, 23], rounds + packs.len())
+}
+
+/// All of these answers were met by both calls, and 24 by the volume's, which is printed.
+fn told(seen: Seen, answers: &[u8], n: usize) -> (usize, Tally) {
+    println!("    measured: answers {:?}", seen.volumes);
+    met(&seen.unpacks, answers);
+    met(&seen.volumes, answers);
+    met(&seen.volumes, &[24]);
+    (n, seen.unpacks)
+}
