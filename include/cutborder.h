@@ -79,27 +79,27 @@ enum {
 uint32_t cutborder_check(size_t v, const uint16_t *list, size_t entries);
 
 /* 1 to 8, 22, 9 to 11, or the pack, its length, for each old vertex its new number, and for each built triangle, in building order, its
- * number in the list. */
+ * number in the list. After 1 to 8 and 22 no buffer has changed. Otherwise the first 1,024 place records are zero, and after 9 to 11 the
+ * first v numbering entries, an order entry for each triangle and the whole pack buffer too. */
 uint32_t cutborder_pack(size_t v, const uint16_t *list, size_t entries, uint16_t *numbering, size_t numbering_entries, uint8_t *pack,
                         size_t pack_bytes, uint16_t *order, size_t order_entries, struct cutborder_place *places, size_t records,
                         uint32_t *size);
 
 /* The same with positions, x, y and z of each old vertex: 1 to 8, 22, 23, 9 to 11, or the pack of cutborder_pack followed by the
- * positions in new numbering, 6 v + 3 bytes more; all else as there. After 1 to 8, 22 and 23 no buffer has changed. Otherwise the first
- * 1,024 place records are zero, and after 9 to 11 the first v numbering entries, an order entry for each triangle and the whole pack
- * buffer too. */
+ * positions in new numbering, 6 v + 3 bytes more. After 23 no buffer has changed; all else as there. */
 uint32_t cutborder_pack_positions(size_t v, const uint16_t *list, size_t entries, const int16_t *positions, size_t position_entries,
                                   uint16_t *numbering, size_t numbering_entries, uint8_t *pack, size_t pack_bytes, uint16_t *order,
                                   size_t order_entries, struct cutborder_place *places, size_t records, uint32_t *size);
 
 /* 12 to 20, then 23, or the triangles, then vertices, triangles, edges, rims and unions, and the Euler number. The pack may have
- * positions; they are tested and not told. */
+ * positions; they are tested and not told. After 12 to 14 no buffer has changed. Otherwise the first 1,024 place records are zero, and
+ * after 15 to 20 and 23 three triangle entries for each triangle stated too. */
 uint32_t cutborder_unpack(const uint8_t *pack, size_t bytes, uint16_t *triangles, size_t triangle_entries, struct cutborder_place *places,
                           size_t records, uint16_t model[5], int32_t *euler);
 
 /* 12 to 20, then 23 and 24, or the same as cutborder_unpack and six times the enclosed volume, the exact sum over the triangles of the
- * determinant of their corners: a model turned inside out, if accepted too, has the other sign. After 12 to 14 no buffer has changed.
- * Otherwise the first 1,024 place records are zero, and after 15 to 20, 23 and 24 three triangle entries for each triangle stated too. */
+ * determinant of their corners: a model turned inside out, if accepted too, has the other sign. After 24 the buffers are as after 20;
+ * all else as there. */
 uint32_t cutborder_volume(const uint8_t *pack, size_t bytes, uint16_t *triangles, size_t triangle_entries, struct cutborder_place *places,
                           size_t records, uint16_t model[5], int32_t *euler, int64_t *six);
 

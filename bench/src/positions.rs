@@ -1,5 +1,5 @@
-//! The cost of positions: packing and unpacking with them, and the volume, which is to cost at most 10 nanoseconds a triangle more than
-//! unpacking the same pack.
+//! The cost of positions: packing and unpacking with them, and the volume, of which our aim is that it costs at most 10 nanoseconds a
+//! triangle more than unpacking the same pack.
 
 use crate::{grown, medians, packings, print_ratio, unpackings};
 use compare::expected::{self, LEVEL};
@@ -62,7 +62,7 @@ fn volumes(pack: &[u8], m: &Model, repeats: usize) -> Option<((f64, f64), (f64, 
 pub fn table(repeats: usize) {
     println!("with positions: nanoseconds a triangle, median of {repeats} calls, ours and the second program's, and their ratio");
     println!("its fast engine has no positions: what it has for them elsewhere, written plainly, is called after the engine");
-    println!("more: what the volume costs more than unpacking the same pack, ours; at most 10 is asked");
+    println!("more: what the volume costs more than unpacking the same pack, ours; our aim is at most 10");
     println!(
         "{:<16} {:>6} {:>6}  {:>8} {:>8} {:>6}  {:>8} {:>8} {:>6}  {:>8} {:>8} {:>6}  {:>6}",
         "model", "V", "T", "unpack", "second", "ratio", "pack", "second", "ratio", "volume", "second", "ratio", "more"

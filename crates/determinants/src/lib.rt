@@ -3,31 +3,31 @@
 use rules::Point;
 use wire::fields::word_at;
 ghost use mathlib.Core.Path.{_≡_};
-ghost use Prim.Native.Nat.{ℕ, _+_, _*_, _≤_, _<_};
+ghost use Prim.Native.Nat.{_+_, _*_, _≤_, _<_};
 ghost use lib.IntN.{pos, natAbs, _+ℤ_, _-ℤ_, _*ℤ_};
 ghost use lib.ListN.{length, take, getD};
 ghost use Rattle.rules.specs.Grid.{signedOf, positionsFrom};
 ghost use Rattle.rules.specs.Triangle.{trianglesOf};
 ghost use Rattle.rules.specs.Volume.{pointAt, determinant, sixVolumes};
-ghost use Rattle.volume_theory.specs.Near.{Near, largest, HasPositions, determinantAt, Measurable};
+ghost use Rattle.volume_theory.specs.Near.{Near, largest, limit64, HasPositions, determinantAt, Measurable};
 
 // The product, the sum and the difference of two numbers that are far from the ends of 64 bits.
 fn times(a: i64, b: i64) -> i64
-    requires { ⌜ natAbs a * natAbs b < 4000000000000000000 ⌝ }
+    requires { ⌜ natAbs a * natAbs b < limit64 ⌝ }
     ensures { λ r. ⌜ r ≡ a *ℤ b ⌝ }
 {
     a * b
 }
 
 fn plus(a: i64, b: i64) -> i64
-    requires { ⌜ natAbs a + natAbs b < 4000000000000000000 ⌝ }
+    requires { ⌜ natAbs a + natAbs b < limit64 ⌝ }
     ensures { λ r. ⌜ r ≡ a +ℤ b ⌝ }
 {
     a + b
 }
 
 fn minus(a: i64, b: i64) -> i64
-    requires { ⌜ natAbs a + natAbs b < 4000000000000000000 ⌝ }
+    requires { ⌜ natAbs a + natAbs b < limit64 ⌝ }
     ensures { λ r. ⌜ r ≡ a -ℤ b ⌝ }
 {
     a - b

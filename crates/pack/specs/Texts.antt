@@ -1,8 +1,11 @@
--- What a reading of a text promises of its buffer.
+-- What a reading of a text promises of its buffer, and the positions of its numbers.
 -- Assumes nothing.
-use Prim.Native.Nat.{ℕ, _≤_}
+use Prim.Native.Nat.{ℕ, _≤_, _<_}
 use mathlib.Core.List.{List}
-use lib.ListN.{length}
+use mathlib.Core.Path.{_≡_}
+use lib.IntN.{ℤ, pos}
+use lib.ListN.{length, getD}
+use Rattle.rules.specs.Grid.{signedOf}
 use Rattle.pack.specs.declared.numbers.Told.{Told}
 use Rattle.pack.specs.declared.numbers.Told.the-variants.{Numbers, NoNumbers, Unread, TooLong}
 
@@ -12,3 +15,13 @@ Holds (Numbers n) xs = n ≤ length xs
 Holds NoNumbers xs = Unit
 Holds Unread xs = Unit
 Holds TooLong xs = Unit
+
+-- The first n of zs are the positions that the first n of xs stand for.
+pub record StandFor (xs : List ℕ) (n : ℕ) (zs : List ℤ) : Type 0 where
+  pub told : n ≤ length xs
+  pub room : n ≤ length zs
+  pub each : (i : ℕ) → i < n → getD zs i (pos 0) ≡ signedOf (getD xs i 0)
+
+-- No more of xs fit zs than the first n.
+abbrev pub AsManyAsFit : List ℕ → ℕ → List ℤ → Type 0
+AsManyAsFit xs n zs = n < length xs → length zs ≤ n

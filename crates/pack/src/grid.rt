@@ -4,9 +4,9 @@ use crate::numbers::read_numbers;
 use crate::numbers::say_unread;
 use rules::VERTICES;
 use text::streams::say_failed;
-ghost use Prim.Native.Nat.{_≤_};
-ghost use lib.ListN.{length};
-ghost use Rattle.pack.specs.Texts.{Holds};
+ghost use mathlib.Core.Path.{_≡_};
+ghost use Rattle.rules.specs.Grid.{signedOf};
+ghost use Rattle.pack.specs.Texts.{Holds, StandFor, AsManyAsFit};
 
 // Three positions for each vertex, and one more to tell a longer list.
 pub const POSITIONS: usize = 3 * VERTICES + 1;
@@ -31,7 +31,9 @@ pub fn read_positions(name: &[u8], part: &mut [u8], numbers: &mut [u16]) -> Told
 }
 
 // A number of 16 bits as a signed one: a negative number n stands as 65,536 + n.
-fn signed(w: u16) -> i16 {
+fn signed(w: u16) -> i16
+    ensures { λ r. ⌜ r ≡ signedOf w ⌝ }
+{
     if w < 32768 {
         return w as i16;
     }
@@ -40,7 +42,8 @@ fn signed(w: u16) -> i16 {
 
 // Puts the positions that numbers stand for into a buffer, as many as fit, and answers how many.
 pub fn put_positions(numbers: &[u16], positions: &mut [i16]) -> usize
-    ensures { λ r. ⌜ r ≤ length (now (positions .exit)) ⌝ }
+    ensures positions { λ r. ⌜ StandFor (now (numbers .entry)) r (now (positions .exit)) ⌝ }
+    ensures count { λ r. ⌜ AsManyAsFit (now (numbers .entry)) r (now (positions .exit)) ⌝ }
 {
     let mut i = 0;
     while i < numbers.len() {

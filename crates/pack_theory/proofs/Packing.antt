@@ -11,6 +11,7 @@ pub mod Numbers
 pub mod Order
 pub mod Reading
 pub mod Renaming
+pub mod Rooms
 pub mod Running
 pub mod Starting
 pub mod Stepping

@@ -5,5 +5,6 @@ pub mod Finish
 pub mod Lent
 pub mod Numbers
 pub mod Order
+pub mod Rooms
 pub mod Steps
 pub mod Writing

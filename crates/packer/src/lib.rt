@@ -30,11 +30,14 @@ ghost use lib.ListN.{length, replicate, drop};
 ghost use Rattle.rules.specs.declared.Checked.the-variants as Checks;
 ghost use Rattle.rules.specs.declared.Packed.the-variants as Packs;
 ghost use Rattle.rules.specs.Limits.{maxPlaces, maxTriangles, maxVertices};
+ghost use Rattle.mesh_theory.specs.Chains.Linked.{Chains};
+ghost use Rattle.mesh_theory.specs.Chains.Checks.{Answers};
 ghost use Rattle.border_theory.specs.Memory.Fresh.{allFree};
 ghost use Rattle.border_theory.specs.Records.Plain.{coreSize};
 ghost use Rattle.pack_theory.specs.Packing.Numbers.{unnumbered};
 ghost use Rattle.pack_theory.specs.Packing.Doing.{statedFor};
 ghost use Rattle.pack_theory.specs.Packing.Order.{OrderLong};
+ghost use Rattle.pack_theory.specs.Packing.Rooms.{roomsChecked};
 ghost use Rattle.pack_theory.specs.Packing.Lent.{PackedOn, Fitting, emptyCourse, Begins, RunGives, clearedBy};
 
 // What a packing of v vertices and k triangles may not exceed.
@@ -117,8 +120,37 @@ fn pack_accepted(
     run_from(v, list, chains, start, numbering, buffer, order, m)
 }
 
-// A list's refusal, 1 to 7, as the packing's.
-fn refusal_of(c: Checked) -> Packed
+// The tests before the run: the first of 1 to 8 and 22 that packing the list meets, where the numbering and the order have so many
+// entries and n place records were lent. Chains that held no triangle then hold those of a list that gets past them.
+pub fn test_rooms(
+    v: usize,
+    list: &[u16],
+    numbering: usize,
+    order: usize,
+    n: usize,
+    chains: &mut Links,
+) -> Checked
+    requires { ⌜ Chains (now list) 0 (now chains) ⌝ }
+    ensures { λ r. ⌜ Answers (roomsChecked v (now (list .entry)) numbering order n) (now (list .entry)) r (now (chains .exit)) ⌝ }
+{
+    let checked = check_into(v, list, chains);
+    let Checked::Accepted = checked else {
+        return checked;
+    };
+    if numbering < v {
+        return Checked::Refused(8);
+    }
+    if n < PLACES {
+        return Checked::Refused(8);
+    }
+    if order < list.len() / 3 {
+        return Checked::Refused(22);
+    }
+    Checked::Accepted
+}
+
+// A refusal by these tests as the packing's.
+pub fn refusal_of(c: Checked) -> Packed
     ensures { λ r. ⌜ ((k : ℕ) → c ≡ Checks.Refused k → r ≡ Packs.Refused k) ⌝ }
 {
     match c {
@@ -141,19 +173,10 @@ pub fn pack_on(
         (now (numbering .exit)) (now (buffer .exit)) (now (order .exit)) ⌝ }
 {
     let mut chains = [0u16; VERTICES + CORNERS];
-    let checked = check_into(v, list, &mut chains);
-    let Checked::Accepted = checked else {
-        return refusal_of(checked);
+    let tested = test_rooms(v, list, numbering.len(), order.len(), n, &mut chains);
+    let Checked::Accepted = tested else {
+        return refusal_of(tested);
     };
-    if numbering.len() < v {
-        return Packed::Refused(8);
-    }
-    if n < PLACES {
-        return Packed::Refused(8);
-    }
-    if order.len() < list.len() / 3 {
-        return Packed::Refused(22);
-    }
     let mut m = [0u16; CORE];
     pack_accepted(v, list, &chains, numbering, buffer, order, &mut m)
 }

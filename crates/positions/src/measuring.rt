@@ -63,6 +63,7 @@ pub fn volume_on(pack: &[u8], triangles: &mut [u16], n: usize) -> Measured
     match parts {
         PackParts::Three(_, from) => measure(&pack[from..], triangles, m),
         PackParts::Two => no_volume(triangles, m),
+        // never met: unpacking answers 12
         PackParts::Neither => no_volume(triangles, m),
     }
 }

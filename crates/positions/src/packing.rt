@@ -1,11 +1,11 @@
-// Packing a list with positions. Where 23 fails only 1 to 8 and 22 are tested; else the list is packed into the buffer without the bytes
-// that the field takes, and the field is written after the pack.
+// Packing a list with positions. Where the positions do not fit only 1 to 8 and 22 are tested; else the list is packed into the buffer
+// without the bytes that the field takes, and the field is written after the pack.
 use crate::writing::are_positions;
 use crate::writing::put_field;
-use cutborder::PLACES;
-use mesh::check_into;
 use packer::cleared;
 use packer::pack_on;
+use packer::refusal_of;
+use packer::test_rooms;
 use places::buffers::clear_bytes;
 use rules::CORNERS;
 use rules::Checked;
@@ -21,19 +21,10 @@ fn unfit(v: usize, list: &[u16], numbering: usize, order: usize, n: usize) -> Pa
     ensures { λ r. ⌜ Unfit v (now (list .entry)) numbering order n r ⌝ }
 {
     let mut chains = [0u16; VERTICES + CORNERS];
-    let checked = check_into(v, list, &mut chains);
-    if let Checked::Refused(k) = checked {
-        return Packed::Refused(k);
-    }
-    if numbering < v {
-        return Packed::Refused(8);
-    }
-    if n < PLACES {
-        return Packed::Refused(8);
-    }
-    if order < list.len() / 3 {
-        return Packed::Refused(22);
-    }
+    let tested = test_rooms(v, list, numbering, order, n, &mut chains);
+    let Checked::Accepted = tested else {
+        return refusal_of(tested);
+    };
     Packed::Refused(23)
 }
 

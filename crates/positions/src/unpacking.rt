@@ -24,7 +24,7 @@ fn tested(field: &[u8], triangles: &mut [u16], r: Unpacked) -> Unpacked
     Unpacked::Refused(23)
 }
 
-// Unpacks any bytes into any triangle buffer, where n place records were lent. Before 14 nothing changes.
+// Unpacks any bytes into any triangle buffer, where n place records were lent. After 12 to 14 nothing has changed.
 pub fn unpack_whole_on(pack: &[u8], triangles: &mut [u16], n: usize) -> Unpacked
     ensures { λ r. ⌜ UnpackedWholeOn (now (pack .entry)) (now (triangles .entry)) n r (now (triangles .exit)) ⌝ }
 {

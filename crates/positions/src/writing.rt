@@ -1,4 +1,5 @@
 // The positions that are lent with a list: 23, and the field that is written of them.
+use crate::field::is_in_range;
 use wire::fields::POSITIONS_TAG;
 ghost use mathlib.Core.Path.{_≡_};
 ghost use Prim.Native.Nat.{_+_, _*_, _<_};
@@ -19,18 +20,14 @@ fn unsigned(z: i16) -> u16
 }
 
 // Whether a position is in range.
-fn is_near(z: i16) -> bool
+fn is_position(z: i16) -> bool
     ensures { λ b. ⌜ b ≡ inGrid z ⌝ }
 {
-    let w = unsigned(z);
-    if w < 2048 {
-        return true;
-    }
-    63488 <= w
+    is_in_range(unsigned(z))
 }
 
 // 23, of positions that are lent for v vertices.
-pub fn are_positions(positions: &[i16], v: usize) -> bool
+pub(crate) fn are_positions(positions: &[i16], v: usize) -> bool
     ensures { λ b. ⌜ b ≡ positionsFit v (now (positions .entry)) ⌝ }
 {
     if positions.len() / 3 != v {
@@ -42,7 +39,7 @@ pub fn are_positions(positions: &[i16], v: usize) -> bool
     let mut i = positions.len();
     while 0 < i {
         i -= 1;
-        if !is_near(positions[i]) {
+        if !is_position(positions[i]) {
             return false;
         }
     }

@@ -1,6 +1,6 @@
 -- Words of two bytes, each where its number says: in the end they stand in the order of the numbers.
 -- Assumes nothing.
-use Prim.Native.Nat.{ℕ, suc, _+_, _-_, _*_, _/_, _%_, _≤_, _<_}
+use Prim.Native.Nat.{ℕ, _+_, _-_, _*_, _/_, _%_, _≤_, _<_}
 use native.Mathlib.Omega.{arith}
 use mathlib.Core.Bool.{Bool, true, false}
 use mathlib.Core.List.{List, _++_}
@@ -39,7 +39,7 @@ module _ (bs₀ : List ℕ) (from n : ℕ) (f w : ℕ → ℕ) where
   -- numbers below n that differ
   module _ (below : (y : ℕ) → y < n → f y < n) (tells : (y z : ℕ) → y < n → z < n → f y ≡ f z → y ≡ z)
       (room : from + 2 * n ≤ length bs₀) where
-    pub more-filled : (x : ℕ) (bs : List ℕ) → x < n → Filled bs₀ from n f w x bs
+    more-filled : (x : ℕ) (bs : List ℕ) → x < n → Filled bs₀ from n f w x bs
         → Filled bs₀ from n f w (x + 1) (setWord bs (from + 2 * f x) (w x))
     more-filled x bs l h = record { long = length-word bs at (w x) ∙ h .long; highs = highs; lows = lows; others = others }
       where

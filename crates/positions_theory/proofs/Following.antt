@@ -18,24 +18,24 @@ use Rattle.rules.specs.declared.Packed.the-variants as P
 use Rattle.rules.specs.Limits.{maxPlaces}
 use Rattle.rules.specs.Triangle.{trianglesOf}
 use Rattle.rules.specs.Check.{check}
-use Rattle.rules.specs.Answer.{refusal, packed, packedAnswer}
+use Rattle.rules.specs.Answer.{packed, packedAnswer}
 use Rattle.rules.specs.Buffer.{over, zeroed}
 use Rattle.rules.specs.Fields.{fieldOf}
 use Rattle.rules.specs.Grid.{allInGrid, positionBytes}
 use Rattle.rules.specs.Volume.{pointAt}
 use Rattle.rules.specs.Later.{positionsTag, given}
-use Rattle.rules.specs.Pack.{most, PackBuffers, PackResult, turnedDown, packRefused, packLongEnough, orderLongEnough, packChecked, pack}
+use Rattle.rules.specs.Pack.{most, PackBuffers, PackResult, turnedDown, packLongEnough, orderLongEnough, packChecked, pack}
 use Rattle.rules.specs.PackWhole.{positionsFit, packWhole}
 use Rattle.counting.proofs.Bools.{and-left, and-true}
 use Rattle.wire_theory.proofs.Positions.{length-positions}
 use Rattle.roundtrip.specs.Claims.{OneToOne}
-use Rattle.roundtrip.proofs.Results.{packed-by, not-packed}
+use Rattle.roundtrip.proofs.Results.{packed-by}
 use Rattle.pack_theory.specs.Packing.Lent.{lent, clearedBy, IsResult, PackedOn}
 use Rattle.pack_theory.proofs.Packing.Lending.{ranIn, isPast}
 use Rattle.pack_theory.proofs.Packing.Clearing.{packed-clears}
 use Rattle.pack_theory.proofs.Packing.Ending.{few-counts, zeroed-all}
 use Rattle.volume_theory.specs.Whole.{fieldLength, PassesRooms}
-use Rattle.volume_theory.specs.Shorter.{shorter, Appended}
+use Rattle.volume_theory.specs.Shorter.{shorter, mostPack, Appended}
 use Rattle.volume_theory.proofs.Beside.{byRooms, positions-follow-the-pack}
 use Rattle.volume_theory.proofs.Shorter.{packs-shorter}
 use Rattle.positions_theory.specs.Filling.{Renumbered, FieldRoom, FieldPut}
@@ -53,7 +53,7 @@ cleared-none r n bs e h =
 
 -- what follows, by the answer
 module _ (zs : List ℤ) (ns bs : List ℕ) (r : Packed) (k : ℕ) where
-  pub room-of : r ≡ P.Length k → Followable r zs ns bs → FieldRoom bs k zs ns × (k < 65550)
+  pub room-of : r ≡ P.Length k → Followable r zs ns bs → FieldRoom bs k zs ns × (k ≤ mostPack)
   room-of e h = subst (λ (x : Packed). Followable x zs ns bs) e h
 
   pub length-follows : r ≡ P.Length k → (s : Packed) (bs′ : List ℕ) → s ≡ P.Length (k + 3 + 2 * length zs) → FieldPut bs k zs ns bs′

@@ -4,10 +4,10 @@ use Prim.Native.Nat.{ℕ, _+_, _*_, _≤_, _<_}
 use native.Mathlib.Omega.{arith}
 use mathlib.Core.Bool.{Bool, true, false}
 use mathlib.Core.List.{List}
-use mathlib.Core.Path.{_≡_, refl, sym, ap, ap₂, _∙_, subst}
+use mathlib.Core.Path.{_≡_, refl, sym, ap, _∙_, subst}
 use lib.Dec.{eqb}
 use lib.IntN.{ℤ}
-use lib.ListN.{length, take, drop, getD}
+use lib.ListN.{length, take, getD}
 use lib.Seq.{getD-take}
 use borrow.Author.Tests.{eqb-true, eqb-false, eq-eqb, ne-eqb}
 use Rattle.rules.specs.declared.Model.{Model}
@@ -17,9 +17,9 @@ use Rattle.rules.specs.declared.Measured.{Measured}
 use Rattle.rules.specs.declared.Measured.the-variants as M
 use Rattle.rules.specs.Triangle.{trianglesOf}
 use Rattle.rules.specs.Answer.{Answer, refusal, unpacked, unpackedAnswer}
-use Rattle.rules.specs.Buffer.{zeroed, Buffers}
-use Rattle.rules.specs.Unpack.{numbersOf, UnpackResult, unpack}
-use Rattle.rules.specs.Later.{Given, not-given, given, Parts, no-parts, parts, partsOf}
+use Rattle.rules.specs.Buffer.{zeroed}
+use Rattle.rules.specs.Unpack.{UnpackResult, unpack}
+use Rattle.rules.specs.Later.{Given, not-given, given, partsOf}
 use Rattle.rules.specs.Grid.{positionsFrom}
 use Rattle.rules.specs.Volume.{sixVolumes}
 use Rattle.rules.specs.UnpackWhole.{fieldFits, modelIn, leftBy20, unpackWhole, VolumeResult, measuredAnswer, measuredSix, positionsIn}
@@ -103,11 +103,11 @@ module _ (bytes ts : List ℕ) (n : ℕ) where
             | false ↦ no-volume
           ]) e
 
-      pub rim-measured : (m .totals .rims ≡ 0 → ⊥) → (ts″ : List ℕ) → ts″ ≡ zeroed (3 * m .triangles) ts′
+      rim-measured : (m .totals .rims ≡ 0 → ⊥) → (ts″ : List ℕ) → ts″ ≡ zeroed (3 * m .triangles) ts′
           → MeasuredOn bytes ts n (M.Refused 24) ts″
       rim-measured k = none-measured (by-rims false (ne-eqb (m .totals .rims) 0 k))
 
-      pub volume-measured : m .totals .rims ≡ 0 → (z : ℤ) → z ≡ sixVolumes (positionsFrom bs) (trianglesOf (take (3 * m .triangles) ts′))
+      volume-measured : m .totals .rims ≡ 0 → (z : ℤ) → z ≡ sixVolumes (positionsFrom bs) (trianglesOf (take (3 * m .triangles) ts′))
           → MeasuredOn bytes ts n (M.Volume m z) ts′
       volume-measured k z e =
           let w = by-rims true (eq-eqb (m .totals .rims) 0 k) in

@@ -3,13 +3,13 @@
 use Prim.Native.Nat.{ℕ, zero, suc, _+_, _*_, _/_, _%_, _≤_, _<_}
 use native.Mathlib.Omega.{arith}
 use mathlib.Core.List.{List}
-use mathlib.Core.Path.{_≡_, refl, sym, ap, _∙_, subst}
+use mathlib.Core.Path.{_≡_, refl, sym, ap, _∙_}
 use lib.IntN.{ℤ, pos}
 use lib.ListN.{length, getD}
 use Rattle.rules.specs.declared.Point.{Point}
 use Rattle.rules.specs.Volume.{pointAt}
 use Rattle.roundtrip.specs.Claims.{OneToOne}
-use Rattle.positions_theory.specs.Filling.{placeOf, Puttable, Renumbered, FieldRoom}
+use Rattle.positions_theory.specs.Filling.{placeOf, Renumbered, FieldRoom}
 
 -- a point's three positions, by number
 abbrev part : Point → ℕ → ℤ

@@ -1,5 +1,5 @@
 -- What the cores of packing and unpacking with positions promise.
--- Interface: Unpacking.
+-- Interface: Packing and Unpacking, which positions and service cite, Filling, which positions cites.
 -- Assumes nothing.
 pub mod Filling
 pub mod Packing

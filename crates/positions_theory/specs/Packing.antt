@@ -1,6 +1,6 @@
 -- Packing with positions and n place records, of which only the number counts.
 -- Assumes nothing.
-use Prim.Native.Nat.{ℕ, _+_, _-_, _*_, _<_}
+use Prim.Native.Nat.{ℕ, _+_, _-_, _*_, _≤_}
 use mathlib.Core.Bool.{true, false}
 use mathlib.Core.List.{List}
 use mathlib.Core.Path.{_≡_}
@@ -14,6 +14,7 @@ use Rattle.rules.specs.Pack.{PackResult}
 use Rattle.rules.specs.Later.{given}
 use Rattle.rules.specs.PackWhole.{positionsFit, packWhole}
 use Rattle.pack_theory.specs.Packing.Lent.{lent, clearedBy, IsResult}
+use Rattle.volume_theory.specs.Shorter.{mostPack}
 use Rattle.positions_theory.specs.Filling.{FieldRoom, FieldPut}
 
 abbrev pub packWholeOn : ℕ → List ℕ → List ℤ → ℕ → List ℕ → List ℕ → List ℕ → PackResult
@@ -38,7 +39,7 @@ clearedAfter r bs = elim (ltb 0 (clearedBy r)) [ true ↦ zeroed (length bs) bs 
 
 -- an accepted packing of the list alone leaves room for the field after the pack, and the whole length fits
 abbrev pub Followable : Packed → List ℤ → List ℕ → List ℕ → Type 0
-Followable (P.Length k) zs ns bs = FieldRoom bs k zs ns × (k < 65550)
+Followable (P.Length k) zs ns bs = FieldRoom bs k zs ns × (k ≤ mostPack)
 Followable (P.Refused k) zs ns bs = Unit {0}
 
 -- the answer and the pack buffer, after the list alone was packed and answered r

@@ -15,31 +15,31 @@ use mir.Facts.{toZ-pos, toZ-ofZ}
 use Rattle.rules.specs.declared.Point.{Point}
 use Rattle.rules.specs.Grid.{signedOf}
 use Rattle.wire_theory.proofs.Positions.{signed-below, signed-from}
-use Rattle.volume_theory.specs.Near.{Near}
+use Rattle.volume_theory.specs.Near.{Near, limit64}
 use Rattle.volume_theory.proofs.Integers.{amount-sum, amount-difference, amount-product}
 
 mag-amount : (z : ℤ) → mag z ≤ natAbs z
 mag-amount (pos n) = omega arith
 mag-amount (negsuc n) = omega arith
 
-pub amount-fits : (z : ℤ) → natAbs z < 4000000000000000000 → SFits w64 z
+amount-fits : (z : ℤ) → natAbs z < limit64 → SFits w64 z
 amount-fits z h = record { sfits = (let k = mag-amount z in let e : mag z < 9223372036854775808 = omega arith in e) }
 
 -- an operation on two numbers as the machine keeps them
-module _ (f : ℤ → ℤ → ℤ) (a b : ℤ) (ha : SFits w64 a) (hb : SFits w64 b) (h : natAbs (f a b) < 4000000000000000000) where
+module _ (f : ℤ → ℤ → ℤ) (a b : ℤ) (ha : SFits w64 a) (hb : SFits w64 b) (h : natAbs (f a b) < limit64) where
   pub kept : SFits w64 (f (toZ w64 (ofZ w64 a)) (toZ w64 (ofZ w64 b)))
   kept = subst (SFits w64) (sym (ap₂ f (toZ-ofZ ha) (toZ-ofZ hb))) (amount-fits (f a b) h)
 
   pub is : toZ w64 (ofZ w64 (f (toZ w64 (ofZ w64 a)) (toZ w64 (ofZ w64 b)))) ≡ f a b
   is = toZ-ofZ kept ∙ ap₂ f (toZ-ofZ ha) (toZ-ofZ hb)
 
-pub small-product : (a b : ℤ) → natAbs a * natAbs b < 4000000000000000000 → natAbs (a *ℤ b) < 4000000000000000000
+pub small-product : (a b : ℤ) → natAbs a * natAbs b < limit64 → natAbs (a *ℤ b) < limit64
 small-product a b h = omega (arith, amount-product a b)
 
-pub small-sum : (a b : ℤ) → natAbs a + natAbs b < 4000000000000000000 → natAbs (a +ℤ b) < 4000000000000000000
+pub small-sum : (a b : ℤ) → natAbs a + natAbs b < limit64 → natAbs (a +ℤ b) < limit64
 small-sum a b h = omega (arith, amount-sum a b)
 
-pub small-difference : (a b : ℤ) → natAbs a + natAbs b < 4000000000000000000 → natAbs (a -ℤ b) < 4000000000000000000
+pub small-difference : (a b : ℤ) → natAbs a + natAbs b < limit64 → natAbs (a -ℤ b) < limit64
 small-difference a b h = omega (arith, amount-difference a b)
 
 -- a number of 16 bits, as the machine keeps it, made a signed one
@@ -80,12 +80,12 @@ answered {z} {y} {m} h = subst (λ (x : ℤ). (x ≡ y) × (natAbs x ≤ m)) (sy
 
 -- an operation on two of them
 module _ {a b x y : ℤ} {m n : ℕ} (ha : Holds a x m) (hb : Holds b y n) where
-  pub product-may : m * n < 4000000000000000000 → natAbs (held a) * natAbs (held b) < 4000000000000000000
+  pub product-may : m * n < limit64 → natAbs (held a) * natAbs (held b) < limit64
   product-may h =
       let k : natAbs (held a) * natAbs (held b) ≤ m * n = mul-le-mul (answered ha .1) (answered hb .1) in
       omega arith
 
-  pub sum-may : m + n < 4000000000000000000 → natAbs (held a) + natAbs (held b) < 4000000000000000000
+  pub sum-may : m + n < limit64 → natAbs (held a) + natAbs (held b) < limit64
   sum-may h = omega (arith, answered ha .1, answered hb .1)
 
   pub product-holds : (t : ℤ) → SFits w64 t → t ≡ held a *ℤ held b → Holds t (x *ℤ y) (m * n)

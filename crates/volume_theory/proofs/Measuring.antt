@@ -15,16 +15,16 @@ use Rattle.rules.specs.declared.Triangle.{Triangle}
 use Rattle.rules.specs.Limits.{maxTriangles}
 use Rattle.rules.specs.Triangle.{tri, trianglesOf}
 use Rattle.rules.specs.Volume.{determinant, sixVolumes}
-use Rattle.volume_theory.specs.Near.{Near, largest, determinantAt}
+use Rattle.volume_theory.specs.Near.{Near, largest, limit64, determinantAt}
 use Rattle.volume_theory.proofs.Integers.{amount-sum}
-use Rattle.volume_theory.proofs.Fitting.{held, Holds, answered, near, told}
+use Rattle.volume_theory.proofs.Fitting.{held, Holds, answered, near}
 use Rattle.volume_theory.proofs.Triple.{triple}
 
 same : (z : ℤ) → natAbs z ≤ 32768 → held z ≡ z
 same z l = answered (near z l) .0
 
 -- what a determinant of two by two numbers answers
-abbrev pub Minor : ℤ → ℤ → ℤ → ℤ → ℤ → Type 0
+abbrev Minor : ℤ → ℤ → ℤ → ℤ → ℤ → Type 0
 Minor m a b c d = SFits w64 m × (m ≡ held a *ℤ held d -ℤ held b *ℤ held c)
 
 minor-is : (m a b c d : ℤ) → natAbs a ≤ 32768 → natAbs b ≤ 32768 → natAbs c ≤ 32768 → natAbs d ≤ 32768 → Minor m a b c d
@@ -92,7 +92,7 @@ none-summed n zs xs =
 
 module _ (n : ℕ) (zs : List ℤ) (xs : List ℕ) (t : ℕ) (z d : ℤ) (few : n ≤ maxTriangles) (more : 0 < t)
     (s : Summed n zs xs t z) (h : Holds d (determinantAt zs xs (t - 1)) largest) where
-  pub sum-fits : natAbs (held d) + natAbs z < 4000000000000000000
+  pub sum-fits : natAbs (held d) + natAbs z < limit64
   sum-fits = omega (arith, answered h .1, s .small, s .within)
 
   pub more-summed : (w : ℤ) → 3 * (t - 1) + 3 ≤ length xs → SFits w64 w → w ≡ held d +ℤ z → Summed n zs xs (t - 1) (held w)

@@ -1,39 +1,34 @@
 -- Packing with positions by packing the list alone into a shorter buffer.
 -- Assumes nothing.
-use Prim.Native.Nat.{ℕ, _+_, _-_, _*_, _≤_, _<_, min}
+use Prim.Native.Nat.{ℕ, _+_, _-_, _≤_}
 use native.Mathlib.Omega.{arith}
 use mathlib.Core.Bool.{Bool, true, false}
-use mathlib.Core.List.{List, _++_}
+use mathlib.Core.List.{List}
 use mathlib.Core.Path.{_≡_, refl, sym, ap, _∙_}
 use lib.Dec.{leb}
 use lib.IntN.{ℤ}
-use lib.ListN.{length, take, drop, getD, length-append, length-take}
+use lib.ListN.{length, drop, length-take}
 use lib.Seq.{drop-at}
-use borrow.Author.Tests.{le-leb, lt-leb, leb-true, leb-false}
+use borrow.Author.Tests.{lt-leb, leb-false}
 use Rattle.rules.specs.declared.Triangle.{Triangle}
 use Rattle.rules.specs.declared.Operation.{Operation}
 use Rattle.rules.specs.Triangle.{trianglesOf}
-use Rattle.rules.specs.Answer.{Answer, refusal, packed}
-use Rattle.rules.specs.Buffer.{over}
-use Rattle.rules.specs.Fields.{fieldOf}
+use Rattle.rules.specs.Answer.{refusal, packed}
 use Rattle.rules.specs.Bits.{bytesOf}
 use Rattle.rules.specs.Code.{operationsBits}
 use Rattle.rules.specs.Choice.{Packing}
-use Rattle.rules.specs.Pack.{Chosen, stopped, chosen, most, chosenFor, orderFor, packOf, indexOf, newNumbers, PackBuffers, PackResult}
-use Rattle.rules.specs.Pack.{packRefused, packDone, packStored, contentsOf, packChosen, pack}
-use Rattle.rules.specs.Grid.{positionBytes}
-use Rattle.rules.specs.Volume.{pointAt}
-use Rattle.rules.specs.Later.{positionsTag, given}
-use Rattle.rules.specs.PackWhole.{positionsFit, positionsOf, wholePackOf, wholeContentsOf, wholeChosen, packWhole}
+use Rattle.rules.specs.Pack.{Chosen, stopped, chosen, most, chosenFor, orderFor, packOf, PackBuffers, PackResult}
+use Rattle.rules.specs.Pack.{packRefused, packStored, contentsOf, packChosen, pack}
+use Rattle.rules.specs.Later.{given}
+use Rattle.rules.specs.PackWhole.{positionsFit, wholePackOf, wholeContentsOf, wholeChosen, packWhole}
 use Rattle.wire_theory.proofs.Fields.{length-pack}
 use Rattle.choice_theory.proofs.Runs.RoundTrip.{statedBy, numbered-all, accepted-complete}
 use Rattle.choice_theory.proofs.Runs.Accepted.{accepted-packable}
 use Rattle.roundtrip.proofs.Results.{PackedBy, packed-by, not-packed, stored-done, stored-refused, within-checked}
-use Rattle.roundtrip.proofs.Each.{front-bytes, numbered, count, number-is, one-to-one}
+use Rattle.roundtrip.proofs.Each.{one-to-one}
 use Rattle.roundtrip.proofs.Fitting.{short-enough}
 use Rattle.volume_theory.specs.Whole.{fieldLength, PassesRooms}
-use Rattle.volume_theory.specs.Shorter.{shorter, Appended, Shorter}
-use Rattle.volume_theory.proofs.Positions.{length-positions-of, length-field, point-numbered}
+use Rattle.volume_theory.specs.Shorter.{shorter, mostPack, Appended, Shorter}
 use Rattle.volume_theory.proofs.Beside.{runs, longer, follows}
 
 module _ (v : ℕ) (xs : List ℕ) (zs : List ℤ) (r : PackBuffers) (fit : positionsFit v zs ≡ true) (rooms : PassesRooms v xs r) where
@@ -110,7 +105,7 @@ module _ (v : ℕ) (xs : List ℕ) (zs : List ℤ) (r : PackBuffers) (fit : posi
         )
 
     -- the bytes of the operations are fewer than 65,536
-    short : n < 65550
+    short : n ≤ mostPack
     short =
         let c = accepted-complete most v xs (p .operations) (p .last) (p .accepted) (p .chose) in
         omega (

@@ -1,7 +1,7 @@
 -- The determinant as a sum of three products, each of a position and a difference of two products.
 -- Assumes nothing.
 use mathlib.Core.Path.{_≡_, sym, ap, ap₂, _∙_}
-use lib.IntN.{ℤ, negℤ, _+ℤ_, _-ℤ_, _*ℤ_, +ℤ-assoc, +ℤ-comm, *ℤ-comm, +ℤ-negℤ-cancel, -ℤ-+ℤ-cancel}
+use lib.IntN.{ℤ, _+ℤ_, _-ℤ_, _*ℤ_, +ℤ-assoc, +ℤ-comm, *ℤ-comm, +ℤ-negℤ-cancel, -ℤ-+ℤ-cancel}
 use Rattle.rules.specs.declared.Point.{Point}
 use Rattle.rules.specs.Volume.{determinant}
 use Rattle.volume_theory.proofs.Integers.{difference-sums, spreads, *ℤ-assoc, three-factors}

@@ -21,6 +21,10 @@ pub record Near (p : Point) : Type 0 where
 abbrev pub largest : ℕ
 largest = 211106232532992
 
+-- numbers that amount to less fit 64 bits
+abbrev pub limit64 : ℕ
+limit64 = 4000000000000000000
+
 -- the field bs has the positions of the corners of triangle t of xs
 pub record HasPositions (xs : List ℕ) (t : ℕ) (bs : List ℕ) : Type 0 where
   pub long : 3 * t + 3 ≤ length xs

@@ -3,13 +3,15 @@
 use Prim.Native.Nat.{ℕ, _+_, _*_, _≤_, _<_}
 use mathlib.Core.Bool.{true, false}
 use mathlib.Core.List.{List, _++_}
+use mathlib.Core.Logic.{_↔_}
 use mathlib.Core.Path.{_≡_}
-use lib.IntN.{ℤ}
-use lib.ListN.{length, take}
+use lib.IntN.{ℤ, pos, negℤ, natAbs, _-ℤ_}
+use lib.ListN.{length, take, getD, set}
 use Rattle.rules.specs.declared.Counts.{Counts}
 use Rattle.rules.specs.declared.Model.{Model}
 use Rattle.rules.specs.declared.Checked.the-variants.{Accepted}
-use Rattle.rules.specs.Triangle.{trianglesOf}
+use Rattle.rules.specs.Triangle.{trianglesOf, In}
+use Rattle.rules.specs.Fan.{about}
 use Rattle.rules.specs.Check.{check}
 use Rattle.rules.specs.Answer.{refusal, packed, unpacked}
 use Rattle.rules.specs.Buffer.{over, Buffers}
@@ -109,3 +111,24 @@ abbrev pub NoTwoPacksOfOneListAndPositions : Type 0
 NoTwoPacksOfOneListAndPositions = (bytes bytes′ : List ℕ) → Bytes bytes → Bytes bytes′ → (r r′ : Buffers) (m m′ : Model)
     → unpackWhole bytes r .answer ≡ unpacked m → unpackWhole bytes′ r′ .answer ≡ unpacked m′
     → listIn m (unpackWhole bytes r) ≡ listIn m′ (unpackWhole bytes′ r′) → positionsOfPack bytes ≡ positionsOfPack bytes′ → bytes ≡ bytes′
+
+-- the list xs is packed with the positions zs, in some buffers, and the volume call gives s for its pack, in some buffers that are long
+-- enough
+pub record PackedAndMeasured (v : ℕ) (xs : List ℕ) (zs : List ℤ) (s : ℤ) : Type 0 where
+  pub packing : PackBuffers
+  pub size : ℕ
+  pub packs : packWhole v xs (given zs) packing .answer ≡ packed size
+  pub measuring : Buffers
+  pub long : LongEnoughFor (length (trianglesOf xs)) measuring
+  pub six : volume (take size (packWhole v xs (given zs) packing .buffers .pack)) measuring .six ≡ given s
+
+-- "A model turned inside out, if accepted too, gives the same amount with the other sign"
+abbrev pub TheCallInsideOut : Type 0
+TheCallInsideOut = (v : ℕ) (xs ys : List ℕ) (zs : List ℤ) (s t : ℤ) → PackedAndMeasured v xs zs s → PackedAndMeasured v ys zs t
+    → ((x y z : ℕ) → In x y z (trianglesOf xs) ↔ In y x z (trianglesOf ys)) → t ≡ negℤ s
+
+-- "Moving one of a vertex's three positions by d steps, within the range, moves the result by at most .."
+abbrev pub TheCallMovedByAtMost : Type 0
+TheCallMovedByAtMost = (v : ℕ) (xs : List ℕ) (zs : List ℤ) (w k : ℕ) (z : ℤ) (s t : ℤ) → k < 3
+    → PackedAndMeasured v xs zs s → PackedAndMeasured v xs (set zs (3 * w + k) z) t
+    → natAbs (t -ℤ s) ≤ 8388608 * (natAbs (z -ℤ getD zs (3 * w + k) (pos 0)) * length (about w (trianglesOf xs)))

@@ -165,10 +165,10 @@ pub fn parts_of(pack: &[u8]) -> PackParts
         return PackParts::Two;
     }
     let third = field_at(pack, b, POSITIONS_TAG);
-    let Contents::At(from, to) = third else {
+    let Contents::At(from, c) = third else {
         return PackParts::Neither;
     };
-    if to != pack.len() {
+    if c != pack.len() {
         return PackParts::Neither;
     }
     PackParts::Three(b, from)

@@ -1,5 +1,5 @@
 // A pack's bytes, read and written: its fields and its operations' bits. What the contracts cite stands in specs/.
-pub mod fields; // the two fields of a pack, found and written
+pub mod fields; // the fields of a pack: the first two found and written, a third found
 pub mod reader; // the operation reader
 pub mod writer; // operations as bits, written
 

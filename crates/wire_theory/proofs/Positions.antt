@@ -48,11 +48,6 @@ unfolding positionBytes
 length-positions [] = refl
 length-positions (z ∷ zs) = omega (arith, length-positions zs)
 
-pub positions-are-bytes : (zs : List ℤ) → Bytes (positionBytes zs)
-unfolding positionBytes
-positions-are-bytes [] = tt
-positions-are-bytes (z ∷ zs) = (omega arith, (omega arith, positions-are-bytes zs))
-
 pub positions-read : (zs : List ℤ) → allInGrid zs ≡ true → positionsFrom (positionBytes zs) ≡ zs
 unfolding positionBytes positionsFrom allInGrid
 positions-read [] h = refl

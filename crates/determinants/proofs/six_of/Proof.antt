@@ -4,7 +4,6 @@
 use native.Mathlib.Omega.{arith}
 use mir.Syntax.{w64}
 use mir.Val.{toZ}
-use borrow.Author.Needs.{needs}
 use Rattle.rules.specs.Grid.{positionsFrom}
 use Rattle.volume_theory.proofs.Fitting.{told}
 use Rattle.volume_theory.proofs.Measuring.{Summed, none-summed, sum-fits, more-summed, all-summed}

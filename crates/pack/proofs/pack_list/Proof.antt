@@ -31,7 +31,7 @@ array-share-prefix-positions : tie.Need-array-share-prefix-positions
 array-share-prefix-positions c = search needs
 
 slice-aggregate-pack-whole-on : tie.Need-slice-aggregate-pack-whole-on
-slice-aggregate-pack-whole-on c = sym (length-take-le _ _ (c .before .before .put-positions .ensures))
+slice-aggregate-pack-whole-on c = sym (length-take-le _ _ (c .before .before .put-positions .ensures .0 .room))
 
 pack-whole-on-requires : tie.Need-pack-whole-on-requires
 pack-whole-on-requires c κs = search needs

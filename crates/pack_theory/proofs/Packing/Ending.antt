@@ -2,16 +2,15 @@
 -- Assumes nothing.
 use Prim.Native.Nat.{ℕ, zero, suc, _+_, _-_, _*_, _/_, _≤_, _<_}
 use native.Mathlib.Omega.{arith}
-use mathlib.Core.Bool.{Bool, true, false, _&&_}
+use mathlib.Core.Bool.{Bool, true, false}
 use mathlib.Core.List.{List, [], _++_}
 use mathlib.Core.Path.{_≡_, refl, sym, ap, ap₂, _∙_, subst}
 use lib.ListN.{length, drop, replicate, length-replicate, drop-of-length-le}
 use lib.Seq.{drop-append-seam}
 use lib.Dec.{leb}
-use borrow.Author.Tests.{leb-true, le-leb, lt-leb}
+use borrow.Author.Tests.{leb-true}
 use Rattle.rules.specs.declared.Counts.{Counts}
 use Rattle.rules.specs.declared.Packed.{Packed}
-use Rattle.rules.specs.declared.Checked.{Checked}
 use Rattle.rules.specs.declared.Checked.the-variants as C
 use Rattle.rules.specs.declared.Packed.the-variants as P
 use Rattle.rules.specs.declared.Operation.{Operation}
@@ -22,11 +21,10 @@ use Rattle.rules.specs.Answer.{packed, packedAnswer}
 use Rattle.rules.specs.Buffer.{over, zeroed}
 use Rattle.rules.specs.Choice.{Packing, has}
 use Rattle.rules.specs.Pack.{Chosen, chosen, chooseAll, most, nothingBuilt, enough, chosenFor, orderFor, newNumbers, PackResult}
-use Rattle.rules.specs.Pack.{packRefused, PackContents, packDone, contentsOf, packChosen, turnedDown, packChecked}
+use Rattle.rules.specs.Pack.{packRefused, PackContents, packDone, contentsOf, packChosen}
 use Rattle.mesh_theory.proofs.Fans.Checks.{check-accepted, accepted-count}
 use Rattle.wire_theory.specs.Header.{headerOf}
 use Rattle.wire_theory.specs.Buffer.{bytesFor}
-use Rattle.mesh_theory.specs.Chains.Linked.{Linked}
 use Rattle.choice_theory.proofs.Runs.Whole as whole
 use Rattle.choice_theory.proofs.Runs.Whole.{Complete, fits-begin, complete-all}
 use Rattle.choice_theory.proofs.Runs.Accepted.{accepted-packable, accepted-packs}
@@ -43,7 +41,7 @@ use Rattle.pack_theory.specs.Packing.Course.{Holds, Held}
 use Rattle.pack_theory.specs.Packing.Writing.{Writes}
 use Rattle.pack_theory.specs.Packing.Steps.{Beyond, Ends, RunOf}
 use Rattle.pack_theory.specs.Packing.Finish.{countsAt, answerIf, finishAnswer, numbersIf, finishNumbers, packIf, finishPack, Sized}
-use Rattle.pack_theory.specs.Packing.Lent.{lent, packOn, IsResult, PackedOn, Fitting, emptyCourse, Begins, ranOn, RunGives}
+use Rattle.pack_theory.specs.Packing.Lent.{lent, IsResult, Fitting, emptyCourse, Begins, RunGives}
 use Rattle.pack_theory.specs.Packing.Order.{OrderLong, NotedFrom, Lists, ListsOf}
 use Rattle.pack_theory.proofs.Packing.Numbers.{entries-length, entries-none, entries-all}
 use Rattle.pack_theory.proofs.Packing.Flags.{unbuilt-all}
@@ -328,81 +326,3 @@ module _ (v : ℕ) (xs cs : List ℕ) (t : Course) (ns m : List ℕ) (h : Begins
             bytes = eb ∙ ap (λ (i : ℕ). finishPack end v i bs′) is ∙ g .bytes;
             order = eo ∙ ap (λ (i : ℕ). finishNumbers end i (length bs′) os′) is ∙ g .order;
           }
-
--- ---- any list, in any buffers
-
-module _ (v : ℕ) (xs ns bs os : List ℕ) (n : ℕ) (r : Checked) (e : r ≡ check v xs) where
-  as-checked : (c : Checked) → r ≡ c → packOn v xs n ns bs os ≡ packChecked most v (trianglesOf xs) (lent n ns bs os) c
-  as-checked c q = ap (packChecked most v (trianglesOf xs) (lent n ns bs os)) (sym e ∙ q)
-
-  -- nothing has changed
-  unchanged : (k : ℕ) → packOn v xs n ns bs os ≡ turnedDown k (lent n ns bs os) → PackedOn v xs ns bs os n (P.Refused k) ns bs os
-  unchanged k q = meets-as (turnedDown k (lent n ns bs os)) _ _ _ _ _ q
-      (record { answer = refl; numbering = refl; bytes = refl; order = refl })
-
-  -- 1 to 7
-  pub packed-unfit : (k : ℕ) → r ≡ C.Refused k → (p : Packed) → p ≡ P.Refused k → PackedOn v xs ns bs os n p ns bs os
-  unfolding packChecked
-  packed-unfit k q p ep =
-      subst (λ (x : Packed). PackedOn v xs ns bs os n x ns bs os) (sym ep) (unchanged k (as-checked (C.Refused k) q))
-
-  module _ (q : r ≡ C.Accepted) where
-    accepted : check v xs ≡ C.Accepted
-    accepted = sym e ∙ q
-
-    -- what comes of 8 and 22
-    abbrev past : Bool → Bool → PackResult
-    past a b =
-        elim a [
-          | true ↦ elim b [ true ↦ ranOn v xs n ns bs os | false ↦ turnedDown 22 (lent n ns bs os) ]
-          | false ↦ turnedDown 8 (lent n ns bs os)
-        ]
-
-    as-past : (a b : Bool) → leb v (length ns) && leb maxPlaces n ≡ a → leb (length (trianglesOf xs)) (length os) ≡ b
-        → packOn v xs n ns bs os ≡ past a b
-    unfolding packChecked
-    as-past a b l k =
-        as-checked C.Accepted q
-        ∙ ap₂ past (ap (λ (i : ℕ). leb v (length ns) && leb maxPlaces i) (length-replicate n _) ∙ l) k
-
-    -- 8
-    packed-short : leb v (length ns) && leb maxPlaces n ≡ false → PackedOn v xs ns bs os n (P.Refused 8) ns bs os
-    packed-short z = unchanged 8 (as-past false _ z refl)
-
-    pub packed-few : length ns < v → PackedOn v xs ns bs os n (P.Refused 8) ns bs os
-    packed-few l = packed-short (ap (λ (b : Bool). b && leb maxPlaces n) (lt-leb v (length ns) l))
-
-    pub packed-list : v ≤ length ns → n < 1024 → PackedOn v xs ns bs os n (P.Refused 8) ns bs os
-    packed-list l k = packed-short (ap₂ _&&_ (le-leb v (length ns) l) (lt-leb maxPlaces n k))
-
-    module _ (enough-numbers : v ≤ length ns) (many : 1024 ≤ n) where
-      long-enough : leb v (length ns) && leb maxPlaces n ≡ true
-      long-enough = ap₂ _&&_ (le-leb v (length ns) enough-numbers) (le-leb maxPlaces n many)
-
-      thirds : length xs / 3 ≡ length (trianglesOf xs)
-      thirds = count-is v xs accepted (length xs / 3) refl
-
-      -- 22
-      pub packed-order : length os < length xs / 3 → PackedOn v xs ns bs os n (P.Refused 22) ns bs os
-      packed-order l = unchanged 22
-          (as-past true false long-enough (lt-leb (length (trianglesOf xs)) (length os) (omega (arith, l, thirds))))
-
-      module _ (long : length xs / 3 ≤ length os) where
-        pub packed-room : OrderLong xs os
-        packed-room = omega (arith, long, thirds)
-
-        pub packed-fitting : (cs m : List ℕ) → Linked xs cs → length m ≡ 5320 → Fitting v xs cs ns m
-        packed-fitting cs m l w = record { accepted = accepted; linked = l; enough = enough-numbers; whole = w }
-
-        pub packed-ran : (p : Packed) (ns′ bs′ os′ : List ℕ) → RunGives v xs ns bs os p ns′ bs′ os′ → PackedOn v xs ns bs os n p ns′ bs′ os′
-        packed-ran p ns′ bs′ os′ g =
-            meets-as _ _ _ _ _ _ (as-past true true long-enough
-            (le-leb (length (trianglesOf xs)) (length os) (omega (arith, long, thirds))))
-            (g n)
-
--- a list's refusal is passed up
-pub checked-same : (c : Checked) (j k : ℕ) → c ≡ C.Refused j → c ≡ C.Refused k → P.Refused j ≡ P.Refused k
-checked-same c j k p q = cc
-
-pub checked-other : (c : Checked) (r : Packed) (k : ℕ) → c ≡ C.Accepted → c ≡ C.Refused k → r ≡ P.Refused k
-checked-other c r k p q = let z : _≡_ {A = ℕ} 0 1 = cc in absurd (omega arith)

@@ -1,7 +1,7 @@
 -- `packer::refusal_of` meets its contract: a refusal keeps its number.
 -- Assumes nothing.
 use borrow.Author.Needs.{needs}
-use Rattle.pack_theory.proofs.Packing.Ending.{checked-same, checked-other}
+use Rattle.pack_theory.proofs.Packing.Rooms.{checked-same, checked-other}
 use Rattle.packer.proofs.refusal_of.Statement.{statement}
 use Rattle.packer.proofs.refusal_of.Tie as tie
 

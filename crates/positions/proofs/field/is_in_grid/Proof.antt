@@ -1,7 +1,7 @@
 -- `positions::field::is_in_grid` meets its contract.
 -- Assumes nothing.
 use borrow.Author.Needs.{needs}
-use Rattle.wire_theory.proofs.Grid.{low-position, other-position}
+use Rattle.wire_theory.proofs.Grid.{by-bytes}
 use Rattle.positions.proofs.field.is_in_grid.Statement.{statement}
 use Rattle.positions.proofs.field.is_in_grid.Tie as tie
 
@@ -11,17 +11,14 @@ mul-word-at c = search needs
 word-at-requires : tie.Need-word-at-requires
 word-at-requires c κs = search needs
 
+is-in-range-requires : tie.Need-is-in-range-requires
+is-in-range-requires c κs = search needs
+
 returns : tie.Need-returns
 returns c =
     let w = c .before in
     let a = w .before .before in
-    low-position (a .args .field .now) (a .args .i) (w .word-at .result) (a .pre) (w .word-at .ensures) (c .if1 .taken)
-
-returns-2 : tie.Need-returns-2
-returns-2 c =
-    let w = c .before in
-    let a = w .before .before in
-    other-position (a .args .field .now) (a .args .i) (w .word-at .result) (a .pre) (w .word-at .ensures) (w .word-at .ok) (c .if1 .left)
+    by-bytes (a .args .field .now) (a .args .i) (w .word-at .result) _ (a .pre) (w .word-at .ensures) (c .is-in-range .ensures)
 
 pub is-in-grid-spec : {M : Type 1} → statement M
-is-in-grid-spec = tie.close (tie.spec mul-word-at word-at-requires returns returns-2)
+is-in-grid-spec = tie.close (tie.spec mul-word-at word-at-requires is-in-range-requires returns)

@@ -1,6 +1,6 @@
 -- `positions::measuring::volume_on` meets its contract: by the answer of the unpacking and the parts of the pack.
 -- Assumes nothing.
-use mathlib.Core.Path.{sym, ap, _∙_}
+use mathlib.Core.Path.{ap}
 use Rattle.rules.specs.UnpackWhole.{positionsIn}
 use Rattle.positions_theory.proofs.Measuring.{measured-refused, no-third-measured, third-measured, measurable}
 use Rattle.positions_theory.proofs.Unpacking.{as-model, whole-long}
