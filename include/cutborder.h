@@ -1,6 +1,6 @@
 /* The service's calls for C: checking, packing, unpacking and measuring triangle lists, and building them one operation at a time.
  *
- * Each call returns 0 for acceptance or the number of the refusal, 1 to 24:
+ * Each call returns 0 for acceptance or the number of the refusal, 1 to 25:
  *
  *    1  the list is empty, has over 24,576 numbers, or not three for each triangle
  *    2  v is below 3 or above 4,096
@@ -26,9 +26,11 @@
  *   22  packing is lent fewer order entries than there are triangles
  *   23  the positions are not three for each vertex, or one is not from -2,048 to 2,047
  *   24  there is no volume: the pack has no positions, or the model has a rim
+ *   25  the note has no byte or over 64
  *
- * docs/FORMAT.md has them in the order in which each call tests them. A refusal leaves the memory for results as it was, and changes a
- * buffer only where a rule says so. Nothing is kept between two calls, and no memory is allocated.
+ * docs/FORMAT.md has them in the order in which each call tests them. A refusal leaves the memory for results as it was (the bench
+ * reader's start and length are written always), and changes a buffer only where a rule says so. Nothing is kept between two calls, and
+ * no memory is allocated.
  *
  * What a caller owes: each pointer leads to as many entries as are stated, no two of them overlap, and nobody else writes them
  * meanwhile. All of it holds values of its type: the `open` of a record is 0 or 1, so memory from malloc is cleared first. A
@@ -91,17 +93,36 @@ uint32_t cutborder_pack_positions(size_t v, const uint16_t *list, size_t entries
                                   uint16_t *numbering, size_t numbering_entries, uint8_t *pack, size_t pack_bytes, uint16_t *order,
                                   size_t order_entries, struct cutborder_place *places, size_t records, uint32_t *size);
 
-/* 12 to 20, then 23, or the triangles, then vertices, triangles, edges, rims and unions, and the Euler number. The pack may have
- * positions; they are tested and not told. After 12 to 14 no buffer has changed. Otherwise the first 1,024 place records are zero, and
- * after 15 to 20 and 23 three triangle entries for each triangle stated too. */
+/* As cutborder_pack with a note for the bench, 1 to 64 bytes: 1 to 8, 22, 25, 9 to 11, or the pack of cutborder_pack followed by the
+ * note, note_bytes + 3 bytes more. After 25 no buffer has changed; all else as there. */
+uint32_t cutborder_pack_note(size_t v, const uint16_t *list, size_t entries, const uint8_t *note, size_t note_bytes, uint16_t *numbering,
+                             size_t numbering_entries, uint8_t *pack, size_t pack_bytes, uint16_t *order, size_t order_entries,
+                             struct cutborder_place *places, size_t records, uint32_t *size);
+
+/* With positions and a note: 1 to 8, 22, 23, 25, 9 to 11, or the pack of cutborder_pack_positions followed by the note; all else as
+ * with either. */
+uint32_t cutborder_pack_positions_note(size_t v, const uint16_t *list, size_t entries, const int16_t *positions, size_t position_entries,
+                                       const uint8_t *note, size_t note_bytes, uint16_t *numbering, size_t numbering_entries,
+                                       uint8_t *pack, size_t pack_bytes, uint16_t *order, size_t order_entries,
+                                       struct cutborder_place *places, size_t records, uint32_t *size);
+
+/* 12 to 20, then 23 and 25, or the triangles, then vertices, triangles, edges, rims and unions, and the Euler number. The pack may have
+ * positions and a note; they are tested and not told. After 12 to 14 no buffer has changed. Otherwise the first 1,024 place records are
+ * zero, and after 15 to 20, 23 and 25 three triangle entries for each triangle stated too. */
 uint32_t cutborder_unpack(const uint8_t *pack, size_t bytes, uint16_t *triangles, size_t triangle_entries, struct cutborder_place *places,
                           size_t records, uint16_t model[5], int32_t *euler);
 
-/* 12 to 20, then 23 and 24, or the same as cutborder_unpack and six times the enclosed volume, the exact sum over the triangles of the
- * determinant of their corners: a model turned inside out, if accepted too, has the other sign. After 24 the buffers are as after 20;
- * all else as there. */
+/* 12 to 20, then 23, 25 and 24, or the same as cutborder_unpack and six times the enclosed volume, the exact sum over the triangles of
+ * the determinant of their corners: a model turned inside out, if accepted too, has the other sign. After 24 the buffers are as after
+ * 20; all else as there. */
 uint32_t cutborder_volume(const uint8_t *pack, size_t bytes, uint16_t *triangles, size_t triangle_entries, struct cutborder_place *places,
                           size_t records, uint16_t model[5], int32_t *euler, int64_t *six);
+
+/* The bench reader: answers and writes as cutborder_unpack, refusals too, and tells where the note stands in the pack: from pack[start]
+ * on, so many bytes. Start and length are always written, both 0 if there is no note or the pack is refused. No other call's answer
+ * depends on a note of 1 to 64 bytes or on whether there is one. */
+uint32_t cutborder_bench(const uint8_t *pack, size_t bytes, uint16_t *triangles, size_t triangle_entries, struct cutborder_place *places,
+                         size_t records, uint16_t model[5], int32_t *euler, size_t *start, size_t *length);
 
 /* 13 and 14, or a builder that holds nothing. A count above 65,535 is 13. */
 uint32_t cutborder_begin(uint32_t vertices, uint32_t triangles_stated, uint32_t most_places, uint32_t most_loops, uint16_t *triangles,

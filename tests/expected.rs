@@ -7,11 +7,11 @@ use cutborder::ops::{Counts, Op};
 use cutborder::plain::{self, Chosen, Given, PackRooms, Trace};
 use cutborder::proto;
 use cutborder::rng::Rng;
-use cutborder::{gen02, Answer, Level, Place, Refusal};
+use cutborder::{gen02, note, Answer, Level, Place, Refusal};
 
-/// C-11 to C-14 have landed: packing fills the order buffer, packs may have positions, and loops are shortened; C-12 changes no answer of
-/// a call.
-pub const LEVEL: Level = Level(14);
+/// C-11 to C-15 have landed: packing fills the order buffer, packs may have positions and a note, and loops are shortened; C-12 changes
+/// no answer of a call.
+pub const LEVEL: Level = Level(15);
 
 /// The limits of the rules on places and loops.
 pub const LIMITS: (u32, u32) = (1_024, 100);
@@ -23,13 +23,18 @@ pub fn choose(v: u64, list: &[u16], limits: (u32, u32)) -> Result<(Vec<Op>, Chos
     Ok((trace.ops, chosen))
 }
 
-/// What packing is given beside the list: positions by old vertex or none. C-15 and C-17, note and codes, have not landed.
-fn given(positions: Option<&[i32]>) -> Given<'_> {
-    Given { positions, ..Given::default() }
+/// What packing is given beside the list: positions by old vertex or none, a note or none. C-17, codes, has not landed.
+fn given<'a>(positions: Option<&'a [i32]>, note: Option<&'a [u8]>) -> Given<'a> {
+    Given { positions, note, ..Given::default() }
 }
 
 pub fn pack(v: u64, list: &[u16], positions: Option<&[i32]>, rooms: PackRooms) -> Result<usize, Refusal> {
-    plain::pack_at(LEVEL, v, list, given(positions), rooms, &mut Trace::default())
+    pack_whole(v, list, positions, None, rooms)
+}
+
+/// The same with a note, if it is given.
+pub fn pack_whole(v: u64, list: &[u16], positions: Option<&[i32]>, note: Option<&[u8]>, rooms: PackRooms) -> Result<usize, Refusal> {
+    plain::pack_at(LEVEL, v, list, given(positions, note), rooms, &mut Trace::default())
 }
 
 /// The fields of a pack, or 12.
@@ -51,6 +56,11 @@ pub fn volume(bytes: &[u8], triangles: &mut [u16], places: &mut [Place]) -> Resu
     cutborder::volume::volume(LEVEL, bytes, triangles, places)
 }
 
+/// The bench reader: what unpacking answers, and the note as a part of the pack, empty if there is none or the pack is refused.
+pub fn bench<'a>(bytes: &'a [u8], triangles: &mut [u16], places: &mut [Place]) -> (Result<Answer, Refusal>, &'a [u8]) {
+    note::read(LEVEL, bytes, triangles, places)
+}
+
 /// A beginning.
 pub fn begin(counts: Counts, entries: usize, records: usize) -> Result<Book, Refusal> {
     Book::begin_at(LEVEL, counts, entries, records)
@@ -58,7 +68,7 @@ pub fn begin(counts: Counts, entries: usize, records: usize) -> Result<Book, Ref
 
 /// A model's pack, with positions by old vertex if they are given; none if it is refused.
 pub fn packed(m: &Model, positions: Option<&[i32]>) -> Option<Vec<u8>> {
-    gen::packed_at(LEVEL, m, given(positions))
+    gen::packed_at(LEVEL, m, given(positions, None))
 }
 
 /// A way to change a list, with its name.
@@ -84,6 +94,31 @@ fn change_one(rng: &mut Rng, positions: &mut [i32], z: i32) {
     positions[rng.below(positions.len())] = z;
 }
 
+/// Ways to change a note so that 25 refuses it; some have a length whose low byte would do.
+pub const UNFIT_NOTES: [Way<u8>; 9] = [
+    ("25: no byte", |_, note| note.clear()),
+    ("25: 65 bytes", |_, note| note.resize(65, 0)),
+    ("25: 66 bytes", |_, note| note.resize(66, 4)),
+    ("25: 128 bytes", |_, note| note.resize(128, 0)),
+    ("25: 256 bytes", |_, note| note.resize(256, 9)),
+    ("25: 257 bytes", |_, note| note.resize(257, 0)),
+    ("25: 320 bytes", |_, note| note.resize(320, 9)),
+    ("25: 65,535 bytes", |_, note| note.resize(65_535, 0)),
+    ("25: any number over 64", |rng, note| note.resize(rng.range(65, 2_000), 9)),
+];
+
+/// A note that fits, of any bytes.
+pub fn random_note(rng: &mut Rng) -> Vec<u8> {
+    (0..rng.range(1, 64)).map(|_| rng.next() as u8).collect()
+}
+
+/// A note that 25 refuses.
+pub fn unfit_note(rng: &mut Rng) -> Vec<u8> {
+    let mut note = random_note(rng);
+    UNFIT_NOTES[rng.below(UNFIT_NOTES.len())].1(rng, &mut note);
+    note
+}
+
 /// Positions as the contents of their field.
 pub fn contents_of(positions: &[i32]) -> Vec<u8> {
     positions.iter().flat_map(|&z| (z as i16).to_be_bytes()).collect()
@@ -91,7 +126,17 @@ pub fn contents_of(positions: &[i32]) -> Vec<u8> {
 
 /// A pack of two fields followed by a field of positions with these contents.
 pub fn with_field(two: &[u8], contents: &[u8]) -> Vec<u8> {
-    [two, &[3], &(contents.len() as u16).to_be_bytes(), contents].concat()
+    followed(two, 3, contents)
+}
+
+/// A pack without a note followed by one.
+pub fn with_note(pack: &[u8], note: &[u8]) -> Vec<u8> {
+    followed(pack, 4, note)
+}
+
+/// Some bytes followed by a field.
+fn followed(bytes: &[u8], tag: u8, contents: &[u8]) -> Vec<u8> {
+    [bytes, &[tag], &(contents.len() as u16).to_be_bytes(), contents].concat()
 }
 
 /// A pack of two fields followed by positions that 23 refuses.
@@ -107,9 +152,10 @@ pub fn random_pack(rng: &mut Rng, max_t: usize) -> Vec<u8> {
     gen::pack_at(LEVEL, rng, max_t)
 }
 
-/// A random pack, sound or not, that may have positions; now and then nothing but these is wrong.
+/// A random pack, sound or not, that may have positions and a note; now and then nothing but one of these is wrong.
 pub fn random_whole_pack(rng: &mut Rng) -> Vec<u8> {
-    match rng.chance(1, 6).then(|| packed(&gen02::model(rng), None)).flatten() {
+    match rng.chance(1, 5).then(|| packed(&gen02::model(rng), None)).flatten() {
+        Some(two) if rng.chance(1, 3) => with_note(&two, &unfit_note(rng)),
         Some(two) => with_unfit_field(rng, &two),
         None => gen02::pack(LEVEL, rng),
     }

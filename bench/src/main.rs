@@ -1,8 +1,8 @@
 //! Speed of the service as a ratio to the second program's fast engine, both in one run.
 //! `service-bench [REPEATS] [positions|building|search]`
 //!
-//! Nanoseconds a triangle, the median over many calls; buffers are reused and not cleared between calls. Then packs with positions and
-//! their volumes, the building calls, and the search for the triangle with an edge.
+//! Nanoseconds a triangle, the median over many calls; buffers are reused and not cleared between calls. Then packs with positions, their
+//! volumes and notes, the building calls, and the search for the triangle with an edge.
 
 mod positions;
 mod searching;

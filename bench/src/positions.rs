@@ -3,6 +3,7 @@
 
 use crate::{grown, medians, packings, print_ratio, unpackings};
 use compare::expected::{self, LEVEL};
+use compare::{bench, pack_whole, Buffers};
 use cutborder::fast::Unpacker;
 use cutborder::gen::{self, Model};
 use cutborder::rng::Rng;
@@ -58,7 +59,7 @@ fn volumes(pack: &[u8], m: &Model, repeats: usize) -> Option<((f64, f64), (f64, 
     Some((ratio, medians(repeats, &mut ours, unpacking)))
 }
 
-/// Prints a line for each model; one with a rim has no volume.
+/// Prints a line for each model; one with a rim has no volume. Then what a note costs.
 pub fn table(repeats: usize) {
     println!("with positions: nanoseconds a triangle, median of {repeats} calls, ours and the second program's, and their ratio");
     println!("its fast engine has no positions: what it has for them elsewhere, written plainly, is called after the engine");
@@ -79,6 +80,34 @@ pub fn table(repeats: usize) {
             print_ratio(ratio, t);
             print!("  {:>6.1}", (volume - unpack) / t);
         }
+        println!();
+    }
+    println!();
+    notes(repeats);
+}
+
+/// What a note of 64 bytes costs beside positions: packing with it and without; the bench reader, and unpacking the same pack.
+fn notes(repeats: usize) {
+    println!("with positions and a note: nanoseconds a triangle, median of {repeats} calls, ours with and without it, and their ratio");
+    println!(
+        "{:<16} {:>6} {:>6}  {:>8} {:>8} {:>6}  {:>8} {:>8} {:>6}",
+        "model", "V", "T", "pack", "without", "ratio", "bench", "unpack", "ratio"
+    );
+    for (name, m) in grown().into_iter().take(2) {
+        let (v, t, note) = (m.v as usize, m.list.len() / 3, [9; 64]);
+        let positions = vec![0; 3 * v];
+        let (mut noted, mut plain) = (Buffers::ample(v, t), Buffers::ample(v, t));
+        let pack = |note: Option<&[u8]>, lent: &mut Buffers| {
+            black_box(pack_whole(v, black_box(&m.list), Some(&positions), note, lent.lend())).expect("an accepted list")
+        };
+        print!("{name:<16} {v:>6} {t:>6}");
+        print_ratio(medians(repeats, || _ = pack(Some(&note), &mut noted), || _ = pack(None, &mut plain)), t as f64);
+        let size = pack(Some(&note), &mut noted);
+        let whole = noted.pack[..size].to_vec();
+        let (mut triangles, mut unpacked) = (vec![0; 3 * t], vec![0; 3 * t]);
+        let read = || _ = black_box(bench(black_box(&whole), &mut triangles, &mut noted.places)).0.expect("an accepted pack");
+        let unpack = || _ = black_box(compare::unpack(black_box(&whole), &mut unpacked, &mut plain.places)).expect("an accepted pack");
+        print_ratio(medians(repeats, read, unpack), t as f64);
         println!();
     }
 }

@@ -1,5 +1,5 @@
-/* The calls from C: M2 of the paper checked, packed, unpacked and built, a cube packed with positions and measured, a list searched, and
- * calls that are refused. */
+/* The calls from C: M2 of the paper checked, packed, unpacked and built, a cube packed with positions and measured, M2 packed with a note
+ * that is read back, a list searched, and calls that are refused. */
 #include "../../include/cutborder.h"
 #include "../../include/cutborder_search.h"
 #include <stdio.h>
@@ -154,6 +154,66 @@ static void rim(void) {
     EXPECT(cutborder_unpack(pack, size, triangles, 3, places, 1024, model, &euler) == 0 && model[3] == 1);
 }
 
+static const uint8_t note[65] = "Order 4711: two of these, \0 by Friday";
+
+/* M2 with so many bytes of the note, and with positions if they are given. */
+static uint32_t note_packed(const int16_t *positions, size_t note_bytes, size_t pack_bytes) {
+    size = 77;
+    memset(cube_pack, 5, sizeof cube_pack);
+    if (!positions)
+        return cutborder_pack_note(4, list, 12, note, note_bytes, numbering, 4, cube_pack, pack_bytes, order, 6, places, 1024, &size);
+    return cutborder_pack_positions_note(4, list, 12, positions, 12, note, note_bytes, numbering, 4, cube_pack, pack_bytes, order, 6,
+                                         places, 1024, &size);
+}
+
+/* The pack with a note is the pack without, `plain_pack`, followed by the field; 23, 25 and 11. */
+static void packs_note(const int16_t *positions, uint32_t plain_size) {
+    static const int16_t out[12] = {2048};
+    EXPECT(note_packed(positions, 0, 0) == 25 && size == 77 && cube_pack[0] == 5);
+    EXPECT(note_packed(positions, 65, sizeof cube_pack) == 25 && size == 77 && cube_pack[0] == 5);
+    EXPECT(note_packed(out, 65, sizeof cube_pack) == 23 && size == 77 && cube_pack[0] == 5);
+    EXPECT(note_packed(positions, 1, plain_size + 3) == 11 && size == 77 && cube_pack[0] == 0 && cube_pack[plain_size + 3] == 5);
+    EXPECT(note_packed(positions, 1, plain_size + 4) == 0 && size == plain_size + 4);
+    EXPECT(note_packed(positions, 64, sizeof cube_pack) == 0 && size == plain_size + 67 && cube_pack[size] == 5);
+    EXPECT(memcmp(cube_pack, plain_pack, plain_size) == 0 && memcmp(cube_pack + plain_size + 3, note, 64) == 0);
+    EXPECT(cube_pack[plain_size] == 4 && cube_pack[plain_size + 1] == 0 && cube_pack[plain_size + 2] == 64);
+}
+
+/* The note that was packed last is read back as a part of the pack; the other calls answer as without it. */
+static void reads_note(uint32_t plain_size, uint32_t volume_answer) {
+    uint16_t triangles[12], model[5] = {7, 7, 7, 7, 7};
+    int32_t euler = -77;
+    int64_t six = 77;
+    size_t start = 7, length = 7;
+    EXPECT(cutborder_bench(cube_pack, size, triangles, 12, places, 1024, model, &euler, &start, &length) == 0);
+    EXPECT(start == plain_size + 3 && length == 64 && memcmp(cube_pack + start, note, length) == 0);
+    EXPECT(memcmp(triangles, as_built, sizeof as_built) == 0 && model[0] == 4 && model[2] == 6 && euler == 2);
+    EXPECT(cutborder_bench(cube_pack, plain_size, triangles, 12, places, 1024, model, &euler, &start, &length) == 0);
+    EXPECT(start == 0 && length == 0);
+    start = 7;
+    EXPECT(cutborder_bench(cube_pack, size - 1, triangles, 12, places, 1024, model, &euler, &start, &length) == 12);
+    EXPECT(start == 0 && length == 0);
+    EXPECT(cutborder_unpack(cube_pack, size, triangles, 12, places, 1024, model, &euler) == 0 && model[1] == 4 && euler == 2);
+    EXPECT(cutborder_volume(cube_pack, size, triangles, 12, places, 1024, model, &euler, &six) == volume_answer);
+    EXPECT(six == (volume_answer == 0 ? -125 : 77));
+    cube_pack[plain_size + 2] = 0;
+    EXPECT(cutborder_volume(cube_pack, plain_size + 3, triangles, 12, places, 1024, model, &euler, &six) == 25 && triangles[1] == 0);
+    EXPECT(cutborder_bench(cube_pack, plain_size + 3, triangles, 12, places, 1024, model, &euler, &start, &length) == 25 && length == 0);
+}
+
+/* M2 with a note, without positions, where volume is 24, and with them. */
+static void notes(void) {
+    static const int16_t positions[12] = {0, 0, 0, 5, 0, 0, 0, 5, 0, 0, 0, 5};
+    uint32_t plain_size;
+    EXPECT(cutborder_pack(4, list, 12, numbering, 4, plain_pack, sizeof plain_pack, order, 6, places, 1024, &plain_size) == 0);
+    packs_note(NULL, plain_size);
+    reads_note(plain_size, 24);
+    EXPECT(cutborder_pack_positions(4, list, 12, positions, 12, numbering, 4, plain_pack, sizeof plain_pack, order, 6, places, 1024,
+                                    &plain_size) == 0);
+    packs_note(positions, plain_size);
+    reads_note(plain_size, 0);
+}
+
 /* A list that 5 refuses, 5 to 6 being in three triangles, the last of which is triangle 2. */
 static void searches(void) {
     static const uint16_t thrice[12] = {5, 6, 7, 10, 5, 6, 6, 9, 5, 6, 5, 8};
@@ -179,6 +239,7 @@ int main(void) {
         measures(i == 0 ? 6000 : -6000);
     }
     rim();
+    notes();
     searches();
     return wrong != 0;
 }

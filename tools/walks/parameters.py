@@ -7,7 +7,7 @@ from sources import declaration
 WIDTHS = {'u8': 'w8', 'u16': 'w16', 'u32': 'w32', 'u64': 'w64', 'usize': 'w64'}
 # of a slice the row of its entries and what it denotes; what memory for a number denotes
 SLICES = {'u8': ('u8', 'List ℕ'), 'u16': ('u16', 'List ℕ'), 'i16': ('i16', 'List ℤ'), 'Place': ('R', 'List Place')}
-OUTS = {'u32': 'ℕ', 'i32': 'ℤ', 'i64': 'ℤ'}
+OUTS = {'u32': 'ℕ', 'usize': 'ℕ', 'i32': 'ℤ', 'i64': 'ℤ'}
 
 
 def library(crate, user, kind):

@@ -2,8 +2,8 @@
 
 The borrow checker covers no function that is lent a struct or a slice of structs, so such a function is proved by a walk of its MIR.
 The body's statements are those of `lowering`. PARAMETERS: numbers, `&[u8]`, `&[u16]`, `&[i16]`, `&[Place]`, the same with `&mut`,
-`&mut STRUCT`, `&STRUCT` (which is read only), and memory for results: `&mut u32`, `&mut i32`, `&mut i64`, `&mut [u16; N]`. The result is
-a `u32`.
+`&mut STRUCT`, `&STRUCT` (which is read only), and memory for results: `&mut u32`, `&mut usize`, `&mut i32`, `&mut i64`, `&mut [u16; N]`.
+The result is a `u32`.
 
 What each callee promises is read from its contract. The law proves the function's own contract: in it {p1}, .. are the parameters,
 {q1}, .. their last values, {n} the result, {r1}, .. the results of the calls in order, and {e1}, .. what they promise.

@@ -43,6 +43,11 @@ def declaration(name):
     return found[0]
 
 
+def one_line(statement):
+    """A statement in one line, its calls too if they are laid out over several."""
+    return re.sub(r',? \)', ')', ' '.join(statement.split()).replace('( ', '('))
+
+
 class Function:
     """A function of the sources, by its path from its crate on: its parameters' names and types, its result, its contract, its body."""
 
@@ -57,7 +62,7 @@ class Function:
         inside, self.result, self.contract, body = found.groups()
         self.params = [tuple(part.strip() for part in p.split(':')) for p in inside.split(',') if p.strip()]
         # each statement, and the last expression, in one line
-        self.body = [' '.join(s.split()) for s in re.sub(r'//.*', '', body).split(';') if s.strip()]
+        self.body = [one_line(s) for s in re.sub(r'//.*', '', body).split(';') if s.strip()]
 
     def named(self, path):
         """What a path in this file names, from its crate on."""

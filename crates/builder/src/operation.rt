@@ -3,10 +3,10 @@
 use border::build;
 use border::decide;
 use border::mark;
-use border::notes::by_border;
-use border::notes::note;
-use border::notes::note_nothing;
-use border::notes::touched;
+use border::touches::by_border;
+use border::touches::note;
+use border::touches::note_nothing;
+use border::touches::touched;
 use border::triangles::put_triangle;
 use cutborder::Decided;
 use cutborder::Front;

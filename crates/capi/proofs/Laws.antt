@@ -15,11 +15,13 @@ use Rattle.rules.specs.declared.Performed.{Performed}
 use Rattle.rules.specs.declared.Finished.{Finished}
 use Rattle.rules.specs.declared.Packed.{Packed}
 use Rattle.rules.specs.declared.Unpacked.{Unpacked}
+use Rattle.rules.specs.declared.Benched.{Benched}
 use Rattle.rules.specs.declared.Measured.{Measured}
 use Rattle.rules.specs.Answer.{Answer, refusal, accepted, triangle, no-triangle, numbers, packed, unpacked, checkedAnswer, begunAnswer}
 use Rattle.rules.specs.Answer.{operatedAnswer, finishedAnswer, packedAnswer, unpackedAnswer}
 use Rattle.rules.specs.Later.{Given}
-use Rattle.rules.specs.UnpackWhole.{measuredAnswer, measuredSix}
+use Rattle.rules.specs.PackWhole.{Extras}
+use Rattle.rules.specs.Reading.{measuredAnswer, measuredSix}
 use Rattle.rules.specs.Machine.{Step, refused, begun, built, declared, finished}
 use Rattle.rules.specs.Book.{answerOf}
 use Rattle.rules.specs.Buffer.{Buffers}
@@ -27,9 +29,9 @@ use Rattle.rules.specs.Build.{begins, operates, BegunBy, OperatedBy}
 use Rattle.promises.specs.Promises.{lentTo, Beginning, Operating, Finishing}
 use Rattle.promises.specs.Promises as P
 use Rattle.capi.specs.Answered.{numberOf, sizeAfter, modelAfter, totalsAfter, eulerAfter, sixAfter, builtAfter, keptOr}
-use Rattle.capi.specs.Exported.{Packs, Unpacks, Measures, BegunAs, Begins, Operates, Finishes}
+use Rattle.capi.specs.Exported.{Packs, Unpacks, Measures, Tells, BegunAs, Begins, Operates, Finishes}
 
-pub packs-for : (v : ℕ) (xs : List ℕ) (g : Given (List ℤ)) (ns bs os : List ℕ) (ps : List Place) (z : ℕ) (r : Packed) (n : ℕ)
+pub packs-for : (v : ℕ) (xs : List ℕ) (g : Extras) (ns bs os : List ℕ) (ps : List Place) (z : ℕ) (r : Packed) (n : ℕ)
     (ns′ bs′ os′ : List ℕ) (ps′ : List Place) (z′ : ℕ)
     → P.Packs v xs g ns bs os ps r ns′ bs′ os′ ps′ → (n ≡ numberOf (packedAnswer r)) × (z′ ≡ sizeAfter z (packedAnswer r))
     → Packs v xs g ns bs os ps z n ns′ bs′ os′ ps′ z′
@@ -66,6 +68,22 @@ measures-for bytes ts ps ms e z r n ts′ ps′ ms′ e′ z′ k f = record {
   model = f .1 .0 ∙ ap (λ (a : Answer). modelAfter ms a) (k .answer);
   euler = f .1 .1 .0 ∙ ap (λ (a : Answer). eulerAfter e a) (k .answer);
   six = f .1 .1 .1 ∙ ap (λ (x : Given ℤ). sixAfter z x) (k .six);
+  triangles = k .triangles;
+  places = k .places;
+}
+
+pub tells-for : (bytes ts : List ℕ) (ps : List Place) (ms : List ℕ) (e : ℤ) (b : Benched) (n : ℕ) (ts′ : List ℕ) (ps′ : List Place)
+    (ms′ : List ℕ) (e′ : ℤ) (s l : ℕ)
+    → P.Tells bytes ts ps b ts′ ps′
+    → (n ≡ numberOf (unpackedAnswer (b .answer))) × ((ms′ ≡ modelAfter ms (unpackedAnswer (b .answer)))
+    × ((e′ ≡ eulerAfter e (unpackedAnswer (b .answer))) × ((s ≡ b .start) × (l ≡ b .length))))
+    → Tells bytes ts ps ms e n ts′ ps′ ms′ e′ s l
+tells-for bytes ts ps ms e b n ts′ ps′ ms′ e′ s l k f = record {
+  number = f .0 ∙ ap numberOf (k .answer);
+  model = f .1 .0 ∙ ap (λ (a : Answer). modelAfter ms a) (k .answer);
+  euler = f .1 .1 .0 ∙ ap (λ (a : Answer). eulerAfter e a) (k .answer);
+  start = f .1 .1 .1 .0 ∙ k .start;
+  long = f .1 .1 .1 .1 ∙ k .long;
   triangles = k .triangles;
   places = k .places;
 }

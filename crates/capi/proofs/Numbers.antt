@@ -24,7 +24,7 @@ use Rattle.rules.specs.declared.Measured.{Measured}
 use Rattle.rules.specs.declared.Measured.the-variants as M
 use Rattle.rules.specs.Code.{kinds, kindIn}
 use Rattle.rules.specs.Answer.{operatedAnswer, finishedAnswer, unpackedAnswer}
-use Rattle.rules.specs.UnpackWhole.{measuredAnswer, measuredSix}
+use Rattle.rules.specs.Reading.{measuredAnswer, measuredSix}
 use Rattle.capi.specs.Given.{within16, countsOf, none, splitOf, unionOf, plainOf, operationOf}
 use Rattle.capi.specs.Answered.{numberOf, modelAfter, totalsAfter, eulerAfter, sixAfter, builtAfter}
 

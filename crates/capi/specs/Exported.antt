@@ -4,6 +4,7 @@ use Prim.Native.Nat.{ℕ}
 use mathlib.Core.List.{List}
 use mathlib.Core.Path.{_≡_}
 use lib.IntN.{ℤ}
+use lib.ListN.{length}
 use Rattle.rules.specs.declared.Place.{Place}
 use Rattle.rules.specs.declared.Counts.{Counts}
 use Rattle.rules.specs.declared.Operation.{Operation}
@@ -12,14 +13,13 @@ use Rattle.rules.specs.Machine.{Step, refused, begun, built, declared, finished
 use Rattle.rules.specs.Book.{answerOf}
 use Rattle.rules.specs.Buffer.{Buffers}
 use Rattle.rules.specs.Build.{begins, operates, finishes, begunBuilder, begunBuffers, OperatedBy}
-use Rattle.rules.specs.Later.{Given}
-use Rattle.rules.specs.PackWhole.{packWhole}
-use Rattle.rules.specs.UnpackWhole.{unpackWhole, volume}
+use Rattle.rules.specs.PackWhole.{Extras, packWhole}
+use Rattle.rules.specs.Reading.{unpackNoted, volume, bench}
 use Rattle.promises.specs.Promises.{lentTo, packingBuffers}
 use Rattle.capi.specs.Answered.{numberOf, sizeAfter, modelAfter, totalsAfter, eulerAfter, sixAfter, builtAfter}
 
--- a packing, with the positions g if they are given: z is the memory for the pack's length
-pub record Packs (v : ℕ) (xs : List ℕ) (g : Given (List ℤ)) (ns bs qs : List ℕ) (ps : List Place) (z n : ℕ) (ns′ bs′ qs′ : List ℕ)
+-- a packing, with what is given besides, g: z is the memory for the pack's length
+pub record Packs (v : ℕ) (xs : List ℕ) (g : Extras) (ns bs qs : List ℕ) (ps : List Place) (z n : ℕ) (ns′ bs′ qs′ : List ℕ)
     (ps′ : List Place) (z′ : ℕ) : Type 0 where
   pub number : n ≡ numberOf (packWhole v xs g (packingBuffers ns bs qs ps) .answer)
   pub size : z′ ≡ sizeAfter z (packWhole v xs g (packingBuffers ns bs qs ps) .answer)
@@ -31,11 +31,11 @@ pub record Packs (v : ℕ) (xs : List ℕ) (g : Given (List ℤ)) (ns bs qs : Li
 -- an unpacking: ms and e are the memory for the model's numbers and its Euler number
 pub record Unpacks (bytes ts : List ℕ) (ps : List Place) (ms : List ℕ) (e : ℤ) (n : ℕ) (ts′ : List ℕ) (ps′ : List Place) (ms′ : List ℕ)
     (e′ : ℤ) : Type 0 where
-  pub number : n ≡ numberOf (unpackWhole bytes (lentTo ts ps) .answer)
-  pub model : ms′ ≡ modelAfter ms (unpackWhole bytes (lentTo ts ps) .answer)
-  pub euler : e′ ≡ eulerAfter e (unpackWhole bytes (lentTo ts ps) .answer)
-  pub triangles : ts′ ≡ unpackWhole bytes (lentTo ts ps) .buffers .triangles
-  pub places : ps′ ≡ unpackWhole bytes (lentTo ts ps) .buffers .places
+  pub number : n ≡ numberOf (unpackNoted bytes (lentTo ts ps) .answer)
+  pub model : ms′ ≡ modelAfter ms (unpackNoted bytes (lentTo ts ps) .answer)
+  pub euler : e′ ≡ eulerAfter e (unpackNoted bytes (lentTo ts ps) .answer)
+  pub triangles : ts′ ≡ unpackNoted bytes (lentTo ts ps) .buffers .triangles
+  pub places : ps′ ≡ unpackNoted bytes (lentTo ts ps) .buffers .places
 
 -- the volume call: the same, and z is the memory for six times the volume
 pub record Measures (bytes ts : List ℕ) (ps : List Place) (ms : List ℕ) (e z : ℤ) (n : ℕ) (ts′ : List ℕ) (ps′ : List Place) (ms′ : List ℕ)
@@ -46,6 +46,18 @@ pub record Measures (bytes ts : List ℕ) (ps : List Place) (ms : List ℕ) (e z
   pub six : z′ ≡ sixAfter z (volume bytes (lentTo ts ps) .six)
   pub triangles : ts′ ≡ volume bytes (lentTo ts ps) .buffers .triangles
   pub places : ps′ ≡ volume bytes (lentTo ts ps) .buffers .places
+
+-- the bench reader: as an unpacking, and s and l, from which byte of the pack on the note stands and how many bytes it has, are written
+-- whatever the answer is
+pub record Tells (bytes ts : List ℕ) (ps : List Place) (ms : List ℕ) (e : ℤ) (n : ℕ) (ts′ : List ℕ) (ps′ : List Place) (ms′ : List ℕ)
+    (e′ : ℤ) (s l : ℕ) : Type 0 where
+  pub number : n ≡ numberOf (bench bytes (lentTo ts ps) .answer)
+  pub model : ms′ ≡ modelAfter ms (bench bytes (lentTo ts ps) .answer)
+  pub euler : e′ ≡ eulerAfter e (bench bytes (lentTo ts ps) .answer)
+  pub start : s ≡ bench bytes (lentTo ts ps) .start
+  pub long : l ≡ length (bench bytes (lentTo ts ps) .note)
+  pub triangles : ts′ ≡ bench bytes (lentTo ts ps) .buffers .triangles
+  pub places : ps′ ≡ bench bytes (lentTo ts ps) .buffers .places
 
 -- what a beginning leaves of the builder b and the buffers r; it is never an operation or a finish
 abbrev pub BegunAs : Buffers → Counts → Builder → Step → Builder → Buffers → Type 0

@@ -1,6 +1,7 @@
-// Answers as numbers: 0 for acceptance, else the refusal's, which leaves a caller's memory for results as it was. Its contracts
-// cite specs/Answered.antt.
+// Answers as numbers: 0 for acceptance, else the refusal's, which leaves a caller's memory for results as it was, but for where
+// a note stands. Its contracts cite specs/Answered.antt.
 use rules::Begun;
+use rules::Benched;
 use rules::Builder;
 use rules::Checked;
 use rules::Finished;
@@ -11,7 +12,7 @@ use rules::Performed;
 use rules::Unpacked;
 ghost use mathlib.Core.Path.{_≡_};
 ghost use Rattle.rules.specs.Answer.{checkedAnswer, begunAnswer, operatedAnswer, finishedAnswer, packedAnswer, unpackedAnswer};
-ghost use Rattle.rules.specs.UnpackWhole.{measuredAnswer, measuredSix};
+ghost use Rattle.rules.specs.Reading.{measuredAnswer, measuredSix};
 ghost use Rattle.capi.specs.Answered.{numberOf, sizeAfter, modelAfter, totalsAfter, eulerAfter, sixAfter, builtAfter, keptOr};
 
 pub(crate) fn checked(c: Checked) -> u32
@@ -73,6 +74,25 @@ pub(crate) fn measured(r: Measured, model: &mut [u16; 5], euler: &mut i32, six: 
         }
         Measured::Refused(n) => n as u32,
     }
+}
+
+// The bench reader: as an unpacking; and, accepted or not, where the note stands in the pack and how many bytes it has.
+pub(crate) fn benched(
+    b: Benched,
+    model: &mut [u16; 5],
+    euler: &mut i32,
+    start: &mut usize,
+    length: &mut usize,
+) -> u32
+    ensures { λ n. ⌜ (n ≡ numberOf (unpackedAnswer (b .answer)))
+        × ((now (model .exit) ≡ modelAfter (now (model .entry)) (unpackedAnswer (b .answer)))
+        × ((now (euler .exit) ≡ eulerAfter (now (euler .entry)) (unpackedAnswer (b .answer)))
+        × ((now (start .exit) ≡ b .start) × (now (length .exit) ≡ b .length)))) ⌝ }
+{
+    *start = b.start;
+    *length = b.length;
+    let a = b.answer;
+    unpacked(a, model, euler)
 }
 
 // A beginning's state, or the old one if it was refused.

@@ -1,13 +1,14 @@
 // The service's calls for C and Rust. Each function goes through the service's call of its name and returns 0 for acceptance or the
-// refusal's number, 1 to 24; a refusal leaves the memory for results as it was. A slice is a pointer and a count of entries. Place
-// records and builders lie in memory as C lays them out (`repr(C)`): a record is 8 bytes, its `open` a bool, so 0 or 1; a builder
-// is 213 numbers of 16 bits. What a caller's numbers cannot mean is refused by a rule: specs/Given.antt says by which. The contracts
-// cite specs/Exported.antt.
+// refusal's number, 1 to 25; a refusal leaves the memory for results as it was, but for where a note stands, which is always written. A
+// slice is a pointer and a count of entries. Place records and builders lie in memory as C lays them out (`repr(C)`): a record is 8
+// bytes, its `open` a bool, so 0 or 1; a builder is 213 numbers of 16 bits. What a caller's numbers cannot mean is refused by a rule:
+// specs/Given.antt says by which. The contracts cite specs/Exported.antt.
 mod answered; // answers as numbers
 mod given; // counts and operations from numbers
 
 use answered::begun;
 use answered::begun_state;
+use answered::benched;
 use answered::checked;
 use answered::finished;
 use answered::measured;
@@ -22,9 +23,10 @@ use rules::Place;
 ghost use mathlib.Core.Path.{_≡_};
 ghost use Rattle.rules.specs.Check.{checks};
 ghost use Rattle.rules.specs.Later.{not-given, given};
+ghost use Rattle.rules.specs.PackWhole.{extras};
 ghost use Rattle.capi.specs.Given.{countsOf, operationOf};
 ghost use Rattle.capi.specs.Answered.{numberOf};
-ghost use Rattle.capi.specs.Exported.{Packs, Unpacks, Measures, Begins, Operates, Finishes};
+ghost use Rattle.capi.specs.Exported.{Packs, Unpacks, Measures, Tells, Begins, Operates, Finishes};
 
 // Checks a list of a model of v vertices: refusals 1 to 7.
 #[no_mangle]
@@ -45,9 +47,9 @@ pub extern "C" fn cutborder_pack(
     places: &mut [Place],
     size: &mut u32,
 ) -> u32
-    ensures { λ n. ⌜ Packs v (now (list .entry)) not-given (now (numbering .entry)) (now (buffer .entry)) (now (order .entry))
-        (now (places .entry)) (now (size .entry)) n (now (numbering .exit)) (now (buffer .exit)) (now (order .exit)) (now (places .exit))
-        (now (size .exit)) ⌝ }
+    ensures { λ n. ⌜ Packs v (now (list .entry)) (extras not-given not-given) (now (numbering .entry)) (now (buffer .entry))
+        (now (order .entry)) (now (places .entry)) (now (size .entry)) n (now (numbering .exit)) (now (buffer .exit)) (now (order .exit))
+        (now (places .exit)) (now (size .exit)) ⌝ }
 {
     let r = service::pack(v, list, numbering, buffer, order, places);
     packed(r, size)
@@ -65,15 +67,65 @@ pub extern "C" fn cutborder_pack_positions(
     places: &mut [Place],
     size: &mut u32,
 ) -> u32
-    ensures { λ n. ⌜ Packs v (now (list .entry)) (given (now (positions .entry))) (now (numbering .entry)) (now (buffer .entry))
-        (now (order .entry)) (now (places .entry)) (now (size .entry)) n (now (numbering .exit)) (now (buffer .exit)) (now (order .exit))
-        (now (places .exit)) (now (size .exit)) ⌝ }
+    ensures { λ n. ⌜ Packs v (now (list .entry)) (extras (given (now (positions .entry))) not-given) (now (numbering .entry))
+        (now (buffer .entry)) (now (order .entry)) (now (places .entry)) (now (size .entry)) n (now (numbering .exit))
+        (now (buffer .exit)) (now (order .exit)) (now (places .exit)) (now (size .exit)) ⌝ }
 {
     let r = service::pack_positions(v, list, positions, numbering, buffer, order, places);
     packed(r, size)
 }
 
-// Unpacks any bytes: refusals 12 to 20, 23, or the triangles, the numbers of vertices, triangles, edges, rims and unions in `model`,
+// The same with a note, one to 64 bytes, and no positions: 25 besides, after 22.
+#[no_mangle]
+pub extern "C" fn cutborder_pack_note(
+    v: usize,
+    list: &[u16],
+    note: &[u8],
+    numbering: &mut [u16],
+    buffer: &mut [u8],
+    order: &mut [u16],
+    places: &mut [Place],
+    size: &mut u32,
+) -> u32
+    ensures { λ n. ⌜ Packs v (now (list .entry)) (extras not-given (given (now (note .entry)))) (now (numbering .entry))
+        (now (buffer .entry)) (now (order .entry)) (now (places .entry)) (now (size .entry)) n (now (numbering .exit))
+        (now (buffer .exit)) (now (order .exit)) (now (places .exit)) (now (size .exit)) ⌝ }
+{
+    let r = service::pack_note(v, list, note, numbering, buffer, order, places);
+    packed(r, size)
+}
+
+// The same with both: 23 and 25 besides, after 22.
+#[no_mangle]
+pub extern "C" fn cutborder_pack_positions_note(
+    v: usize,
+    list: &[u16],
+    positions: &[i16],
+    note: &[u8],
+    numbering: &mut [u16],
+    buffer: &mut [u8],
+    order: &mut [u16],
+    places: &mut [Place],
+    size: &mut u32,
+) -> u32
+    ensures { λ n. ⌜ Packs v (now (list .entry)) (extras (given (now (positions .entry))) (given (now (note .entry))))
+        (now (numbering .entry)) (now (buffer .entry)) (now (order .entry)) (now (places .entry)) (now (size .entry)) n
+        (now (numbering .exit)) (now (buffer .exit)) (now (order .exit)) (now (places .exit)) (now (size .exit)) ⌝ }
+{
+    let r = service::pack_positions_note(
+        v,
+        list,
+        positions,
+        note,
+        numbering,
+        buffer,
+        order,
+        places,
+    );
+    packed(r, size)
+}
+
+// Unpacks any bytes: refusals 12 to 20, 23, 25, or the triangles, the numbers of vertices, triangles, edges, rims and unions in `model`,
 // and the Euler number.
 #[no_mangle]
 pub extern "C" fn cutborder_unpack(
@@ -105,6 +157,25 @@ pub extern "C" fn cutborder_volume(
 {
     let r = service::volume(pack, triangles, places);
     measured(r, model, euler, six)
+}
+
+// The bench reader: unpacks as `cutborder_unpack` does; `start` and `length` are always written: from which byte of the pack on the note
+// stands, and how many bytes it has, twice 0 if there is none or the pack is refused.
+#[no_mangle]
+pub extern "C" fn cutborder_bench(
+    pack: &[u8],
+    triangles: &mut [u16],
+    places: &mut [Place],
+    model: &mut [u16; 5],
+    euler: &mut i32,
+    start: &mut usize,
+    length: &mut usize,
+) -> u32
+    ensures { λ n. ⌜ Tells (now (pack .entry)) (now (triangles .entry)) (now (places .entry)) (now (model .entry)) (now (euler .entry)) n
+        (now (triangles .exit)) (now (places .exit)) (now (model .exit)) (now (euler .exit)) (now (start .exit)) (now (length .exit)) ⌝ }
+{
+    let r = service::bench_at(pack, triangles, places);
+    benched(r, model, euler, start, length)
 }
 
 // Begins a building with the counts v, t, most places and most loops: 13, 14, or a builder that holds nothing in `state`. A count

@@ -1,17 +1,21 @@
 // Reads a model as text from standard input: V, then the vertex numbers, decimal, with white space between. It writes the model's pack
-// to standard output, or a line: `refused` and the number, or that the text is no model. A text that cannot be read or is too long
-// gets a line on standard error and nothing else; a write that fails gets such a line too. With `--order FILE` it writes the order of a
-// packed model to that file: for each triangle built, a line with its number in the list, counted from 0. With `--positions FILE` it
-// packs the positions in that file too, a text of signed numbers: x, y and z of each vertex, in grid steps.
+// to standard output, or a line: `refused` and the number, or that the text is no model. What cannot be read, and a text that is too
+// long, gets a line on standard error and nothing else; a write that fails gets such a line too. With `--order FILE` it writes the order
+// of a packed model to that file: for each triangle built, a line with its number in the list, counted from 0. With `--positions FILE`
+// it packs the positions in that file too, a text of signed numbers: x, y and z of each vertex, in grid steps. With `--note FILE` it
+// packs the bytes of that file too, as they are.
 mod grid; // the positions' file
+mod note; // the note's file
 mod numbers; // texts of numbers
 mod options; // the arguments
 mod order; // the order's file
+mod packing; // packing with what is given besides
 
 use grid::POSITIONS;
-use grid::put_positions;
 use grid::read_positions;
 use libc::STDIN_FILENO;
+use note::NOTE_BYTES;
+use note::read_note;
 use numbers::PART;
 use numbers::Told;
 use numbers::read_numbers;
@@ -21,14 +25,14 @@ use options::place_of;
 use options::read_name;
 use options::say_usage;
 use order::write_order;
-use packer::pack_on;
-use positions::packing::pack_whole_on;
-use rules::Builder;
+use packing::Given;
+use packing::pack_list;
 use rules::CORNERS;
 use rules::Packed;
 use rules::TRIANGLES;
 use rules::VERTICES;
 use text::packs::MOST_BYTES;
+use text::show::print_part;
 use text::show::print_refusal;
 use text::streams::MOST_NAME;
 use text::streams::Output;
@@ -46,14 +50,6 @@ fn print_refused(out: Output, r: Packed) -> Output {
     }
 }
 
-// Writes the n bytes of a pack.
-fn print_pack(out: Output, buffer: &[u8], n: usize) -> Output {
-    if buffer.len() < n {
-        return out;
-    }
-    out.bytes(&buffer[..n])
-}
-
 // Writes what a packing of t triangles answered: first the order, if a file is named for it, and then the pack; or the refusal. Where
 // the order cannot be written, neither is the pack.
 fn print_answer(r: Packed, buffer: &[u8], order: &[u16], t: usize, name: &[u8]) -> Output {
@@ -64,7 +60,7 @@ fn print_answer(r: Packed, buffer: &[u8], order: &[u16], t: usize, name: &[u8]) 
     if !write_order(order, t, name) {
         return out;
     }
-    print_pack(out, buffer, n as usize)
+    print_part(out, buffer, 0, n as usize)
 }
 
 // A number that was read, as a count.
@@ -72,31 +68,13 @@ fn wide(x: u16) -> usize {
     x as usize
 }
 
-// Packs a list, with the positions that numbers stand for if they are given.
-fn pack_list(
-    v: usize,
-    list: &[u16],
-    given: bool,
-    numbers: &[u16],
-    numbering: &mut [u16],
-    buffer: &mut [u8],
-    order: &mut [u16],
-) -> Packed {
-    let places = Builder::MAX_PLACES;
-    if !given {
-        return pack_on(v, list, numbering, buffer, order, places);
-    }
-    let mut positions = [0i16; POSITIONS];
-    let n = put_positions(numbers, &mut positions);
-    pack_whole_on(v, list, &positions[..n], numbering, buffer, order, places)
-}
-
-// Packs the list of n numbers, the first of which is V.
+// Packs the list of n numbers, the first of which is V, with what is given besides.
 fn pack_numbers(
     numbers: &[u16],
     n: usize,
-    given: bool,
+    given: Given,
     positions: &[u16],
+    note: &[u8],
     order_name: &[u8],
 ) -> Output
     requires { ⌜ n ≤ length (now numbers) ⌝ }
@@ -113,6 +91,7 @@ fn pack_numbers(
         &numbers[1..n],
         given,
         positions,
+        note,
         &mut numbering,
         &mut buffer,
         &mut order,
@@ -132,8 +111,14 @@ fn print_no_positions() -> Output {
     )
 }
 
-// Reads a model and packs it, with positions if they are given.
-fn pack_standard(part: &mut [u8], given: bool, positions: &[u16], order_name: &[u8]) -> Output {
+// Reads a model and packs it, with what is given besides.
+fn pack_standard(
+    part: &mut [u8],
+    given: Given,
+    positions: &[u16],
+    note: &[u8],
+    order_name: &[u8],
+) -> Output {
     let mut numbers = [0u16; NUMBERS];
     let t = read_numbers(STDIN_FILENO, false, part, &mut numbers);
     say_unread(
@@ -142,33 +127,52 @@ fn pack_standard(part: &mut [u8], given: bool, positions: &[u16], order_name: &[
         b"the text is too long: it has 16,777,216 bytes or more",
     );
     match t {
-        Told::Numbers(n) => pack_numbers(&numbers, n, given, positions, order_name),
+        Told::Numbers(n) => pack_numbers(&numbers, n, given, positions, note, order_name),
         Told::NoNumbers => print_no_model(),
         Told::Unread => Output::fresh(),
         Told::TooLong => Output::fresh(),
     }
 }
 
-// Reads the positions, if a file is named for them, then a model, and packs it.
-fn run(order_name: &[u8], positions_name: &[u8]) -> Output {
+// Reads the positions, if a file is named for them, then a model, and packs it, with a note if it is given.
+fn run_noted(order_name: &[u8], positions_name: &[u8], noted: bool, note: &[u8]) -> Output {
     let mut part = [0u8; PART];
     let mut positions = [0u16; POSITIONS];
     if positions_name.len() == 0 {
-        return pack_standard(&mut part, false, &positions, order_name);
+        let given = Given {
+            positions: false,
+            note: noted,
+        };
+        return pack_standard(&mut part, given, &positions, note, order_name);
     }
     let t = read_positions(positions_name, &mut part, &mut positions);
+    let given = Given {
+        positions: true,
+        note: noted,
+    };
     match t {
-        Told::Numbers(n) => pack_standard(&mut part, true, &positions[..n], order_name),
+        Told::Numbers(n) => pack_standard(&mut part, given, &positions[..n], note, order_name),
         Told::NoNumbers => print_no_positions(),
         Told::Unread => Output::fresh(),
         Told::TooLong => Output::fresh(),
     }
 }
 
+// Reads the note, if a file is named for it, then the positions and a model, and packs it.
+fn run(order_name: &[u8], positions_name: &[u8], note_name: &[u8]) -> Output {
+    let mut note = [0u8; NOTE_BYTES];
+    let r = read_note(note_name, &mut note);
+    let Read::To(n) = r else {
+        return Output::fresh();
+    };
+    run_noted(order_name, positions_name, 0 < note_name.len(), &note[..n])
+}
+
 fn main() {
     let order_at = place_of(b"--order");
     let positions_at = place_of(b"--positions");
-    if !are_all(order_at, positions_at) {
+    let note_at = place_of(b"--note");
+    if !are_all(order_at, positions_at, note_at) {
         say_usage();
         return;
     }
@@ -182,5 +186,10 @@ fn main() {
     let Read::To(m) = s else {
         return;
     };
-    run(&order_name[..n], &positions_name[..m]).end(b"pack");
+    let mut note_name = [0u8; MOST_NAME];
+    let t = read_name(note_at, &mut note_name);
+    let Read::To(k) = t else {
+        return;
+    };
+    run(&order_name[..n], &positions_name[..m], &note_name[..k]).end(b"pack");
 }

@@ -13,35 +13,36 @@ use rules::Packed;
 use rules::VERTICES;
 ghost use mathlib.Core.Bool.{true};
 ghost use mathlib.Core.Path.{_≡_};
-ghost use Rattle.rules.specs.PackWhole.{positionsFit};
-ghost use Rattle.positions_theory.specs.Packing.{PackedWholeOn, Unfit, beforeField, clearedAfter, Followable, Follows};
+ghost use Prim.Native.Nat.{_-_};
+ghost use Rattle.rules.specs.PackWhole.{extras, positionsFit};
+ghost use Rattle.rules.specs.Later.{not-given, given};
+ghost use Rattle.positions_theory.specs.Packing.{PackedWholeOn, Unfit, bufferAfter, Followable, Follows};
 
-// The answer to positions that do not fit: the first of 1 to 8, 22 and 23. The numbering and the order have so many entries.
-fn unfit(v: usize, list: &[u16], numbering: usize, order: usize, n: usize) -> Packed
-    ensures { λ r. ⌜ Unfit v (now (list .entry)) numbering order n r ⌝ }
+// The answer where what is given besides does not fit: the first of 1 to 8, 22 and k. The numbering and the order have so many entries.
+pub fn unfit(v: usize, list: &[u16], numbering: usize, order: usize, n: usize, k: u8) -> Packed
+    ensures { λ r. ⌜ Unfit v (now (list .entry)) numbering order n k r ⌝ }
 {
     let mut chains = [0u16; VERTICES + CORNERS];
     let tested = test_rooms(v, list, numbering, order, n, &mut chains);
     let Checked::Accepted = tested else {
         return refusal_of(tested);
     };
-    Packed::Refused(23)
+    Packed::Refused(k)
 }
 
-// How many bytes of the buffer are left for the list's own pack, before the field of the positions.
-fn before_field(buffer: &[u8], positions: &[i16]) -> usize
-    ensures { λ r. ⌜ r ≡ beforeField (now (buffer .entry)) (now (positions .entry)) ⌝ }
+// How many bytes of a buffer are left before a field at its end.
+pub fn room_before(buffer: usize, field: usize) -> usize
+    ensures { λ r. ⌜ r ≡ buffer - field ⌝ }
 {
-    let field = 3 + 2 * positions.len();
-    if buffer.len() < field {
+    if buffer < field {
         return 0;
     }
-    buffer.len() - field
+    buffer - field
 }
 
-// After the list alone was packed into a part of the buffer and answered r: all is cleared if that part was.
-fn clear_after(r: Packed, buffer: &mut [u8])
-    ensures { λ _. ⌜ now (buffer .exit) ≡ clearedAfter r (now (buffer .entry)) ⌝ }
+// After a packing into a part of the buffer answered r: all is cleared if that part was.
+pub fn clear_after(r: Packed, buffer: &mut [u8])
+    ensures { λ _. ⌜ now (buffer .exit) ≡ bufferAfter r (now (buffer .entry)) ⌝ }
 {
     if 0 < cleared(r) {
         clear_bytes(buffer);
@@ -72,10 +73,10 @@ fn pack_fitting(
     n: usize,
 ) -> Packed
     requires { ⌜ positionsFit v (now positions) ≡ true ⌝ }
-    ensures { λ r. ⌜ PackedWholeOn v (now (list .entry)) (now (positions .entry)) (now (numbering .entry)) (now (buffer .entry))
-        (now (order .entry)) n r (now (numbering .exit)) (now (buffer .exit)) (now (order .exit)) ⌝ }
+    ensures { λ r. ⌜ PackedWholeOn v (now (list .entry)) (extras (given (now (positions .entry))) not-given) (now (numbering .entry))
+        (now (buffer .entry)) (now (order .entry)) n r (now (numbering .exit)) (now (buffer .exit)) (now (order .exit)) ⌝ }
 {
-    let end = before_field(buffer, positions);
+    let end = room_before(buffer.len(), 3 + 2 * positions.len());
     let r = pack_on(v, list, numbering, &mut buffer[..end], order, n);
     follow(r, positions, numbering, buffer)
 }
@@ -91,11 +92,11 @@ pub fn pack_whole_on(
     order: &mut [u16],
     n: usize,
 ) -> Packed
-    ensures { λ r. ⌜ PackedWholeOn v (now (list .entry)) (now (positions .entry)) (now (numbering .entry)) (now (buffer .entry))
-        (now (order .entry)) n r (now (numbering .exit)) (now (buffer .exit)) (now (order .exit)) ⌝ }
+    ensures { λ r. ⌜ PackedWholeOn v (now (list .entry)) (extras (given (now (positions .entry))) not-given) (now (numbering .entry))
+        (now (buffer .entry)) (now (order .entry)) n r (now (numbering .exit)) (now (buffer .exit)) (now (order .exit)) ⌝ }
 {
     if !are_positions(positions, v) {
-        return unfit(v, list, numbering.len(), order.len(), n);
+        return unfit(v, list, numbering.len(), order.len(), n, 23);
     }
     pack_fitting(v, list, positions, numbering, buffer, order, n)
 }

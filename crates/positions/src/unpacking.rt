@@ -6,13 +6,13 @@ use unpacker::unpack_on;
 use wire::fields::PackParts;
 use wire::fields::parts_of;
 ghost use mathlib.Core.Path.{_≡_};
-ghost use Rattle.positions_theory.specs.Unpacking.{UnpackedWholeOn, testedAnswer, testedTriangles, RoomFor};
+ghost use Rattle.positions_theory.specs.Unpacking.{UnpackedWholeOn, positionsTest, testedAnswer, testedTriangles, RoomFor};
 
 // 23, after the first two fields were unpacked and answered r.
 fn tested(field: &[u8], triangles: &mut [u16], r: Unpacked) -> Unpacked
     requires { ⌜ RoomFor r (now triangles) ⌝ }
-    ensures answer { λ s. ⌜ s ≡ testedAnswer (now (field .entry)) r ⌝ }
-    ensures triangles { λ _. ⌜ now (triangles .exit) ≡ testedTriangles (now (field .entry)) r (now (triangles .entry)) ⌝ }
+    ensures answer { λ s. ⌜ s ≡ testedAnswer 23 (positionsTest (now (field .entry))) r ⌝ }
+    ensures triangles { λ _. ⌜ now (triangles .exit) ≡ testedTriangles (positionsTest (now (field .entry))) r (now (triangles .entry)) ⌝ }
 {
     let Unpacked::Model(m) = r else {
         return r;

@@ -27,7 +27,7 @@ fn is_position(z: i16) -> bool
 }
 
 // 23, of positions that are lent for v vertices.
-pub(crate) fn are_positions(positions: &[i16], v: usize) -> bool
+pub fn are_positions(positions: &[i16], v: usize) -> bool
     ensures { λ b. ⌜ b ≡ positionsFit v (now (positions .entry)) ⌝ }
 {
     if positions.len() / 3 != v {

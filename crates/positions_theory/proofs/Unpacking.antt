@@ -1,6 +1,6 @@
 -- Unpacking a pack that may have positions: the core of two fields, and 23.
 -- Assumes nothing.
-use Prim.Native.Nat.{ℕ, _+_, _*_, _≤_}
+use Prim.Native.Nat.{ℕ, _*_, _≤_}
 use native.Mathlib.Omega.{arith}
 use mathlib.Core.Bool.{Bool, true, false}
 use mathlib.Core.List.{List, _++_}
@@ -14,7 +14,7 @@ use Rattle.rules.specs.Answer.{Answer, refusal, unpacked, unpackedAnswer}
 use Rattle.rules.specs.Buffer.{zeroed, Buffers}
 use Rattle.rules.specs.Unpack.{numbersOf, UnpackResult, unpack}
 use Rattle.rules.specs.Later.{not-given, given, Parts, no-parts, parts, partsOf}
-use Rattle.rules.specs.UnpackWhole.{fieldFits, modelIn, leftBy20, thenTested, unpackParts, unpackWhole}
+use Rattle.rules.specs.UnpackWhole.{modelIn, leftBy20, thenTested, unpackParts, unpackWhole}
 use borrow.Author.Tests.{leb-true}
 use Rattle.counting.proofs.Bools.{and-left}
 use Rattle.border_theory.specs.Records.Lent.{lent}
@@ -23,7 +23,7 @@ use Rattle.mesh_theory.proofs.Chains.Prefix.{length-numbers}
 use Rattle.roundtrip.proofs.Results.{unpacked-by}
 use Rattle.roundtrip.proofs.Back.{triangles-are, list-is}
 use Rattle.volume_theory.proofs.Whole.{tested-none, accepts}
-use Rattle.positions_theory.specs.Unpacking.{UnpackedWholeOn, testedAnswer, testedTriangles, RoomFor}
+use Rattle.positions_theory.specs.Unpacking.{UnpackedWholeOn, testedAnswer, testedTriangles, positionsTest, RoomFor}
 
 -- the buffer of an accepted unpacking, past its triangles
 beyond : (bytes : List ℕ) (r : Buffers) (m : Model) → unpack bytes r .answer ≡ unpacked m
@@ -51,59 +51,62 @@ pub two-parts-on : (bytes ts : List ℕ) (n : ℕ) (r : Unpacked) (ts′ : List 
 unfolding unpackParts
 two-parts-on bytes ts n r ts′ e h =
     let u = unpack bytes (lent n ts) in
-    let w : unpackWhole bytes (lent n ts) ≡ u = ap (unpackParts (lent n ts)) e ∙ tested-none (lent n ts) u (modelIn (u .answer)) in
+    let w : unpackWhole bytes (lent n ts) ≡ u = ap (unpackParts (lent n ts)) e ∙ tested-none 23 (lent n ts) u (modelIn (u .answer)) in
     record {
       answer = h .answer ∙ sym (ap (λ (x : UnpackResult). x .answer) w);
       triangles = h .triangles ∙ sym (ap (λ (x : UnpackResult). x .buffers .triangles) w);
     }
 
--- three
-module _ (bytes two bs ts : List ℕ) (n : ℕ) (e : partsOf bytes ≡ parts two (given bs)) where
-  abbrev u : UnpackResult
-  u = unpack two (lent n ts)
+-- a test after an unpacking u into the buffer ts, which leaves what stands past the triangles of an accepted model
+module _ (k : ℕ) (fits : Model → Bool) (ts : List ℕ) (n : ℕ) (u : UnpackResult)
+    (beyond : (m : Model) → u .answer ≡ unpacked m
+    → drop (3 * m .triangles) (u .buffers .triangles) ≡ drop (3 * m .triangles) ts) where
+  by-answer : (a : Answer) → a ≡ u .answer
+      → thenTested k fits (lent n ts) u (modelIn (u .answer)) ≡ thenTested k fits (lent n ts) u (modelIn a)
+  by-answer a f = ap (λ (x : Answer). thenTested k fits (lent n ts) u (modelIn x)) (sym f)
 
-  by-answer : (a : Answer) → a ≡ u .answer → unpackWhole bytes (lent n ts) ≡ thenTested (given bs) (lent n ts) u (modelIn a)
-  unfolding unpackParts
-  by-answer a f = ap (unpackParts (lent n ts)) e ∙ ap (λ (x : Answer). thenTested (given bs) (lent n ts) u (modelIn x)) (sym f)
-
-  pub three-parts-on : (r : Unpacked) (ts′ : List ℕ) → UnpackedOn two ts n r ts′
-      → UnpackedWholeOn bytes ts n (testedAnswer bs r) (testedTriangles bs r ts′)
+  pub tested-on : (r : Unpacked) (ts′ : List ℕ) → unpackedAnswer r ≡ u .answer → ts′ ≡ u .buffers .triangles
+      → (unpackedAnswer (testedAnswer k fits r) ≡ thenTested k fits (lent n ts) u (modelIn (u .answer)) .answer)
+      × (testedTriangles fits r ts′ ≡ thenTested k fits (lent n ts) u (modelIn (u .answer)) .buffers .triangles)
   unfolding thenTested
-  three-parts-on (U.Refused k) ts′ h =
-      let w = by-answer (refusal k) (h .answer) in
-      record {
-        answer = h .answer ∙ sym (ap (λ (x : UnpackResult). x .answer) w);
-        triangles = h .triangles ∙ sym (ap (λ (x : UnpackResult). x .buffers .triangles) w);
-      }
-  three-parts-on (U.Model m) ts′ h = go (fieldFits (m .vertices) (given bs)) refl
+  tested-on (U.Refused j) ts′ a b =
+      let w = by-answer (refusal j) a in
+      (a ∙ sym (ap (λ (x : UnpackResult). x .answer) w), b ∙ sym (ap (λ (x : UnpackResult). x .buffers .triangles) w))
+  tested-on (U.Model m) ts′ a b = go (fits m) refl
     where
-      w : unpackWhole bytes (lent n ts) ≡ thenTested (given bs) (lent n ts) u (given m)
-      w = by-answer (unpacked m) (h .answer)
+      w : thenTested k fits (lent n ts) u (modelIn (u .answer)) ≡ thenTested k fits (lent n ts) u (given m)
+      w = by-answer (unpacked m) a
 
       w-by : (t : Bool) → UnpackResult
-      w-by t = elim t [ true ↦ u | false ↦ record { answer = refusal 23; buffers = leftBy20 m (lent n ts) } ]
+      w-by t = elim t [ true ↦ u | false ↦ record { answer = refusal k; buffers = leftBy20 m (lent n ts) } ]
 
-      accepted : unpack two (lent n ts) .answer ≡ unpacked m
-      accepted = sym (h .answer)
-
-      go : (t : Bool) → fieldFits (m .vertices) (given bs) ≡ t
-          → UnpackedWholeOn bytes ts n (elim t [ true ↦ U.Model m | false ↦ U.Refused 23 ])
-          (elim t [ true ↦ ts′ | false ↦ zeroed (3 * m .triangles) ts′ ])
+      go : (t : Bool) → fits m ≡ t
+          → (unpackedAnswer (elim t [ true ↦ U.Model m | false ↦ U.Refused k ])
+          ≡ thenTested k fits (lent n ts) u (modelIn (u .answer)) .answer)
+          × (elim t [ true ↦ ts′ | false ↦ zeroed (3 * m .triangles) ts′ ]
+          ≡ thenTested k fits (lent n ts) u (modelIn (u .answer)) .buffers .triangles)
       go true f =
           let v = w ∙ ap w-by f in
-          record {
-            answer = h .answer ∙ sym (ap (λ (x : UnpackResult). x .answer) v);
-            triangles = h .triangles ∙ sym (ap (λ (x : UnpackResult). x .buffers .triangles) v);
-          }
+          (a ∙ sym (ap (λ (x : UnpackResult). x .answer) v), b ∙ sym (ap (λ (x : UnpackResult). x .buffers .triangles) v))
       go false f =
-          let v = w ∙ ap w-by f in
-          record {
-            answer = sym (ap (λ (x : UnpackResult). x .answer) v);
-            triangles =
-                zeroed-same (3 * m .triangles) ts ts′
-                (ap (drop (3 * m .triangles)) (h .triangles) ∙ beyond two (lent n ts) m accepted)
-                ∙ sym (ap (λ (x : UnpackResult). x .buffers .triangles) v);
-          }
+          let v = w ∙ ap w-by f in (
+            sym (ap (λ (x : UnpackResult). x .answer) v),
+            zeroed-same (3 * m .triangles) ts ts′ (ap (drop (3 * m .triangles)) b ∙ beyond m (sym a))
+                ∙ sym (ap (λ (x : UnpackResult). x .buffers .triangles) v),
+          )
+
+-- three
+pub three-parts-on : (bytes two bs ts : List ℕ) (n : ℕ) → partsOf bytes ≡ parts two (given bs) → (r : Unpacked) (ts′ : List ℕ)
+    → UnpackedOn two ts n r ts′
+    → UnpackedWholeOn bytes ts n (testedAnswer 23 (positionsTest bs) r) (testedTriangles (positionsTest bs) r ts′)
+unfolding unpackParts
+three-parts-on bytes two bs ts n e r ts′ h =
+    let w = ap (unpackParts (lent n ts)) e in
+    let t = tested-on 23 (positionsTest bs) ts n (unpack two (lent n ts)) (beyond two (lent n ts)) r ts′ (h .answer) (h .triangles) in
+    record {
+      answer = t .0 ∙ sym (ap (λ (x : UnpackResult). x .answer) w);
+      triangles = t .1 ∙ sym (ap (λ (x : UnpackResult). x .buffers .triangles) w);
+    }
 
 -- the buffer holds the triangles of an accepted unpacking
 pub room-on : (bytes ts : List ℕ) (n : ℕ) (r : Unpacked) (ts′ : List ℕ) → UnpackedOn bytes ts n r ts′ → length ts′ ≡ length ts
@@ -114,21 +117,21 @@ room-on bytes ts n (U.Model m) ts′ h l =
     let k = leb-true (3 * u .counts .triangles) (length ts) (and-left _ _ (u .enough)) in
     omega (arith, l, k, ap (λ (x : Model). x .triangles) (u .model))
 
--- 23, of an accepted unpacking
-module _ (bs ts : List ℕ) (r : Unpacked) (m : Model) (b : Bool) (e : r ≡ U.Model m) (k : b ≡ fieldFits (m .vertices) (given bs)) where
-  pub tested-fits : b ≡ true → (U.Model m ≡ testedAnswer bs r) × (ts ≡ testedTriangles bs r ts)
+-- a test of an accepted unpacking
+module _ (k : ℕ) (fits : Model → Bool) (ts : List ℕ) (r : Unpacked) (m : Model) (b : Bool) (e : r ≡ U.Model m) (f : b ≡ fits m) where
+  pub tested-fits : b ≡ true → (U.Model m ≡ testedAnswer k fits r) × (ts ≡ testedTriangles fits r ts)
   tested-fits h =
-      subst (λ (x : Unpacked). (U.Model m ≡ testedAnswer bs x) × (ts ≡ testedTriangles bs x ts)) (sym e) (
-        sym (ap (λ (t : Bool). elim t as (λ _. Unpacked) [ true ↦ U.Model m | false ↦ U.Refused 23 ]) (sym k ∙ h)),
-        sym (ap (λ (t : Bool). elim t as (λ _. List ℕ) [ true ↦ ts | false ↦ zeroed (3 * m .triangles) ts ]) (sym k ∙ h)),
+      subst (λ (x : Unpacked). (U.Model m ≡ testedAnswer k fits x) × (ts ≡ testedTriangles fits x ts)) (sym e) (
+        sym (ap (λ (t : Bool). elim t as (λ _. Unpacked) [ true ↦ U.Model m | false ↦ U.Refused k ]) (sym f ∙ h)),
+        sym (ap (λ (t : Bool). elim t as (λ _. List ℕ) [ true ↦ ts | false ↦ zeroed (3 * m .triangles) ts ]) (sym f ∙ h)),
       )
 
   pub tested-fails : b ≡ false → (ts′ : List ℕ) → ts′ ≡ zeroed (3 * m .triangles) ts
-      → (U.Refused 23 ≡ testedAnswer bs r) × (ts′ ≡ testedTriangles bs r ts)
+      → (U.Refused k ≡ testedAnswer k fits r) × (ts′ ≡ testedTriangles fits r ts)
   tested-fails h ts′ z =
-      subst (λ (x : Unpacked). (U.Refused 23 ≡ testedAnswer bs x) × (ts′ ≡ testedTriangles bs x ts)) (sym e) (
-        sym (ap (λ (t : Bool). elim t as (λ _. Unpacked) [ true ↦ U.Model m | false ↦ U.Refused 23 ]) (sym k ∙ h)),
-        z ∙ sym (ap (λ (t : Bool). elim t as (λ _. List ℕ) [ true ↦ ts | false ↦ zeroed (3 * m .triangles) ts ]) (sym k ∙ h)),
+      subst (λ (x : Unpacked). (U.Refused k ≡ testedAnswer k fits x) × (ts′ ≡ testedTriangles fits x ts)) (sym e) (
+        sym (ap (λ (t : Bool). elim t as (λ _. Unpacked) [ true ↦ U.Model m | false ↦ U.Refused k ]) (sym f ∙ h)),
+        z ∙ sym (ap (λ (t : Bool). elim t as (λ _. List ℕ) [ true ↦ ts | false ↦ zeroed (3 * m .triangles) ts ]) (sym f ∙ h)),
       )
 
   pub room-for : RoomFor r ts → 3 * m .triangles ≤ length ts
@@ -162,3 +165,7 @@ whole-long bytes ts n m ts′ h =
     ap (λ (us : List ℕ). length (take (3 * m .triangles) us)) same ∙ ap length (list-is (a .two) (lent n ts) m by)
     ∙ length-numbers (by .end .triangles) ∙ ap (λ (k : ℕ). 3 * k) (triangles-are (a .two) (lent n ts) m by) in
     omega (arith, e, length-take (3 * m .triangles) ts′)
+
+pub whole-room : (bytes ts : List ℕ) (n : ℕ) (r : Unpacked) (ts′ : List ℕ) → UnpackedWholeOn bytes ts n r ts′ → RoomFor r ts′
+whole-room bytes ts n (U.Refused k) ts′ h = tt
+whole-room bytes ts n (U.Model m) ts′ h = whole-long bytes ts n m ts′ h

@@ -1,7 +1,7 @@
 -- Unpacking a pack that may have positions, and the volume, with n place records, of which only the number counts.
 -- Assumes nothing.
 use Prim.Native.Nat.{ℕ, _*_, _≤_}
-use mathlib.Core.Bool.{true, false}
+use mathlib.Core.Bool.{Bool, true, false}
 use mathlib.Core.List.{List}
 use mathlib.Core.Path.{_≡_}
 use lib.Dec.{eqb}
@@ -18,7 +18,8 @@ use Rattle.rules.specs.Unpack.{UnpackResult}
 use Rattle.rules.specs.Grid.{positionsFrom}
 use Rattle.rules.specs.Volume.{sixVolumes}
 use Rattle.rules.specs.Later.{given}
-use Rattle.rules.specs.UnpackWhole.{fieldFits, unpackWhole, measuredAnswer, measuredSix, volume}
+use Rattle.rules.specs.UnpackWhole.{fieldFits, unpackWhole}
+use Rattle.rules.specs.Reading.{VolumeResult, measuredAnswer, measuredSix}
 use Rattle.border_theory.specs.Records.Lent.{lent}
 use Rattle.unpack_theory.specs.Lent.{clearedBy}
 
@@ -30,15 +31,18 @@ pub record UnpackedWholeOn (bytes ts : List ℕ) (n : ℕ) (r : Unpacked) (ts′
   pub answer : unpackedAnswer r ≡ unpackWholeOn bytes n ts .answer
   pub triangles : ts′ ≡ unpackWholeOn bytes n ts .buffers .triangles
 
--- 23, after an unpacking that was answered r: the answer, and the triangle buffer
-abbrev pub testedAnswer : List ℕ → Unpacked → Unpacked
-testedAnswer bs (U.Model m) = elim (fieldFits (m .vertices) (given bs)) [ true ↦ U.Model m | false ↦ U.Refused 23 ]
-testedAnswer bs (U.Refused k) = U.Refused k
+-- a test of what follows the operations, after an unpacking that was answered r: refusal k, or the same answer; and the triangle buffer
+abbrev pub testedAnswer : ℕ → (Model → Bool) → Unpacked → Unpacked
+testedAnswer k fits (U.Model m) = elim (fits m) [ true ↦ U.Model m | false ↦ U.Refused k ]
+testedAnswer k fits (U.Refused j) = U.Refused j
 
-abbrev pub testedTriangles : List ℕ → Unpacked → List ℕ → List ℕ
-testedTriangles bs (U.Model m) ts =
-    elim (fieldFits (m .vertices) (given bs)) [ true ↦ ts | false ↦ zeroed (3 * m .triangles) ts ]
-testedTriangles bs (U.Refused k) ts = ts
+abbrev pub testedTriangles : (Model → Bool) → Unpacked → List ℕ → List ℕ
+testedTriangles fits (U.Model m) ts = elim (fits m) [ true ↦ ts | false ↦ zeroed (3 * m .triangles) ts ]
+testedTriangles fits (U.Refused j) ts = ts
+
+-- 23, of the positions bs
+abbrev pub positionsTest : List ℕ → Model → Bool
+positionsTest bs m = fieldFits (m .vertices) (given bs)
 
 -- the triangles of an accepted unpacking are in the buffer
 abbrev pub RoomFor : Unpacked → List ℕ → Type 0
@@ -61,8 +65,8 @@ measuredBy bs m ts =
 abbrev pub measuredTriangles : Model → List ℕ → List ℕ
 measuredTriangles m ts = elim (eqb (m .totals .rims) 0) [ true ↦ ts | false ↦ zeroed (3 * m .triangles) ts ]
 
--- the volume call on any bytes, in any buffers
-pub record MeasuredOn (bytes ts : List ℕ) (n : ℕ) (r : Measured) (ts′ : List ℕ) : Type 0 where
-  pub answer : measuredAnswer r ≡ volume bytes (lent n ts) .answer
-  pub six : measuredSix r ≡ volume bytes (lent n ts) .six
-  pub triangles : ts′ ≡ volume bytes (lent n ts) .buffers .triangles
+-- the answer s and the triangle buffer ts′ are those of the result w of a volume call
+pub record IsMeasured (w : VolumeResult) (s : Measured) (ts′ : List ℕ) : Type 0 where
+  pub answer : measuredAnswer s ≡ w .answer
+  pub six : measuredSix s ≡ w .six
+  pub triangles : ts′ ≡ w .buffers .triangles

@@ -7,7 +7,7 @@ use mathlib.Core.Bool.{Bool, true, false, _&&_}
 use mathlib.Core.List.{List, [], _∷_}
 use mathlib.Core.Path.{_≡_, refl}
 use lib.ListN.{replicate}
-use lib.IntN.{ℤ, pos, negsuc}
+use lib.IntN.{pos, negsuc}
 use lib.Dec.{T, eqb}
 use borrow.Author.Tests.{eqb-true}
 use Rattle.rules.specs.declared.Triangle.{Triangle}
@@ -30,9 +30,8 @@ use Rattle.rules.specs.Places.{ringsAfter}
 use Rattle.rules.specs.View.{placeAt, follow, followed, nodes, placesOf, loopsOf, placeNodes, placeRings, trianglesBuilt, view}
 use Rattle.rules.specs.Sound.{sizesOf, apart, placesFit, loopsFit, linksFit, sound, soundElse}
 use Rattle.rules.specs.Grid.{signedOf}
-use Rattle.rules.specs.Later.{Given}
 use Rattle.rules.specs.Pack.{PackBuffers, most}
-use Rattle.rules.specs.PackWhole.{packWhole, packWholeWithin}
+use Rattle.rules.specs.PackWhole.{Extras, packWhole, packWholeWithin}
 use Rattle.rules.specs.Build.{operates, begunBuilder, emptyBuilder, InLoop, NoPlace, OperatedBy}
 use Rattle.rules.proofs.Rows.{place, counts}
 use Rattle.rules.proofs.States.{builder, parts, good, whole}
@@ -138,6 +137,6 @@ pub signed-ends : (signedOf 32767 ≡ pos 32767) × (signedOf 32768 ≡ negsuc 3
 unfolding signedOf
 signed-ends = (refl, refl, refl)
 
--- packing with positions is within the limits of the rules
-pub whole-within : (v : ℕ) (xs : List ℕ) (g : Given (List ℤ)) (r : PackBuffers) → packWhole v xs g r ≡ packWholeWithin most v xs g r
-whole-within v xs g r = refl
+-- packing is within the limits of the rules, whatever is given besides
+pub whole-within : (v : ℕ) (xs : List ℕ) (e : Extras) (r : PackBuffers) → packWhole v xs e r ≡ packWholeWithin most v xs e r
+whole-within v xs e r = refl

@@ -33,13 +33,15 @@ use Rattle.rules.specs.Code.{operationBits, operationsBits, kindIn, read
 use Rattle.rules.specs.Fields.{packBytes, takeField, fieldsOf}
 use Rattle.rules.specs.Grid.{allInGrid, signedOf, positionBytes, positionsFrom}
 use Rattle.rules.specs.Later.{laterPart, partsOf}
+use Rattle.rules.specs.Note.{takeNote}
 use Rattle.rules.specs.Volume.{determinant, sixVolumes}
 use Rattle.rules.specs.Choice.{has, dropTriangle, turnIn, turnOut, edgeIn, spotOf, choosePlace, limited, taking, chooseAt, chooseIn}
 use Rattle.rules.specs.Order.{orderBy}
 use Rattle.rules.specs.Pack.{chooseAll, indexOf, newNumbers, packChosen, packChecked}
 use Rattle.rules.specs.Unpack.{runAll, numbersOf, unpackRun, unpackFields}
 use Rattle.rules.specs.PackWhole.{positionsOf, wholeChosen, wholeChecked}
-use Rattle.rules.specs.UnpackWhole.{thenTested, unpackParts, measured}
+use Rattle.rules.specs.UnpackWhole.{thenTested, unpackParts}
+use Rattle.rules.specs.Reading.{measured}
 use Rattle.rules.specs.View.{follow, followed, nodes, placesOf, openAmong, loopsOf, placeNodes, placeRings, trianglesBuilt, view}
 use Rattle.rules.specs.Sound.{sizesOf, apart, placesFit, loopsFit, linksFit, soundElse, sound}
 
@@ -3264,6 +3266,7 @@ wholePackRows =
       vertices = 3;
       list = (0 ∷ 1 ∷ 2 ∷ []);
       positions = given (negsuc 1399 ∷ negsuc 677 ∷ pos 118 ∷ pos 988 ∷ pos 1932 ∷ negsuc 1145 ∷ negsuc 53 ∷ pos 1112 ∷ negsuc 1743 ∷ []);
+      note = not-given;
       lent = packLent (7 ∷ 7 ∷ 7 ∷ 7 ∷ []) (replicate 1024 (place 3 1 2 true)) (replicate 43 5) (9 ∷ 9 ∷ []);
       answer = packed 37;
       left = packLent (0 ∷ 1 ∷ 2 ∷ 7 ∷ []) (replicate 1024 (place 0 0 0 false))
@@ -3280,6 +3283,7 @@ wholePackRows =
       positions = given
           (negsuc 1399 ∷ negsuc 677 ∷ pos 118 ∷ pos 988 ∷ pos 1932 ∷ negsuc 1145 ∷ negsuc 53 ∷ pos 1112 ∷ negsuc 1743 ∷ negsuc 429 ∷ pos 958
           ∷ negsuc 1675 ∷ []);
+      note = not-given;
       lent = packLent (7 ∷ 7 ∷ 7 ∷ 7 ∷ 7 ∷ []) (replicate 1024 (place 3 1 2 true)) (replicate 52 5) (9 ∷ 9 ∷ 9 ∷ 9 ∷ 9 ∷ []);
       answer = packed 43;
       left = packLent (0 ∷ 1 ∷ 2 ∷ 3 ∷ 7 ∷ []) (replicate 1024 (place 0 0 0 false))
@@ -3296,6 +3300,7 @@ wholePackRows =
       positions = given
           (negsuc 1399 ∷ negsuc 677 ∷ pos 118 ∷ pos 988 ∷ pos 1932 ∷ negsuc 1145 ∷ negsuc 53 ∷ pos 1112 ∷ negsuc 1743 ∷ negsuc 429 ∷ pos 958
           ∷ negsuc 1675 ∷ []);
+      note = not-given;
       lent = packLent (7 ∷ 7 ∷ 7 ∷ 7 ∷ 7 ∷ []) (replicate 1024 (place 3 1 2 true)) (replicate 50 5) (9 ∷ 9 ∷ 9 ∷ []);
       answer = packed 44;
       left = packLent (0 ∷ 1 ∷ 2 ∷ 3 ∷ 7 ∷ []) (replicate 1024 (place 0 0 0 false))
@@ -3310,6 +3315,7 @@ wholePackRows =
       vertices = 3;
       list = (0 ∷ 1 ∷ 2 ∷ 1 ∷ 0 ∷ 2 ∷ []);
       positions = given (negsuc 1399 ∷ negsuc 677 ∷ pos 118 ∷ pos 988 ∷ pos 1932 ∷ negsuc 1145 ∷ negsuc 53 ∷ pos 1112 ∷ negsuc 1743 ∷ []);
+      note = not-given;
       lent = packLent (7 ∷ 7 ∷ 7 ∷ 7 ∷ []) (replicate 1024 (place 3 1 2 true)) (replicate 44 5) (9 ∷ 9 ∷ 9 ∷ []);
       answer = packed 36;
       left = packLent (0 ∷ 1 ∷ 2 ∷ 7 ∷ []) (replicate 1024 (place 0 0 0 false))
@@ -3326,6 +3332,7 @@ wholePackRows =
       positions = given
           (negsuc 1399 ∷ negsuc 677 ∷ pos 118 ∷ pos 988 ∷ pos 1932 ∷ negsuc 1145 ∷ negsuc 53 ∷ pos 1112 ∷ negsuc 1743 ∷ negsuc 429 ∷ pos 958
           ∷ negsuc 1675 ∷ negsuc 139 ∷ pos 1470 ∷ negsuc 941 ∷ pos 816 ∷ negsuc 1447 ∷ pos 458 ∷ []);
+      note = not-given;
       lent = packLent (7 ∷ 7 ∷ 7 ∷ 7 ∷ 7 ∷ 7 ∷ 7 ∷ []) (replicate 1024 (place 3 1 2 true)) (replicate 62 5) (9 ∷ 9 ∷ 9 ∷ []);
       answer = packed 56;
       left = packLent (0 ∷ 1 ∷ 2 ∷ 3 ∷ 4 ∷ 5 ∷ 7 ∷ []) (replicate 1024 (place 0 0 0 false))
@@ -3343,6 +3350,7 @@ wholePackRows =
       positions = given
           (negsuc 1399 ∷ negsuc 677 ∷ pos 118 ∷ pos 988 ∷ pos 1932 ∷ negsuc 1145 ∷ negsuc 53 ∷ pos 1112 ∷ negsuc 1743 ∷ negsuc 429 ∷ pos 958
           ∷ negsuc 1675 ∷ negsuc 139 ∷ pos 1470 ∷ negsuc 941 ∷ pos 816 ∷ negsuc 1447 ∷ pos 458 ∷ []);
+      note = not-given;
       lent = packLent (7 ∷ 7 ∷ 7 ∷ 7 ∷ 7 ∷ 7 ∷ 7 ∷ []) (replicate 1024 (place 3 1 2 true)) (replicate 62 5) (9 ∷ 9 ∷ 9 ∷ []);
       answer = packed 56;
       left = packLent (4 ∷ 5 ∷ 3 ∷ 0 ∷ 2 ∷ 1 ∷ 7 ∷ []) (replicate 1024 (place 0 0 0 false))
@@ -3360,6 +3368,7 @@ wholePackRows =
       positions = given
           (negsuc 1399 ∷ negsuc 677 ∷ pos 118 ∷ pos 988 ∷ pos 1932 ∷ negsuc 1145 ∷ negsuc 53 ∷ pos 1112 ∷ negsuc 1743 ∷ negsuc 429 ∷ pos 958
           ∷ negsuc 1675 ∷ []);
+      note = not-given;
       lent = packLent (7 ∷ 7 ∷ 7 ∷ 7 ∷ 7 ∷ []) (replicate 1024 (place 3 1 2 true)) (replicate 52 5) (9 ∷ 9 ∷ 9 ∷ 9 ∷ 9 ∷ []);
       answer = packed 43;
       left = packLent (1 ∷ 3 ∷ 0 ∷ 2 ∷ 7 ∷ []) (replicate 1024 (place 0 0 0 false))
@@ -3378,6 +3387,7 @@ wholePackRows =
       positions = given
           (negsuc 1399 ∷ negsuc 677 ∷ pos 118 ∷ pos 988 ∷ pos 1932 ∷ negsuc 1145 ∷ negsuc 53 ∷ pos 1112 ∷ negsuc 1743 ∷ negsuc 429 ∷ pos 958
           ∷ negsuc 1675 ∷ negsuc 139 ∷ pos 1470 ∷ negsuc 941 ∷ pos 816 ∷ negsuc 1447 ∷ pos 458 ∷ negsuc 1657 ∷ pos 396 ∷ negsuc 1571 ∷ []);
+      note = not-given;
       lent = packLent (replicate 8 7) (replicate 1024 (place 3 1 2 true)) (replicate 80 5) (replicate 15 9);
       answer = packed 69;
       left = packLent (0 ∷ 1 ∷ 5 ∷ 2 ∷ 6 ∷ 3 ∷ 4 ∷ 7 ∷ []) (replicate 1024 (place 0 0 0 false))
@@ -3393,6 +3403,7 @@ wholePackRows =
       vertices = 3;
       list = (0 ∷ 1 ∷ 2 ∷ []);
       positions = given (negsuc 2047 ∷ pos 2047 ∷ negsuc 0 ∷ pos 0 ∷ pos 255 ∷ pos 256 ∷ pos 2047 ∷ negsuc 256 ∷ negsuc 2047 ∷ []);
+      note = not-given;
       lent = packLent (7 ∷ 7 ∷ 7 ∷ 7 ∷ []) (replicate 1025 (place 3 1 2 true)) (replicate 43 5) (9 ∷ 9 ∷ []);
       answer = packed 37;
       left = packLent (0 ∷ 1 ∷ 2 ∷ 7 ∷ []) (replicate 1024 (place 0 0 0 false) ++ (place 3 1 2 true ∷ []))
@@ -3407,6 +3418,7 @@ wholePackRows =
       vertices = 3;
       list = (0 ∷ 1 ∷ 2 ∷ []);
       positions = not-given;
+      note = not-given;
       lent = packLent (7 ∷ 7 ∷ 7 ∷ 7 ∷ []) (replicate 1024 (place 3 1 2 true)) (replicate 43 5) (9 ∷ 9 ∷ []);
       answer = packed 16;
       left = packLent (0 ∷ 1 ∷ 2 ∷ 7 ∷ []) (replicate 1024 (place 0 0 0 false))
@@ -3419,6 +3431,7 @@ wholePackRows =
       vertices = 4;
       list = (0 ∷ 1 ∷ 2 ∷ 1 ∷ 0 ∷ 3 ∷ []);
       positions = not-given;
+      note = not-given;
       lent = packLent (7 ∷ 7 ∷ 7 ∷ 7 ∷ 7 ∷ []) (replicate 1024 (place 3 1 2 true)) (replicate 50 5) (9 ∷ 9 ∷ 9 ∷ []);
       answer = refusal 9;
       left = packLent (0 ∷ 0 ∷ 0 ∷ 0 ∷ 7 ∷ []) (replicate 1024 (place 0 0 0 false)) (replicate 50 0) (0 ∷ 0 ∷ 9 ∷ []);
@@ -3430,6 +3443,7 @@ wholePackRows =
       vertices = 3;
       list = (0 ∷ 1 ∷ 2 ∷ []);
       positions = given [];
+      note = not-given;
       lent = packLent (7 ∷ 7 ∷ 7 ∷ 7 ∷ []) (replicate 1024 (place 3 1 2 true)) (replicate 43 5) (9 ∷ 9 ∷ []);
       answer = refusal 23;
       left = packLent (7 ∷ 7 ∷ 7 ∷ 7 ∷ []) (replicate 1024 (place 3 1 2 true)) (replicate 43 5) (9 ∷ 9 ∷ []);
@@ -3441,6 +3455,7 @@ wholePackRows =
       vertices = 3;
       list = (0 ∷ 1 ∷ 2 ∷ []);
       positions = given (negsuc 1399 ∷ negsuc 677 ∷ pos 118 ∷ pos 988 ∷ pos 1932 ∷ negsuc 1145 ∷ negsuc 53 ∷ pos 1112 ∷ []);
+      note = not-given;
       lent = packLent (7 ∷ 7 ∷ 7 ∷ 7 ∷ []) (replicate 1024 (place 3 1 2 true)) (replicate 43 5) (9 ∷ 9 ∷ []);
       answer = refusal 23;
       left = packLent (7 ∷ 7 ∷ 7 ∷ 7 ∷ []) (replicate 1024 (place 3 1 2 true)) (replicate 43 5) (9 ∷ 9 ∷ []);
@@ -3453,6 +3468,7 @@ wholePackRows =
       list = (0 ∷ 1 ∷ 2 ∷ []);
       positions = given
           (negsuc 1399 ∷ negsuc 677 ∷ pos 118 ∷ pos 988 ∷ pos 1932 ∷ negsuc 1145 ∷ negsuc 53 ∷ pos 1112 ∷ negsuc 1743 ∷ pos 0 ∷ []);
+      note = not-given;
       lent = packLent (7 ∷ 7 ∷ 7 ∷ 7 ∷ []) (replicate 1024 (place 3 1 2 true)) (replicate 43 5) (9 ∷ 9 ∷ []);
       answer = refusal 23;
       left = packLent (7 ∷ 7 ∷ 7 ∷ 7 ∷ []) (replicate 1024 (place 3 1 2 true)) (replicate 43 5) (9 ∷ 9 ∷ []);
@@ -3466,6 +3482,7 @@ wholePackRows =
       positions = given
           (negsuc 1399 ∷ negsuc 677 ∷ pos 118 ∷ pos 988 ∷ pos 1932 ∷ negsuc 1145 ∷ negsuc 53 ∷ pos 1112 ∷ negsuc 1743 ∷ negsuc 429 ∷ pos 958
           ∷ negsuc 1675 ∷ []);
+      note = not-given;
       lent = packLent (7 ∷ 7 ∷ 7 ∷ 7 ∷ []) (replicate 1024 (place 3 1 2 true)) (replicate 43 5) (9 ∷ 9 ∷ []);
       answer = refusal 23;
       left = packLent (7 ∷ 7 ∷ 7 ∷ 7 ∷ []) (replicate 1024 (place 3 1 2 true)) (replicate 43 5) (9 ∷ 9 ∷ []);
@@ -3477,6 +3494,7 @@ wholePackRows =
       vertices = 3;
       list = (0 ∷ 1 ∷ 2 ∷ []);
       positions = given (negsuc 2048 ∷ negsuc 677 ∷ pos 118 ∷ pos 988 ∷ pos 1932 ∷ negsuc 1145 ∷ negsuc 53 ∷ pos 1112 ∷ negsuc 1743 ∷ []);
+      note = not-given;
       lent = packLent (7 ∷ 7 ∷ 7 ∷ 7 ∷ []) (replicate 1024 (place 3 1 2 true)) (replicate 43 5) (9 ∷ 9 ∷ []);
       answer = refusal 23;
       left = packLent (7 ∷ 7 ∷ 7 ∷ 7 ∷ []) (replicate 1024 (place 3 1 2 true)) (replicate 43 5) (9 ∷ 9 ∷ []);
@@ -3488,6 +3506,7 @@ wholePackRows =
       vertices = 3;
       list = (0 ∷ 1 ∷ 2 ∷ []);
       positions = given (negsuc 1399 ∷ pos 2048 ∷ pos 118 ∷ pos 988 ∷ pos 1932 ∷ negsuc 1145 ∷ negsuc 53 ∷ pos 1112 ∷ negsuc 1743 ∷ []);
+      note = not-given;
       lent = packLent (7 ∷ 7 ∷ 7 ∷ 7 ∷ []) (replicate 1024 (place 3 1 2 true)) (replicate 43 5) (9 ∷ 9 ∷ []);
       answer = refusal 23;
       left = packLent (7 ∷ 7 ∷ 7 ∷ 7 ∷ []) (replicate 1024 (place 3 1 2 true)) (replicate 43 5) (9 ∷ 9 ∷ []);
@@ -3500,6 +3519,7 @@ wholePackRows =
       list = (0 ∷ 1 ∷ 2 ∷ []);
       positions = given
           (negsuc 1399 ∷ negsuc 677 ∷ negsuc 2048 ∷ pos 988 ∷ pos 1932 ∷ negsuc 1145 ∷ negsuc 53 ∷ pos 1112 ∷ negsuc 1743 ∷ []);
+      note = not-given;
       lent = packLent (7 ∷ 7 ∷ 7 ∷ 7 ∷ []) (replicate 1024 (place 3 1 2 true)) (replicate 43 5) (9 ∷ 9 ∷ []);
       answer = refusal 23;
       left = packLent (7 ∷ 7 ∷ 7 ∷ 7 ∷ []) (replicate 1024 (place 3 1 2 true)) (replicate 43 5) (9 ∷ 9 ∷ []);
@@ -3511,6 +3531,7 @@ wholePackRows =
       vertices = 3;
       list = (0 ∷ 1 ∷ 2 ∷ []);
       positions = given (negsuc 1399 ∷ negsuc 677 ∷ pos 118 ∷ pos 2048 ∷ pos 1932 ∷ negsuc 1145 ∷ negsuc 53 ∷ pos 1112 ∷ negsuc 1743 ∷ []);
+      note = not-given;
       lent = packLent (7 ∷ 7 ∷ 7 ∷ 7 ∷ []) (replicate 1024 (place 3 1 2 true)) (replicate 43 5) (9 ∷ 9 ∷ []);
       answer = refusal 23;
       left = packLent (7 ∷ 7 ∷ 7 ∷ 7 ∷ []) (replicate 1024 (place 3 1 2 true)) (replicate 43 5) (9 ∷ 9 ∷ []);
@@ -3523,6 +3544,7 @@ wholePackRows =
       list = (0 ∷ 1 ∷ 2 ∷ []);
       positions = given
           (negsuc 1399 ∷ negsuc 677 ∷ pos 118 ∷ pos 988 ∷ pos 1932 ∷ negsuc 1145 ∷ negsuc 53 ∷ negsuc 2048 ∷ negsuc 1743 ∷ []);
+      note = not-given;
       lent = packLent (7 ∷ 7 ∷ 7 ∷ 7 ∷ []) (replicate 1024 (place 3 1 2 true)) (replicate 43 5) (9 ∷ 9 ∷ []);
       answer = refusal 23;
       left = packLent (7 ∷ 7 ∷ 7 ∷ 7 ∷ []) (replicate 1024 (place 3 1 2 true)) (replicate 43 5) (9 ∷ 9 ∷ []);
@@ -3534,6 +3556,7 @@ wholePackRows =
       vertices = 3;
       list = (0 ∷ 1 ∷ 2 ∷ []);
       positions = given (negsuc 1399 ∷ negsuc 677 ∷ pos 118 ∷ pos 988 ∷ pos 1932 ∷ negsuc 1145 ∷ negsuc 53 ∷ pos 1112 ∷ pos 2048 ∷ []);
+      note = not-given;
       lent = packLent (7 ∷ 7 ∷ 7 ∷ 7 ∷ []) (replicate 1024 (place 3 1 2 true)) (replicate 43 5) (9 ∷ 9 ∷ []);
       answer = refusal 23;
       left = packLent (7 ∷ 7 ∷ 7 ∷ 7 ∷ []) (replicate 1024 (place 3 1 2 true)) (replicate 43 5) (9 ∷ 9 ∷ []);
@@ -3547,6 +3570,7 @@ wholePackRows =
       positions = given
           (pos 2048 ∷ negsuc 677 ∷ pos 118 ∷ pos 988 ∷ pos 1932 ∷ negsuc 1145 ∷ negsuc 53 ∷ pos 1112 ∷ negsuc 1743 ∷ negsuc 429 ∷ pos 958
           ∷ negsuc 1675 ∷ []);
+      note = not-given;
       lent = packLent (7 ∷ 7 ∷ 7 ∷ 7 ∷ 7 ∷ []) (place 3 1 2 true ∷ place 3 1 2 true ∷ []) (replicate 50 5) (9 ∷ 9 ∷ 9 ∷ []);
       answer = refusal 5;
       left = packLent (7 ∷ 7 ∷ 7 ∷ 7 ∷ 7 ∷ []) (place 3 1 2 true ∷ place 3 1 2 true ∷ []) (replicate 50 5) (9 ∷ 9 ∷ 9 ∷ []);
@@ -3560,6 +3584,7 @@ wholePackRows =
       positions = given
           (pos 2048 ∷ negsuc 677 ∷ pos 118 ∷ pos 988 ∷ pos 1932 ∷ negsuc 1145 ∷ negsuc 53 ∷ pos 1112 ∷ negsuc 1743 ∷ negsuc 429 ∷ pos 958
           ∷ negsuc 1675 ∷ negsuc 139 ∷ pos 1470 ∷ negsuc 941 ∷ []);
+      note = not-given;
       lent = packLent (7 ∷ 7 ∷ 7 ∷ 7 ∷ 7 ∷ 7 ∷ []) (place 3 1 2 true ∷ place 3 1 2 true ∷ []) (replicate 56 5) (9 ∷ 9 ∷ 9 ∷ []);
       answer = refusal 7;
       left = packLent (7 ∷ 7 ∷ 7 ∷ 7 ∷ 7 ∷ 7 ∷ []) (place 3 1 2 true ∷ place 3 1 2 true ∷ []) (replicate 56 5) (9 ∷ 9 ∷ 9 ∷ []);
@@ -3573,6 +3598,7 @@ wholePackRows =
       positions = given
           (negsuc 1399 ∷ negsuc 677 ∷ pos 118 ∷ pos 988 ∷ pos 1932 ∷ negsuc 1145 ∷ negsuc 53 ∷ pos 1112 ∷ negsuc 1743 ∷ negsuc 429 ∷ pos 958
           ∷ negsuc 1675 ∷ []);
+      note = not-given;
       lent = packLent (7 ∷ 7 ∷ 7 ∷ 7 ∷ 7 ∷ []) (place 3 1 2 true ∷ place 3 1 2 true ∷ []) (replicate 50 5) (9 ∷ []);
       answer = refusal 8;
       left = packLent (7 ∷ 7 ∷ 7 ∷ 7 ∷ 7 ∷ []) (place 3 1 2 true ∷ place 3 1 2 true ∷ []) (replicate 50 5) (9 ∷ []);
@@ -3584,6 +3610,7 @@ wholePackRows =
       vertices = 3;
       list = (0 ∷ 1 ∷ 2 ∷ []);
       positions = given (pos 2048 ∷ negsuc 677 ∷ pos 118 ∷ pos 988 ∷ pos 1932 ∷ negsuc 1145 ∷ negsuc 53 ∷ pos 1112 ∷ negsuc 1743 ∷ []);
+      note = not-given;
       lent = packLent (7 ∷ 7 ∷ []) (replicate 1024 (place 3 1 2 true)) (replicate 43 5) (9 ∷ 9 ∷ []);
       answer = refusal 8;
       left = packLent (7 ∷ 7 ∷ []) (replicate 1024 (place 3 1 2 true)) (replicate 43 5) (9 ∷ 9 ∷ []);
@@ -3595,6 +3622,7 @@ wholePackRows =
       vertices = 3;
       list = (0 ∷ 1 ∷ 2 ∷ []);
       positions = given (pos 2048 ∷ negsuc 677 ∷ pos 118 ∷ pos 988 ∷ pos 1932 ∷ negsuc 1145 ∷ negsuc 53 ∷ pos 1112 ∷ negsuc 1743 ∷ []);
+      note = not-given;
       lent = packLent (7 ∷ 7 ∷ 7 ∷ 7 ∷ []) (replicate 1023 (place 3 1 2 true)) (replicate 43 5) (9 ∷ 9 ∷ []);
       answer = refusal 8;
       left = packLent (7 ∷ 7 ∷ 7 ∷ 7 ∷ []) (replicate 1023 (place 3 1 2 true)) (replicate 43 5) (9 ∷ 9 ∷ []);
@@ -3608,6 +3636,7 @@ wholePackRows =
       positions = given
           (pos 2048 ∷ negsuc 677 ∷ pos 118 ∷ pos 988 ∷ pos 1932 ∷ negsuc 1145 ∷ negsuc 53 ∷ pos 1112 ∷ negsuc 1743 ∷ negsuc 429 ∷ pos 958
           ∷ negsuc 1675 ∷ []);
+      note = not-given;
       lent = packLent (7 ∷ 7 ∷ 7 ∷ 7 ∷ 7 ∷ []) (replicate 1024 (place 3 1 2 true)) (replicate 50 5) (9 ∷ []);
       answer = refusal 22;
       left = packLent (7 ∷ 7 ∷ 7 ∷ 7 ∷ 7 ∷ []) (replicate 1024 (place 3 1 2 true)) (replicate 50 5) (9 ∷ []);
@@ -3619,6 +3648,7 @@ wholePackRows =
       vertices = 4;
       list = (0 ∷ 1 ∷ 2 ∷ 1 ∷ 0 ∷ 3 ∷ []);
       positions = given [];
+      note = not-given;
       lent = packLent (7 ∷ 7 ∷ 7 ∷ 7 ∷ 7 ∷ []) (replicate 1024 (place 3 1 2 true)) (replicate 50 5) [];
       answer = refusal 22;
       left = packLent (7 ∷ 7 ∷ 7 ∷ 7 ∷ 7 ∷ []) (replicate 1024 (place 3 1 2 true)) (replicate 50 5) [];
@@ -3632,6 +3662,7 @@ wholePackRows =
       positions = given
           (pos 2048 ∷ negsuc 677 ∷ pos 118 ∷ pos 988 ∷ pos 1932 ∷ negsuc 1145 ∷ negsuc 53 ∷ pos 1112 ∷ negsuc 1743 ∷ negsuc 429 ∷ pos 958
           ∷ negsuc 1675 ∷ []);
+      note = not-given;
       lent = packLent (7 ∷ 7 ∷ 7 ∷ 7 ∷ 7 ∷ []) (replicate 1024 (place 3 1 2 true)) (replicate 50 5) (9 ∷ 9 ∷ 9 ∷ []);
       answer = refusal 23;
       left = packLent (7 ∷ 7 ∷ 7 ∷ 7 ∷ 7 ∷ []) (replicate 1024 (place 3 1 2 true)) (replicate 50 5) (9 ∷ 9 ∷ 9 ∷ []);
@@ -3645,6 +3676,7 @@ wholePackRows =
       positions = given
           (pos 2048 ∷ negsuc 677 ∷ pos 118 ∷ pos 988 ∷ pos 1932 ∷ negsuc 1145 ∷ negsuc 53 ∷ pos 1112 ∷ negsuc 1743 ∷ negsuc 429 ∷ pos 958
           ∷ negsuc 1675 ∷ negsuc 139 ∷ pos 1470 ∷ negsuc 941 ∷ pos 816 ∷ negsuc 1447 ∷ pos 458 ∷ []);
+      note = not-given;
       lent = packLent (7 ∷ 7 ∷ 7 ∷ 7 ∷ 7 ∷ 7 ∷ 7 ∷ []) (replicate 1024 (place 3 1 2 true)) (replicate 66 5)
           (9 ∷ 9 ∷ 9 ∷ 9 ∷ 9 ∷ 9 ∷ 9 ∷ []);
       answer = refusal 23;
@@ -3658,6 +3690,7 @@ wholePackRows =
       vertices = 3;
       list = (0 ∷ 1 ∷ 2 ∷ []);
       positions = given (pos 2048 ∷ negsuc 677 ∷ pos 118 ∷ pos 988 ∷ pos 1932 ∷ negsuc 1145 ∷ negsuc 53 ∷ pos 1112 ∷ negsuc 1743 ∷ []);
+      note = not-given;
       lent = packLent (7 ∷ 7 ∷ 7 ∷ 7 ∷ []) (replicate 1024 (place 3 1 2 true)) [] (9 ∷ 9 ∷ []);
       answer = refusal 23;
       left = packLent (7 ∷ 7 ∷ 7 ∷ 7 ∷ []) (replicate 1024 (place 3 1 2 true)) [] (9 ∷ 9 ∷ []);
@@ -3671,6 +3704,7 @@ wholePackRows =
       positions = given
           (negsuc 1399 ∷ negsuc 677 ∷ pos 118 ∷ pos 988 ∷ pos 1932 ∷ negsuc 1145 ∷ negsuc 53 ∷ pos 1112 ∷ negsuc 1743 ∷ negsuc 429 ∷ pos 958
           ∷ negsuc 1675 ∷ []);
+      note = not-given;
       lent = packLent (7 ∷ 7 ∷ 7 ∷ 7 ∷ 7 ∷ []) (replicate 1024 (place 3 1 2 true)) [] (9 ∷ 9 ∷ 9 ∷ []);
       answer = refusal 9;
       left = packLent (0 ∷ 0 ∷ 0 ∷ 0 ∷ 7 ∷ []) (replicate 1024 (place 0 0 0 false)) [] (0 ∷ 0 ∷ 9 ∷ []);
@@ -3684,6 +3718,7 @@ wholePackRows =
       positions = given
           (negsuc 1399 ∷ negsuc 677 ∷ pos 118 ∷ pos 988 ∷ pos 1932 ∷ negsuc 1145 ∷ negsuc 53 ∷ pos 1112 ∷ negsuc 1743 ∷ negsuc 429 ∷ pos 958
           ∷ negsuc 1675 ∷ negsuc 139 ∷ pos 1470 ∷ negsuc 941 ∷ pos 816 ∷ negsuc 1447 ∷ pos 458 ∷ []);
+      note = not-given;
       lent = packLent (7 ∷ 7 ∷ 7 ∷ 7 ∷ 7 ∷ 7 ∷ 7 ∷ []) (replicate 1024 (place 3 1 2 true)) [] (9 ∷ 9 ∷ 9 ∷ 9 ∷ 9 ∷ 9 ∷ 9 ∷ []);
       answer = refusal 10;
       left = packLent (0 ∷ 0 ∷ 0 ∷ 0 ∷ 0 ∷ 0 ∷ 7 ∷ []) (replicate 1024 (place 0 0 0 false)) [] (0 ∷ 0 ∷ 0 ∷ 0 ∷ 0 ∷ 0 ∷ 9 ∷ []);
@@ -3695,6 +3730,7 @@ wholePackRows =
       vertices = 3;
       list = (0 ∷ 1 ∷ 2 ∷ []);
       positions = given (negsuc 1399 ∷ negsuc 677 ∷ pos 118 ∷ pos 988 ∷ pos 1932 ∷ negsuc 1145 ∷ negsuc 53 ∷ pos 1112 ∷ negsuc 1743 ∷ []);
+      note = not-given;
       lent = packLent (7 ∷ 7 ∷ 7 ∷ 7 ∷ []) (replicate 1024 (place 3 1 2 true)) (replicate 36 5) (9 ∷ 9 ∷ []);
       answer = refusal 11;
       left = packLent (0 ∷ 0 ∷ 0 ∷ 7 ∷ []) (replicate 1024 (place 0 0 0 false)) (replicate 36 0) (0 ∷ 9 ∷ []);
@@ -3706,11 +3742,336 @@ wholePackRows =
       vertices = 3;
       list = (0 ∷ 1 ∷ 2 ∷ []);
       positions = given (negsuc 1399 ∷ negsuc 677 ∷ pos 118 ∷ pos 988 ∷ pos 1932 ∷ negsuc 1145 ∷ negsuc 53 ∷ pos 1112 ∷ negsuc 1743 ∷ []);
+      note = not-given;
       lent = packLent (7 ∷ 7 ∷ 7 ∷ []) (replicate 1024 (place 3 1 2 true)) (replicate 37 5) (9 ∷ []);
       answer = packed 37;
       left = packLent (0 ∷ 1 ∷ 2 ∷ []) (replicate 1024 (place 0 0 0 false))
           (1 ∷ 0 ∷ 8 ∷ 0 ∷ 3 ∷ 0 ∷ 1 ∷ 0 ∷ 3 ∷ 0 ∷ 1 ∷ 2 ∷ 0 ∷ 2 ∷ 237 ∷ 176 ∷ 3 ∷ 0 ∷ 18 ∷ 250 ∷ 136 ∷ 253 ∷ 90 ∷ 0 ∷ 118 ∷ 3 ∷ 220 ∷ 7
           ∷ 140 ∷ 251 ∷ 134 ∷ 255 ∷ 202 ∷ 4 ∷ 88 ∷ 249 ∷ 48 ∷ [])
+          (0 ∷ []);
+    }
+    ∷
+    -- note: one byte, no positions: accepted
+    record {
+      limits = most;
+      vertices = 3;
+      list = (0 ∷ 1 ∷ 2 ∷ []);
+      positions = not-given;
+      note = given (65 ∷ []);
+      lent = packLent (7 ∷ 7 ∷ 7 ∷ 7 ∷ []) (replicate 1024 (place 3 1 2 true)) (replicate 47 5) (9 ∷ 9 ∷ []);
+      answer = packed 20;
+      left = packLent (0 ∷ 1 ∷ 2 ∷ 7 ∷ []) (replicate 1024 (place 0 0 0 false))
+          ((1 ∷ 0 ∷ 8 ∷ 0 ∷ 3 ∷ 0 ∷ 1 ∷ 0 ∷ 3 ∷ 0 ∷ 1 ∷ 2 ∷ 0 ∷ 2 ∷ 237 ∷ 176 ∷ 4 ∷ 0 ∷ 1 ∷ 65 ∷ []) ++ replicate 27 5) (0 ∷ 9 ∷ []);
+    }
+    ∷
+    -- note: a zero byte: accepted
+    record {
+      limits = most;
+      vertices = 3;
+      list = (0 ∷ 1 ∷ 2 ∷ []);
+      positions = not-given;
+      note = given (0 ∷ []);
+      lent = packLent (7 ∷ 7 ∷ 7 ∷ 7 ∷ []) (replicate 1024 (place 3 1 2 true)) (replicate 47 5) (9 ∷ 9 ∷ []);
+      answer = packed 20;
+      left = packLent (0 ∷ 1 ∷ 2 ∷ 7 ∷ []) (replicate 1024 (place 0 0 0 false))
+          ((1 ∷ 0 ∷ 8 ∷ 0 ∷ 3 ∷ 0 ∷ 1 ∷ 0 ∷ 3 ∷ 0 ∷ 1 ∷ 2 ∷ 0 ∷ 2 ∷ 237 ∷ 176 ∷ 4 ∷ 0 ∷ 1 ∷ 0 ∷ []) ++ replicate 27 5) (0 ∷ 9 ∷ []);
+    }
+    ∷
+    -- note: positions and a note, vertices in the order 2 0 1: accepted
+    record {
+      limits = most;
+      vertices = 3;
+      list = (2 ∷ 0 ∷ 1 ∷ []);
+      positions = given (negsuc 1399 ∷ negsuc 677 ∷ pos 118 ∷ pos 988 ∷ pos 1932 ∷ negsuc 1145 ∷ negsuc 53 ∷ pos 1112 ∷ negsuc 1743 ∷ []);
+      note = given (7 ∷ 0 ∷ 255 ∷ 0 ∷ []);
+      lent = packLent (7 ∷ 7 ∷ 7 ∷ 7 ∷ []) (replicate 1024 (place 3 1 2 true)) (replicate 50 5) (9 ∷ 9 ∷ []);
+      answer = packed 44;
+      left = packLent (1 ∷ 2 ∷ 0 ∷ 7 ∷ []) (replicate 1024 (place 0 0 0 false))
+          (1 ∷ 0 ∷ 8 ∷ 0 ∷ 3 ∷ 0 ∷ 1 ∷ 0 ∷ 3 ∷ 0 ∷ 1 ∷ 2 ∷ 0 ∷ 2 ∷ 237 ∷ 176 ∷ 3 ∷ 0 ∷ 18 ∷ 255 ∷ 202 ∷ 4 ∷ 88 ∷ 249 ∷ 48 ∷ 250 ∷ 136 ∷ 253
+          ∷ 90 ∷ 0 ∷ 118 ∷ 3 ∷ 220 ∷ 7 ∷ 140 ∷ 251 ∷ 134 ∷ 4 ∷ 0 ∷ 4 ∷ 7 ∷ 0 ∷ 255 ∷ 0 ∷ 5 ∷ 5 ∷ 5 ∷ 5 ∷ 5 ∷ 5 ∷ [])
+          (0 ∷ 9 ∷ []);
+    }
+    ∷
+    -- note: 64 bytes: accepted
+    record {
+      limits = most;
+      vertices = 3;
+      list = (0 ∷ 1 ∷ 2 ∷ []);
+      positions = not-given;
+      note = given
+          (0 ∷ 37 ∷ 74 ∷ 111 ∷ 148 ∷ 185 ∷ 222 ∷ 3 ∷ 40 ∷ 77 ∷ 114 ∷ 151 ∷ 188 ∷ 225 ∷ 6 ∷ 43 ∷ 80 ∷ 117 ∷ 154 ∷ 191 ∷ 228 ∷ 9 ∷ 46 ∷ 83
+          ∷ 120 ∷ 157 ∷ 194 ∷ 231 ∷ 12 ∷ 49 ∷ 86 ∷ 123 ∷ 160 ∷ 197 ∷ 234 ∷ 15 ∷ 52 ∷ 89 ∷ 126 ∷ 163 ∷ 200 ∷ 237 ∷ 18 ∷ 55 ∷ 92 ∷ 129 ∷ 166
+          ∷ 203 ∷ 240 ∷ 21 ∷ 58 ∷ 95 ∷ 132 ∷ 169 ∷ 206 ∷ 243 ∷ 24 ∷ 61 ∷ 98 ∷ 135 ∷ 172 ∷ 209 ∷ 246 ∷ 27 ∷ []);
+      lent = packLent (7 ∷ 7 ∷ 7 ∷ 7 ∷ []) (replicate 1024 (place 3 1 2 true)) (replicate 110 5) (9 ∷ 9 ∷ []);
+      answer = packed 83;
+      left = packLent (0 ∷ 1 ∷ 2 ∷ 7 ∷ []) (replicate 1024 (place 0 0 0 false))
+          ((1 ∷ 0 ∷ 8 ∷ 0 ∷ 3 ∷ 0 ∷ 1 ∷ 0 ∷ 3 ∷ 0 ∷ 1 ∷ 2 ∷ 0 ∷ 2 ∷ 237 ∷ 176 ∷ 4 ∷ 0 ∷ 64 ∷ 0 ∷ 37 ∷ 74 ∷ 111 ∷ 148 ∷ 185 ∷ 222 ∷ 3 ∷ 40
+          ∷ 77 ∷ 114 ∷ 151 ∷ 188 ∷ 225 ∷ 6 ∷ 43 ∷ 80 ∷ 117 ∷ 154 ∷ 191 ∷ 228 ∷ 9 ∷ 46 ∷ 83 ∷ 120 ∷ 157 ∷ 194 ∷ 231 ∷ 12 ∷ 49 ∷ 86 ∷ 123
+          ∷ 160 ∷ 197 ∷ 234 ∷ 15 ∷ 52 ∷ 89 ∷ 126 ∷ 163 ∷ 200 ∷ 237 ∷ 18 ∷ 55 ∷ 92 ∷ 129 ∷ 166 ∷ 203 ∷ 240 ∷ 21 ∷ 58 ∷ 95 ∷ 132 ∷ 169 ∷ 206
+          ∷ 243 ∷ 24 ∷ 61 ∷ 98 ∷ 135 ∷ 172 ∷ 209 ∷ 246 ∷ 27 ∷ []) ++ replicate 27 5)
+          (0 ∷ 9 ∷ []);
+    }
+    ∷
+    -- note: positions and 64 bytes: accepted
+    record {
+      limits = most;
+      vertices = 3;
+      list = (0 ∷ 1 ∷ 2 ∷ []);
+      positions = given (negsuc 1399 ∷ negsuc 677 ∷ pos 118 ∷ pos 988 ∷ pos 1932 ∷ negsuc 1145 ∷ negsuc 53 ∷ pos 1112 ∷ negsuc 1743 ∷ []);
+      note = given
+          (0 ∷ 37 ∷ 74 ∷ 111 ∷ 148 ∷ 185 ∷ 222 ∷ 3 ∷ 40 ∷ 77 ∷ 114 ∷ 151 ∷ 188 ∷ 225 ∷ 6 ∷ 43 ∷ 80 ∷ 117 ∷ 154 ∷ 191 ∷ 228 ∷ 9 ∷ 46 ∷ 83
+          ∷ 120 ∷ 157 ∷ 194 ∷ 231 ∷ 12 ∷ 49 ∷ 86 ∷ 123 ∷ 160 ∷ 197 ∷ 234 ∷ 15 ∷ 52 ∷ 89 ∷ 126 ∷ 163 ∷ 200 ∷ 237 ∷ 18 ∷ 55 ∷ 92 ∷ 129 ∷ 166
+          ∷ 203 ∷ 240 ∷ 21 ∷ 58 ∷ 95 ∷ 132 ∷ 169 ∷ 206 ∷ 243 ∷ 24 ∷ 61 ∷ 98 ∷ 135 ∷ 172 ∷ 209 ∷ 246 ∷ 27 ∷ []);
+      lent = packLent (7 ∷ 7 ∷ 7 ∷ 7 ∷ []) (replicate 1024 (place 3 1 2 true)) (replicate 110 5) (9 ∷ 9 ∷ []);
+      answer = packed 104;
+      left = packLent (0 ∷ 1 ∷ 2 ∷ 7 ∷ []) (replicate 1024 (place 0 0 0 false))
+          (1 ∷ 0 ∷ 8 ∷ 0 ∷ 3 ∷ 0 ∷ 1 ∷ 0 ∷ 3 ∷ 0 ∷ 1 ∷ 2 ∷ 0 ∷ 2 ∷ 237 ∷ 176 ∷ 3 ∷ 0 ∷ 18 ∷ 250 ∷ 136 ∷ 253 ∷ 90 ∷ 0 ∷ 118 ∷ 3 ∷ 220 ∷ 7
+          ∷ 140 ∷ 251 ∷ 134 ∷ 255 ∷ 202 ∷ 4 ∷ 88 ∷ 249 ∷ 48 ∷ 4 ∷ 0 ∷ 64 ∷ 0 ∷ 37 ∷ 74 ∷ 111 ∷ 148 ∷ 185 ∷ 222 ∷ 3 ∷ 40 ∷ 77 ∷ 114 ∷ 151
+          ∷ 188 ∷ 225 ∷ 6 ∷ 43 ∷ 80 ∷ 117 ∷ 154 ∷ 191 ∷ 228 ∷ 9 ∷ 46 ∷ 83 ∷ 120 ∷ 157 ∷ 194 ∷ 231 ∷ 12 ∷ 49 ∷ 86 ∷ 123 ∷ 160 ∷ 197 ∷ 234
+          ∷ 15 ∷ 52 ∷ 89 ∷ 126 ∷ 163 ∷ 200 ∷ 237 ∷ 18 ∷ 55 ∷ 92 ∷ 129 ∷ 166 ∷ 203 ∷ 240 ∷ 21 ∷ 58 ∷ 95 ∷ 132 ∷ 169 ∷ 206 ∷ 243 ∷ 24 ∷ 61
+          ∷ 98 ∷ 135 ∷ 172 ∷ 209 ∷ 246 ∷ 27 ∷ 5 ∷ 5 ∷ 5 ∷ 5 ∷ 5 ∷ 5 ∷ [])
+          (0 ∷ 9 ∷ []);
+    }
+    ∷
+    -- note: 25: 0 bytes: refusal 25
+    record {
+      limits = most;
+      vertices = 3;
+      list = (0 ∷ 1 ∷ 2 ∷ []);
+      positions = not-given;
+      note = given [];
+      lent = packLent (7 ∷ 7 ∷ 7 ∷ 7 ∷ []) (replicate 1024 (place 3 1 2 true)) (replicate 46 5) (9 ∷ 9 ∷ []);
+      answer = refusal 25;
+      left = packLent (7 ∷ 7 ∷ 7 ∷ 7 ∷ []) (replicate 1024 (place 3 1 2 true)) (replicate 46 5) (9 ∷ 9 ∷ []);
+    }
+    ∷
+    -- note: 25: positions and 0 bytes: refusal 25
+    record {
+      limits = most;
+      vertices = 3;
+      list = (0 ∷ 1 ∷ 2 ∷ []);
+      positions = given (negsuc 1399 ∷ negsuc 677 ∷ pos 118 ∷ pos 988 ∷ pos 1932 ∷ negsuc 1145 ∷ negsuc 53 ∷ pos 1112 ∷ negsuc 1743 ∷ []);
+      note = given [];
+      lent = packLent (7 ∷ 7 ∷ 7 ∷ 7 ∷ []) (replicate 1024 (place 3 1 2 true)) (replicate 46 5) (9 ∷ 9 ∷ []);
+      answer = refusal 25;
+      left = packLent (7 ∷ 7 ∷ 7 ∷ 7 ∷ []) (replicate 1024 (place 3 1 2 true)) (replicate 46 5) (9 ∷ 9 ∷ []);
+    }
+    ∷
+    -- note: 25: 65 bytes: refusal 25
+    record {
+      limits = most;
+      vertices = 3;
+      list = (0 ∷ 1 ∷ 2 ∷ []);
+      positions = not-given;
+      note = given
+          (0 ∷ 37 ∷ 74 ∷ 111 ∷ 148 ∷ 185 ∷ 222 ∷ 3 ∷ 40 ∷ 77 ∷ 114 ∷ 151 ∷ 188 ∷ 225 ∷ 6 ∷ 43 ∷ 80 ∷ 117 ∷ 154 ∷ 191 ∷ 228 ∷ 9 ∷ 46 ∷ 83
+          ∷ 120 ∷ 157 ∷ 194 ∷ 231 ∷ 12 ∷ 49 ∷ 86 ∷ 123 ∷ 160 ∷ 197 ∷ 234 ∷ 15 ∷ 52 ∷ 89 ∷ 126 ∷ 163 ∷ 200 ∷ 237 ∷ 18 ∷ 55 ∷ 92 ∷ 129 ∷ 166
+          ∷ 203 ∷ 240 ∷ 21 ∷ 58 ∷ 95 ∷ 132 ∷ 169 ∷ 206 ∷ 243 ∷ 24 ∷ 61 ∷ 98 ∷ 135 ∷ 172 ∷ 209 ∷ 246 ∷ 27 ∷ 64 ∷ []);
+      lent = packLent (7 ∷ 7 ∷ 7 ∷ 7 ∷ []) (replicate 1024 (place 3 1 2 true)) (replicate 111 5) (9 ∷ 9 ∷ []);
+      answer = refusal 25;
+      left = packLent (7 ∷ 7 ∷ 7 ∷ 7 ∷ []) (replicate 1024 (place 3 1 2 true)) (replicate 111 5) (9 ∷ 9 ∷ []);
+    }
+    ∷
+    -- note: 25: 257 bytes: refusal 25
+    record {
+      limits = most;
+      vertices = 3;
+      list = (0 ∷ 1 ∷ 2 ∷ []);
+      positions = not-given;
+      note = given
+          (0 ∷ 37 ∷ 74 ∷ 111 ∷ 148 ∷ 185 ∷ 222 ∷ 3 ∷ 40 ∷ 77 ∷ 114 ∷ 151 ∷ 188 ∷ 225 ∷ 6 ∷ 43 ∷ 80 ∷ 117 ∷ 154 ∷ 191 ∷ 228 ∷ 9 ∷ 46 ∷ 83
+          ∷ 120 ∷ 157 ∷ 194 ∷ 231 ∷ 12 ∷ 49 ∷ 86 ∷ 123 ∷ 160 ∷ 197 ∷ 234 ∷ 15 ∷ 52 ∷ 89 ∷ 126 ∷ 163 ∷ 200 ∷ 237 ∷ 18 ∷ 55 ∷ 92 ∷ 129 ∷ 166
+          ∷ 203 ∷ 240 ∷ 21 ∷ 58 ∷ 95 ∷ 132 ∷ 169 ∷ 206 ∷ 243 ∷ 24 ∷ 61 ∷ 98 ∷ 135 ∷ 172 ∷ 209 ∷ 246 ∷ 27 ∷ 64 ∷ 101 ∷ 138 ∷ 175 ∷ 212 ∷ 249
+          ∷ 30 ∷ 67 ∷ 104 ∷ 141 ∷ 178 ∷ 215 ∷ 252 ∷ 33 ∷ 70 ∷ 107 ∷ 144 ∷ 181 ∷ 218 ∷ 255 ∷ 36 ∷ 73 ∷ 110 ∷ 147 ∷ 184 ∷ 221 ∷ 2 ∷ 39 ∷ 76
+          ∷ 113 ∷ 150 ∷ 187 ∷ 224 ∷ 5 ∷ 42 ∷ 79 ∷ 116 ∷ 153 ∷ 190 ∷ 227 ∷ 8 ∷ 45 ∷ 82 ∷ 119 ∷ 156 ∷ 193 ∷ 230 ∷ 11 ∷ 48 ∷ 85 ∷ 122 ∷ 159
+          ∷ 196 ∷ 233 ∷ 14 ∷ 51 ∷ 88 ∷ 125 ∷ 162 ∷ 199 ∷ 236 ∷ 17 ∷ 54 ∷ 91 ∷ 128 ∷ 165 ∷ 202 ∷ 239 ∷ 20 ∷ 57 ∷ 94 ∷ 131 ∷ 168 ∷ 205 ∷ 242
+          ∷ 23 ∷ 60 ∷ 97 ∷ 134 ∷ 171 ∷ 208 ∷ 245 ∷ 26 ∷ 63 ∷ 100 ∷ 137 ∷ 174 ∷ 211 ∷ 248 ∷ 29 ∷ 66 ∷ 103 ∷ 140 ∷ 177 ∷ 214 ∷ 251 ∷ 32 ∷ 69
+          ∷ 106 ∷ 143 ∷ 180 ∷ 217 ∷ 254 ∷ 35 ∷ 72 ∷ 109 ∷ 146 ∷ 183 ∷ 220 ∷ 1 ∷ 38 ∷ 75 ∷ 112 ∷ 149 ∷ 186 ∷ 223 ∷ 4 ∷ 41 ∷ 78 ∷ 115 ∷ 152
+          ∷ 189 ∷ 226 ∷ 7 ∷ 44 ∷ 81 ∷ 118 ∷ 155 ∷ 192 ∷ 229 ∷ 10 ∷ 47 ∷ 84 ∷ 121 ∷ 158 ∷ 195 ∷ 232 ∷ 13 ∷ 50 ∷ 87 ∷ 124 ∷ 161 ∷ 198 ∷ 235
+          ∷ 16 ∷ 53 ∷ 90 ∷ 127 ∷ 164 ∷ 201 ∷ 238 ∷ 19 ∷ 56 ∷ 93 ∷ 130 ∷ 167 ∷ 204 ∷ 241 ∷ 22 ∷ 59 ∷ 96 ∷ 133 ∷ 170 ∷ 207 ∷ 244 ∷ 25 ∷ 62
+          ∷ 99 ∷ 136 ∷ 173 ∷ 210 ∷ 247 ∷ 28 ∷ 65 ∷ 102 ∷ 139 ∷ 176 ∷ 213 ∷ 250 ∷ 31 ∷ 68 ∷ 105 ∷ 142 ∷ 179 ∷ 216 ∷ 253 ∷ 34 ∷ 71 ∷ 108 ∷ 145
+          ∷ 182 ∷ 219 ∷ 0 ∷ []);
+      lent = packLent (7 ∷ 7 ∷ 7 ∷ 7 ∷ []) (replicate 1024 (place 3 1 2 true)) (replicate 303 5) (9 ∷ 9 ∷ []);
+      answer = refusal 25;
+      left = packLent (7 ∷ 7 ∷ 7 ∷ 7 ∷ []) (replicate 1024 (place 3 1 2 true)) (replicate 303 5) (9 ∷ 9 ∷ []);
+    }
+    ∷
+    -- note: 5 before 25: refusal 5
+    record {
+      limits = most;
+      vertices = 4;
+      list = (0 ∷ 1 ∷ 2 ∷ 0 ∷ 1 ∷ 3 ∷ []);
+      positions = not-given;
+      note = given [];
+      lent = packLent (7 ∷ 7 ∷ 7 ∷ 7 ∷ 7 ∷ []) (replicate 1024 (place 3 1 2 true)) (replicate 53 5) (9 ∷ 9 ∷ 9 ∷ []);
+      answer = refusal 5;
+      left = packLent (7 ∷ 7 ∷ 7 ∷ 7 ∷ 7 ∷ []) (replicate 1024 (place 3 1 2 true)) (replicate 53 5) (9 ∷ 9 ∷ 9 ∷ []);
+    }
+    ∷
+    -- note: 7 before 25: refusal 7
+    record {
+      limits = most;
+      vertices = 5;
+      list = (0 ∷ 1 ∷ 2 ∷ 0 ∷ 3 ∷ 4 ∷ []);
+      positions = not-given;
+      note = given [];
+      lent = packLent (7 ∷ 7 ∷ 7 ∷ 7 ∷ 7 ∷ 7 ∷ []) (replicate 1024 (place 3 1 2 true)) (replicate 59 5) (9 ∷ 9 ∷ 9 ∷ []);
+      answer = refusal 7;
+      left = packLent (7 ∷ 7 ∷ 7 ∷ 7 ∷ 7 ∷ 7 ∷ []) (replicate 1024 (place 3 1 2 true)) (replicate 59 5) (9 ∷ 9 ∷ 9 ∷ []);
+    }
+    ∷
+    -- note: 8 before 25: numbering: refusal 8
+    record {
+      limits = most;
+      vertices = 3;
+      list = (0 ∷ 1 ∷ 2 ∷ []);
+      positions = not-given;
+      note = given [];
+      lent = packLent (7 ∷ 7 ∷ []) (replicate 1024 (place 3 1 2 true)) (replicate 46 5) (9 ∷ 9 ∷ []);
+      answer = refusal 8;
+      left = packLent (7 ∷ 7 ∷ []) (replicate 1024 (place 3 1 2 true)) (replicate 46 5) (9 ∷ 9 ∷ []);
+    }
+    ∷
+    -- note: 8 before 25: places: refusal 8
+    record {
+      limits = most;
+      vertices = 3;
+      list = (0 ∷ 1 ∷ 2 ∷ []);
+      positions = not-given;
+      note = given [];
+      lent = packLent (7 ∷ 7 ∷ 7 ∷ 7 ∷ []) (replicate 1023 (place 3 1 2 true)) (replicate 46 5) (9 ∷ 9 ∷ []);
+      answer = refusal 8;
+      left = packLent (7 ∷ 7 ∷ 7 ∷ 7 ∷ []) (replicate 1023 (place 3 1 2 true)) (replicate 46 5) (9 ∷ 9 ∷ []);
+    }
+    ∷
+    -- note: 22 before 25: refusal 22
+    record {
+      limits = most;
+      vertices = 4;
+      list = (0 ∷ 1 ∷ 2 ∷ 1 ∷ 0 ∷ 3 ∷ []);
+      positions = not-given;
+      note = given [];
+      lent = packLent (7 ∷ 7 ∷ 7 ∷ 7 ∷ 7 ∷ []) (replicate 1024 (place 3 1 2 true)) (replicate 53 5) (9 ∷ []);
+      answer = refusal 22;
+      left = packLent (7 ∷ 7 ∷ 7 ∷ 7 ∷ 7 ∷ []) (replicate 1024 (place 3 1 2 true)) (replicate 53 5) (9 ∷ []);
+    }
+    ∷
+    -- note: 23 before 25: no position: refusal 23
+    record {
+      limits = most;
+      vertices = 3;
+      list = (0 ∷ 1 ∷ 2 ∷ []);
+      positions = given [];
+      note = given [];
+      lent = packLent (7 ∷ 7 ∷ 7 ∷ 7 ∷ []) (replicate 1024 (place 3 1 2 true)) (replicate 46 5) (9 ∷ 9 ∷ []);
+      answer = refusal 23;
+      left = packLent (7 ∷ 7 ∷ 7 ∷ 7 ∷ []) (replicate 1024 (place 3 1 2 true)) (replicate 46 5) (9 ∷ 9 ∷ []);
+    }
+    ∷
+    -- note: 23 before 25: a position: refusal 23
+    record {
+      limits = most;
+      vertices = 3;
+      list = (0 ∷ 1 ∷ 2 ∷ []);
+      positions = given (negsuc 1399 ∷ negsuc 677 ∷ pos 118 ∷ pos 988 ∷ pos 1932 ∷ negsuc 1145 ∷ negsuc 53 ∷ pos 1112 ∷ pos 2048 ∷ []);
+      note = given
+          (0 ∷ 37 ∷ 74 ∷ 111 ∷ 148 ∷ 185 ∷ 222 ∷ 3 ∷ 40 ∷ 77 ∷ 114 ∷ 151 ∷ 188 ∷ 225 ∷ 6 ∷ 43 ∷ 80 ∷ 117 ∷ 154 ∷ 191 ∷ 228 ∷ 9 ∷ 46 ∷ 83
+          ∷ 120 ∷ 157 ∷ 194 ∷ 231 ∷ 12 ∷ 49 ∷ 86 ∷ 123 ∷ 160 ∷ 197 ∷ 234 ∷ 15 ∷ 52 ∷ 89 ∷ 126 ∷ 163 ∷ 200 ∷ 237 ∷ 18 ∷ 55 ∷ 92 ∷ 129 ∷ 166
+          ∷ 203 ∷ 240 ∷ 21 ∷ 58 ∷ 95 ∷ 132 ∷ 169 ∷ 206 ∷ 243 ∷ 24 ∷ 61 ∷ 98 ∷ 135 ∷ 172 ∷ 209 ∷ 246 ∷ 27 ∷ 64 ∷ []);
+      lent = packLent (7 ∷ 7 ∷ 7 ∷ 7 ∷ []) (replicate 1024 (place 3 1 2 true)) (replicate 111 5) (9 ∷ 9 ∷ []);
+      answer = refusal 23;
+      left = packLent (7 ∷ 7 ∷ 7 ∷ 7 ∷ []) (replicate 1024 (place 3 1 2 true)) (replicate 111 5) (9 ∷ 9 ∷ []);
+    }
+    ∷
+    -- note: 25 before 9: refusal 25
+    record {
+      limits = record { places = 3; loops = 1 };
+      vertices = 4;
+      list = (0 ∷ 1 ∷ 2 ∷ 1 ∷ 0 ∷ 3 ∷ []);
+      positions = not-given;
+      note = given [];
+      lent = packLent (7 ∷ 7 ∷ 7 ∷ 7 ∷ 7 ∷ []) (replicate 1024 (place 3 1 2 true)) (replicate 53 5) (9 ∷ 9 ∷ 9 ∷ []);
+      answer = refusal 25;
+      left = packLent (7 ∷ 7 ∷ 7 ∷ 7 ∷ 7 ∷ []) (replicate 1024 (place 3 1 2 true)) (replicate 53 5) (9 ∷ 9 ∷ 9 ∷ []);
+    }
+    ∷
+    -- note: 25 before 10: refusal 25
+    record {
+      limits = record { places = 1024; loops = 1 };
+      vertices = 6;
+      list = (1 ∷ 3 ∷ 2 ∷ 2 ∷ 4 ∷ 5 ∷ 2 ∷ 3 ∷ 4 ∷ 1 ∷ 0 ∷ 3 ∷ 2 ∷ 5 ∷ 0 ∷ 0 ∷ 1 ∷ 2 ∷ []);
+      positions = not-given;
+      note = given [];
+      lent = packLent (7 ∷ 7 ∷ 7 ∷ 7 ∷ 7 ∷ 7 ∷ 7 ∷ []) (replicate 1024 (place 3 1 2 true)) (replicate 69 5)
+          (9 ∷ 9 ∷ 9 ∷ 9 ∷ 9 ∷ 9 ∷ 9 ∷ []);
+      answer = refusal 25;
+      left = packLent (7 ∷ 7 ∷ 7 ∷ 7 ∷ 7 ∷ 7 ∷ 7 ∷ []) (replicate 1024 (place 3 1 2 true)) (replicate 69 5)
+          (9 ∷ 9 ∷ 9 ∷ 9 ∷ 9 ∷ 9 ∷ 9 ∷ []);
+    }
+    ∷
+    -- note: 25 before 11: refusal 25
+    record {
+      limits = most;
+      vertices = 3;
+      list = (0 ∷ 1 ∷ 2 ∷ []);
+      positions = not-given;
+      note = given
+          (0 ∷ 37 ∷ 74 ∷ 111 ∷ 148 ∷ 185 ∷ 222 ∷ 3 ∷ 40 ∷ 77 ∷ 114 ∷ 151 ∷ 188 ∷ 225 ∷ 6 ∷ 43 ∷ 80 ∷ 117 ∷ 154 ∷ 191 ∷ 228 ∷ 9 ∷ 46 ∷ 83
+          ∷ 120 ∷ 157 ∷ 194 ∷ 231 ∷ 12 ∷ 49 ∷ 86 ∷ 123 ∷ 160 ∷ 197 ∷ 234 ∷ 15 ∷ 52 ∷ 89 ∷ 126 ∷ 163 ∷ 200 ∷ 237 ∷ 18 ∷ 55 ∷ 92 ∷ 129 ∷ 166
+          ∷ 203 ∷ 240 ∷ 21 ∷ 58 ∷ 95 ∷ 132 ∷ 169 ∷ 206 ∷ 243 ∷ 24 ∷ 61 ∷ 98 ∷ 135 ∷ 172 ∷ 209 ∷ 246 ∷ 27 ∷ 64 ∷ []);
+      lent = packLent (7 ∷ 7 ∷ 7 ∷ 7 ∷ []) (replicate 1024 (place 3 1 2 true)) [] (9 ∷ 9 ∷ []);
+      answer = refusal 25;
+      left = packLent (7 ∷ 7 ∷ 7 ∷ 7 ∷ []) (replicate 1024 (place 3 1 2 true)) [] (9 ∷ 9 ∷ []);
+    }
+    ∷
+    -- note: 9: refusal 9
+    record {
+      limits = record { places = 3; loops = 1 };
+      vertices = 4;
+      list = (0 ∷ 1 ∷ 2 ∷ 1 ∷ 0 ∷ 3 ∷ []);
+      positions = not-given;
+      note = given (65 ∷ []);
+      lent = packLent (7 ∷ 7 ∷ 7 ∷ 7 ∷ 7 ∷ []) (replicate 1024 (place 3 1 2 true)) [] (9 ∷ 9 ∷ 9 ∷ []);
+      answer = refusal 9;
+      left = packLent (0 ∷ 0 ∷ 0 ∷ 0 ∷ 7 ∷ []) (replicate 1024 (place 0 0 0 false)) [] (0 ∷ 0 ∷ 9 ∷ []);
+    }
+    ∷
+    -- note: 11: no room for the note's last byte: refusal 11
+    record {
+      limits = most;
+      vertices = 3;
+      list = (0 ∷ 1 ∷ 2 ∷ []);
+      positions = not-given;
+      note = given (65 ∷ 66 ∷ []);
+      lent = packLent (7 ∷ 7 ∷ 7 ∷ 7 ∷ []) (replicate 1024 (place 3 1 2 true)) (replicate 20 5) (9 ∷ 9 ∷ []);
+      answer = refusal 11;
+      left = packLent (0 ∷ 0 ∷ 0 ∷ 7 ∷ []) (replicate 1024 (place 0 0 0 false)) (replicate 20 0) (0 ∷ 9 ∷ []);
+    }
+    ∷
+    -- note: 11: room for all but the note: refusal 11
+    record {
+      limits = most;
+      vertices = 3;
+      list = (0 ∷ 1 ∷ 2 ∷ []);
+      positions = given (negsuc 1399 ∷ negsuc 677 ∷ pos 118 ∷ pos 988 ∷ pos 1932 ∷ negsuc 1145 ∷ negsuc 53 ∷ pos 1112 ∷ negsuc 1743 ∷ []);
+      note = given (65 ∷ []);
+      lent = packLent (7 ∷ 7 ∷ 7 ∷ 7 ∷ []) (replicate 1024 (place 3 1 2 true)) (replicate 37 5) (9 ∷ 9 ∷ []);
+      answer = refusal 11;
+      left = packLent (0 ∷ 0 ∷ 0 ∷ 7 ∷ []) (replicate 1024 (place 0 0 0 false)) (replicate 37 0) (0 ∷ 9 ∷ []);
+    }
+    ∷
+    -- note: buffers just long enough: accepted
+    record {
+      limits = most;
+      vertices = 3;
+      list = (0 ∷ 1 ∷ 2 ∷ []);
+      positions = given (negsuc 1399 ∷ negsuc 677 ∷ pos 118 ∷ pos 988 ∷ pos 1932 ∷ negsuc 1145 ∷ negsuc 53 ∷ pos 1112 ∷ negsuc 1743 ∷ []);
+      note = given (65 ∷ []);
+      lent = packLent (7 ∷ 7 ∷ 7 ∷ []) (replicate 1024 (place 3 1 2 true)) (replicate 41 5) (9 ∷ []);
+      answer = packed 41;
+      left = packLent (0 ∷ 1 ∷ 2 ∷ []) (replicate 1024 (place 0 0 0 false))
+          (1 ∷ 0 ∷ 8 ∷ 0 ∷ 3 ∷ 0 ∷ 1 ∷ 0 ∷ 3 ∷ 0 ∷ 1 ∷ 2 ∷ 0 ∷ 2 ∷ 237 ∷ 176 ∷ 3 ∷ 0 ∷ 18 ∷ 250 ∷ 136 ∷ 253 ∷ 90 ∷ 0 ∷ 118 ∷ 3 ∷ 220 ∷ 7
+          ∷ 140 ∷ 251 ∷ 134 ∷ 255 ∷ 202 ∷ 4 ∷ 88 ∷ 249 ∷ 48 ∷ 4 ∷ 0 ∷ 1 ∷ 65 ∷ [])
           (0 ∷ []);
     }
     ∷
@@ -3728,6 +4089,8 @@ wholeRows =
           (unpackLent (0 ∷ 1 ∷ 2 ∷ 1 ∷ 0 ∷ 3 ∷ 1 ∷ 3 ∷ 2 ∷ 2 ∷ 3 ∷ 0 ∷ 1 ∷ 2 ∷ 0 ∷ []) (replicate 1024 (place 0 0 0 false)));
       measuring = volumeTold (modelOf 4 4 (totalsOf 6 0 0 (pos 2))) (given (negsuc 124))
           (unpackLent (0 ∷ 1 ∷ 2 ∷ 1 ∷ 0 ∷ 3 ∷ 1 ∷ 3 ∷ 2 ∷ 2 ∷ 3 ∷ 0 ∷ 1 ∷ 2 ∷ 0 ∷ []) (replicate 1024 (place 0 0 0 false)));
+      note = [];
+      start = 0;
     }
     ∷
     -- volume of M2, the same turned inside out: accepted, 125
@@ -3740,6 +4103,8 @@ wholeRows =
           (unpackLent (0 ∷ 1 ∷ 2 ∷ 1 ∷ 0 ∷ 3 ∷ 1 ∷ 3 ∷ 2 ∷ 2 ∷ 3 ∷ 0 ∷ 1 ∷ 2 ∷ 0 ∷ []) (replicate 1024 (place 0 0 0 false)));
       measuring = volumeTold (modelOf 4 4 (totalsOf 6 0 0 (pos 2))) (given (pos 125))
           (unpackLent (0 ∷ 1 ∷ 2 ∷ 1 ∷ 0 ∷ 3 ∷ 1 ∷ 3 ∷ 2 ∷ 2 ∷ 3 ∷ 0 ∷ 1 ∷ 2 ∷ 0 ∷ []) (replicate 1024 (place 0 0 0 false)));
+      note = [];
+      start = 0;
     }
     ∷
     -- volume of the largest cube, six times 4,095 x 4,095 x 4,095: accepted, 412014944250
@@ -3758,6 +4123,8 @@ wholeRows =
       measuring = volumeTold (modelOf 8 12 (totalsOf 18 0 0 (pos 2))) (given (pos 412014944250))
           (unpackLent (0 ∷ 1 ∷ 2 ∷ 1 ∷ 0 ∷ 3 ∷ 1 ∷ 3 ∷ 4 ∷ 1 ∷ 4 ∷ 5 ∷ 1 ∷ 5 ∷ 2 ∷ 2 ∷ 5 ∷ 6 ∷ 2 ∷ 6 ∷ 3 ∷ 2 ∷ 3 ∷ 0 ∷ 3 ∷ 6 ∷ 4 ∷ 4 ∷ 6 ∷ 7
           ∷ 4 ∷ 7 ∷ 5 ∷ 5 ∷ 7 ∷ 6 ∷ 1 ∷ 2 ∷ 0 ∷ []) (replicate 1024 (place 0 0 0 false)));
+      note = [];
+      start = 0;
     }
     ∷
     -- volume of M2, different numbers: accepted, -605601792
@@ -3770,6 +4137,8 @@ wholeRows =
           (unpackLent (0 ∷ 1 ∷ 2 ∷ 1 ∷ 0 ∷ 3 ∷ 1 ∷ 3 ∷ 2 ∷ 2 ∷ 3 ∷ 0 ∷ 1 ∷ 2 ∷ 0 ∷ []) (replicate 1024 (place 0 0 0 false)));
       measuring = volumeTold (modelOf 4 4 (totalsOf 6 0 0 (pos 2))) (given (negsuc 605601791))
           (unpackLent (0 ∷ 1 ∷ 2 ∷ 1 ∷ 0 ∷ 3 ∷ 1 ∷ 3 ∷ 2 ∷ 2 ∷ 3 ∷ 0 ∷ 1 ∷ 2 ∷ 0 ∷ []) (replicate 1024 (place 0 0 0 false)));
+      note = [];
+      start = 0;
     }
     ∷
     -- volume of M4: accepted, 0
@@ -3782,6 +4151,8 @@ wholeRows =
           (unpackLent (0 ∷ 1 ∷ 2 ∷ 1 ∷ 0 ∷ 2 ∷ 1 ∷ 2 ∷ 0 ∷ []) (replicate 1024 (place 0 0 0 false)));
       measuring = volumeTold (modelOf 3 2 (totalsOf 3 0 0 (pos 2))) (given (pos 0))
           (unpackLent (0 ∷ 1 ∷ 2 ∷ 1 ∷ 0 ∷ 2 ∷ 1 ∷ 2 ∷ 0 ∷ []) (replicate 1024 (place 0 0 0 false)));
+      note = [];
+      start = 0;
     }
     ∷
     -- volume of a torus: accepted, -4451893248
@@ -3800,6 +4171,8 @@ wholeRows =
       measuring = volumeTold (modelOf 7 14 (totalsOf 21 0 1 (pos 0))) (given (negsuc 4451893247))
           (unpackLent (0 ∷ 1 ∷ 2 ∷ 1 ∷ 0 ∷ 3 ∷ 1 ∷ 3 ∷ 4 ∷ 1 ∷ 4 ∷ 5 ∷ 1 ∷ 5 ∷ 6 ∷ 1 ∷ 6 ∷ 2 ∷ 2 ∷ 6 ∷ 4 ∷ 4 ∷ 6 ∷ 0 ∷ 4 ∷ 0 ∷ 5 ∷ 5 ∷ 0 ∷ 2
           ∷ 5 ∷ 2 ∷ 3 ∷ 3 ∷ 2 ∷ 4 ∷ 5 ∷ 3 ∷ 6 ∷ 6 ∷ 3 ∷ 0 ∷ 1 ∷ 2 ∷ 0 ∷ []) (replicate 1024 (place 0 0 0 false)));
+      note = [];
+      start = 0;
     }
     ∷
     -- 24: a rim: accepted, no volume by 24
@@ -3811,6 +4184,8 @@ wholeRows =
       unpacking = unpackTold (modelOf 3 1 (totalsOf 3 1 0 (pos 1)))
           (unpackLent (0 ∷ 1 ∷ 2 ∷ 1 ∷ 2 ∷ 0 ∷ []) (replicate 1024 (place 0 0 0 false)));
       measuring = volumeTold (refusal 24) not-given (unpackLent (0 ∷ 0 ∷ 0 ∷ 1 ∷ 2 ∷ 0 ∷ []) (replicate 1024 (place 0 0 0 false)));
+      note = [];
+      start = 0;
     }
     ∷
     -- 24: two rims: accepted, no volume by 24
@@ -3824,6 +4199,8 @@ wholeRows =
           (unpackLent (0 ∷ 1 ∷ 2 ∷ 3 ∷ 4 ∷ 5 ∷ 1 ∷ 2 ∷ 0 ∷ []) (replicate 1024 (place 0 0 0 false)));
       measuring = volumeTold (refusal 24) not-given
           (unpackLent (0 ∷ 0 ∷ 0 ∷ 0 ∷ 0 ∷ 0 ∷ 1 ∷ 2 ∷ 0 ∷ []) (replicate 1024 (place 0 0 0 false)));
+      note = [];
+      start = 0;
     }
     ∷
     -- 12: field 03 twice: refusal 12
@@ -3835,6 +4212,8 @@ wholeRows =
       lent = unpackLent (1 ∷ 2 ∷ 0 ∷ 1 ∷ []) (place 3 1 2 true ∷ []);
       unpacking = unpackTold (refusal 12) (unpackLent (1 ∷ 2 ∷ 0 ∷ 1 ∷ []) (place 3 1 2 true ∷ []));
       measuring = volumeTold (refusal 12) not-given (unpackLent (1 ∷ 2 ∷ 0 ∷ 1 ∷ []) (place 3 1 2 true ∷ []));
+      note = [];
+      start = 0;
     }
     ∷
     -- 12: field 03 before 02: refusal 12
@@ -3845,6 +4224,8 @@ wholeRows =
       lent = unpackLent (1 ∷ 2 ∷ 0 ∷ 1 ∷ []) (place 3 1 2 true ∷ []);
       unpacking = unpackTold (refusal 12) (unpackLent (1 ∷ 2 ∷ 0 ∷ 1 ∷ []) (place 3 1 2 true ∷ []));
       measuring = volumeTold (refusal 12) not-given (unpackLent (1 ∷ 2 ∷ 0 ∷ 1 ∷ []) (place 3 1 2 true ∷ []));
+      note = [];
+      start = 0;
     }
     ∷
     -- 12: field 03 before 01: refusal 12
@@ -3855,6 +4236,8 @@ wholeRows =
       lent = unpackLent (1 ∷ 2 ∷ 0 ∷ 1 ∷ []) (place 3 1 2 true ∷ []);
       unpacking = unpackTold (refusal 12) (unpackLent (1 ∷ 2 ∷ 0 ∷ 1 ∷ []) (place 3 1 2 true ∷ []));
       measuring = volumeTold (refusal 12) not-given (unpackLent (1 ∷ 2 ∷ 0 ∷ 1 ∷ []) (place 3 1 2 true ∷ []));
+      note = [];
+      start = 0;
     }
     ∷
     -- 12: field 03 and no 02: refusal 12
@@ -3865,6 +4248,8 @@ wholeRows =
       lent = unpackLent (1 ∷ 2 ∷ 0 ∷ 1 ∷ []) (place 3 1 2 true ∷ []);
       unpacking = unpackTold (refusal 12) (unpackLent (1 ∷ 2 ∷ 0 ∷ 1 ∷ []) (place 3 1 2 true ∷ []));
       measuring = volumeTold (refusal 12) not-given (unpackLent (1 ∷ 2 ∷ 0 ∷ 1 ∷ []) (place 3 1 2 true ∷ []));
+      note = [];
+      start = 0;
     }
     ∷
     -- 12: field 03 cut after its tag: refusal 12
@@ -3873,6 +4258,8 @@ wholeRows =
       lent = unpackLent (1 ∷ 2 ∷ 0 ∷ 1 ∷ []) (place 3 1 2 true ∷ []);
       unpacking = unpackTold (refusal 12) (unpackLent (1 ∷ 2 ∷ 0 ∷ 1 ∷ []) (place 3 1 2 true ∷ []));
       measuring = volumeTold (refusal 12) not-given (unpackLent (1 ∷ 2 ∷ 0 ∷ 1 ∷ []) (place 3 1 2 true ∷ []));
+      note = [];
+      start = 0;
     }
     ∷
     -- 12: field 03 cut in its length: refusal 12
@@ -3881,6 +4268,8 @@ wholeRows =
       lent = unpackLent (1 ∷ 2 ∷ 0 ∷ 1 ∷ []) (place 3 1 2 true ∷ []);
       unpacking = unpackTold (refusal 12) (unpackLent (1 ∷ 2 ∷ 0 ∷ 1 ∷ []) (place 3 1 2 true ∷ []));
       measuring = volumeTold (refusal 12) not-given (unpackLent (1 ∷ 2 ∷ 0 ∷ 1 ∷ []) (place 3 1 2 true ∷ []));
+      note = [];
+      start = 0;
     }
     ∷
     -- 12: field 03 cut in its contents: refusal 12
@@ -3891,6 +4280,8 @@ wholeRows =
       lent = unpackLent (1 ∷ 2 ∷ 0 ∷ 1 ∷ []) (place 3 1 2 true ∷ []);
       unpacking = unpackTold (refusal 12) (unpackLent (1 ∷ 2 ∷ 0 ∷ 1 ∷ []) (place 3 1 2 true ∷ []));
       measuring = volumeTold (refusal 12) not-given (unpackLent (1 ∷ 2 ∷ 0 ∷ 1 ∷ []) (place 3 1 2 true ∷ []));
+      note = [];
+      start = 0;
     }
     ∷
     -- 12: a byte after field 03: refusal 12
@@ -3901,26 +4292,32 @@ wholeRows =
       lent = unpackLent (1 ∷ 2 ∷ 0 ∷ 1 ∷ []) (place 3 1 2 true ∷ []);
       unpacking = unpackTold (refusal 12) (unpackLent (1 ∷ 2 ∷ 0 ∷ 1 ∷ []) (place 3 1 2 true ∷ []));
       measuring = volumeTold (refusal 12) not-given (unpackLent (1 ∷ 2 ∷ 0 ∷ 1 ∷ []) (place 3 1 2 true ∷ []));
+      note = [];
+      start = 0;
     }
     ∷
-    -- 12: tag 04 after field 03: refusal 12
+    -- 12: tag 05 after field 03: refusal 12
     record {
       bytes =
           (1 ∷ 0 ∷ 8 ∷ 0 ∷ 3 ∷ 0 ∷ 2 ∷ 0 ∷ 3 ∷ 0 ∷ 1 ∷ 2 ∷ 0 ∷ 1 ∷ 244 ∷ 3 ∷ 0 ∷ 18 ∷ 250 ∷ 136 ∷ 253 ∷ 90 ∷ 0 ∷ 118 ∷ 3 ∷ 220 ∷ 7 ∷ 140
-          ∷ 251 ∷ 134 ∷ 255 ∷ 202 ∷ 4 ∷ 88 ∷ 249 ∷ 48 ∷ 4 ∷ 0 ∷ 0 ∷ []);
+          ∷ 251 ∷ 134 ∷ 255 ∷ 202 ∷ 4 ∷ 88 ∷ 249 ∷ 48 ∷ 5 ∷ 0 ∷ 0 ∷ []);
       lent = unpackLent (1 ∷ 2 ∷ 0 ∷ 1 ∷ []) (place 3 1 2 true ∷ []);
       unpacking = unpackTold (refusal 12) (unpackLent (1 ∷ 2 ∷ 0 ∷ 1 ∷ []) (place 3 1 2 true ∷ []));
       measuring = volumeTold (refusal 12) not-given (unpackLent (1 ∷ 2 ∷ 0 ∷ 1 ∷ []) (place 3 1 2 true ∷ []));
+      note = [];
+      start = 0;
     }
     ∷
-    -- 12: tag 04 for 03: refusal 12
+    -- 12: tag 05 for 03: refusal 12
     record {
       bytes =
-          (1 ∷ 0 ∷ 8 ∷ 0 ∷ 3 ∷ 0 ∷ 2 ∷ 0 ∷ 3 ∷ 0 ∷ 1 ∷ 2 ∷ 0 ∷ 1 ∷ 244 ∷ 4 ∷ 0 ∷ 18 ∷ 250 ∷ 136 ∷ 253 ∷ 90 ∷ 0 ∷ 118 ∷ 3 ∷ 220 ∷ 7 ∷ 140
+          (1 ∷ 0 ∷ 8 ∷ 0 ∷ 3 ∷ 0 ∷ 2 ∷ 0 ∷ 3 ∷ 0 ∷ 1 ∷ 2 ∷ 0 ∷ 1 ∷ 244 ∷ 5 ∷ 0 ∷ 18 ∷ 250 ∷ 136 ∷ 253 ∷ 90 ∷ 0 ∷ 118 ∷ 3 ∷ 220 ∷ 7 ∷ 140
           ∷ 251 ∷ 134 ∷ 255 ∷ 202 ∷ 4 ∷ 88 ∷ 249 ∷ 48 ∷ []);
       lent = unpackLent (1 ∷ 2 ∷ 0 ∷ 1 ∷ []) (place 3 1 2 true ∷ []);
       unpacking = unpackTold (refusal 12) (unpackLent (1 ∷ 2 ∷ 0 ∷ 1 ∷ []) (place 3 1 2 true ∷ []));
       measuring = volumeTold (refusal 12) not-given (unpackLent (1 ∷ 2 ∷ 0 ∷ 1 ∷ []) (place 3 1 2 true ∷ []));
+      note = [];
+      start = 0;
     }
     ∷
     -- 12: 02 again after field 03: refusal 12
@@ -3931,6 +4328,8 @@ wholeRows =
       lent = unpackLent (1 ∷ 2 ∷ 0 ∷ 1 ∷ []) (place 3 1 2 true ∷ []);
       unpacking = unpackTold (refusal 12) (unpackLent (1 ∷ 2 ∷ 0 ∷ 1 ∷ []) (place 3 1 2 true ∷ []));
       measuring = volumeTold (refusal 12) not-given (unpackLent (1 ∷ 2 ∷ 0 ∷ 1 ∷ []) (place 3 1 2 true ∷ []));
+      note = [];
+      start = 0;
     }
     ∷
     -- 12: 01 has a length of 7, and field 03: refusal 12
@@ -3941,6 +4340,8 @@ wholeRows =
       lent = unpackLent (1 ∷ 2 ∷ 0 ∷ 1 ∷ []) (place 3 1 2 true ∷ []);
       unpacking = unpackTold (refusal 12) (unpackLent (1 ∷ 2 ∷ 0 ∷ 1 ∷ []) (place 3 1 2 true ∷ []));
       measuring = volumeTold (refusal 12) not-given (unpackLent (1 ∷ 2 ∷ 0 ∷ 1 ∷ []) (place 3 1 2 true ∷ []));
+      note = [];
+      start = 0;
     }
     ∷
     -- 12 before 13: a byte after field 03: refusal 12
@@ -3951,6 +4352,8 @@ wholeRows =
       lent = unpackLent (1 ∷ 2 ∷ 0 ∷ 1 ∷ []) (place 3 1 2 true ∷ []);
       unpacking = unpackTold (refusal 12) (unpackLent (1 ∷ 2 ∷ 0 ∷ 1 ∷ []) (place 3 1 2 true ∷ []));
       measuring = volumeTold (refusal 12) not-given (unpackLent (1 ∷ 2 ∷ 0 ∷ 1 ∷ []) (place 3 1 2 true ∷ []));
+      note = [];
+      start = 0;
     }
     ∷
     -- 23: 0 bytes: refusal 23
@@ -3959,6 +4362,8 @@ wholeRows =
       lent = unpackLent (1 ∷ 2 ∷ 0 ∷ 1 ∷ 2 ∷ 0 ∷ 1 ∷ []) (replicate 1024 (place 3 1 2 true));
       unpacking = unpackTold (refusal 23) (unpackLent (0 ∷ 0 ∷ 0 ∷ 0 ∷ 0 ∷ 0 ∷ 1 ∷ []) (replicate 1024 (place 0 0 0 false)));
       measuring = volumeTold (refusal 23) not-given (unpackLent (0 ∷ 0 ∷ 0 ∷ 0 ∷ 0 ∷ 0 ∷ 1 ∷ []) (replicate 1024 (place 0 0 0 false)));
+      note = [];
+      start = 0;
     }
     ∷
     -- 23: 12 bytes: refusal 23
@@ -3969,6 +4374,8 @@ wholeRows =
       lent = unpackLent (1 ∷ 2 ∷ 0 ∷ 1 ∷ 2 ∷ 0 ∷ 1 ∷ []) (replicate 1024 (place 3 1 2 true));
       unpacking = unpackTold (refusal 23) (unpackLent (0 ∷ 0 ∷ 0 ∷ 0 ∷ 0 ∷ 0 ∷ 1 ∷ []) (replicate 1024 (place 0 0 0 false)));
       measuring = volumeTold (refusal 23) not-given (unpackLent (0 ∷ 0 ∷ 0 ∷ 0 ∷ 0 ∷ 0 ∷ 1 ∷ []) (replicate 1024 (place 0 0 0 false)));
+      note = [];
+      start = 0;
     }
     ∷
     -- 23: 17 bytes: refusal 23
@@ -3979,6 +4386,8 @@ wholeRows =
       lent = unpackLent (1 ∷ 2 ∷ 0 ∷ 1 ∷ 2 ∷ 0 ∷ 1 ∷ []) (replicate 1024 (place 3 1 2 true));
       unpacking = unpackTold (refusal 23) (unpackLent (0 ∷ 0 ∷ 0 ∷ 0 ∷ 0 ∷ 0 ∷ 1 ∷ []) (replicate 1024 (place 0 0 0 false)));
       measuring = volumeTold (refusal 23) not-given (unpackLent (0 ∷ 0 ∷ 0 ∷ 0 ∷ 0 ∷ 0 ∷ 1 ∷ []) (replicate 1024 (place 0 0 0 false)));
+      note = [];
+      start = 0;
     }
     ∷
     -- 23: 19 bytes: refusal 23
@@ -3989,6 +4398,8 @@ wholeRows =
       lent = unpackLent (1 ∷ 2 ∷ 0 ∷ 1 ∷ 2 ∷ 0 ∷ 1 ∷ []) (replicate 1024 (place 3 1 2 true));
       unpacking = unpackTold (refusal 23) (unpackLent (0 ∷ 0 ∷ 0 ∷ 0 ∷ 0 ∷ 0 ∷ 1 ∷ []) (replicate 1024 (place 0 0 0 false)));
       measuring = volumeTold (refusal 23) not-given (unpackLent (0 ∷ 0 ∷ 0 ∷ 0 ∷ 0 ∷ 0 ∷ 1 ∷ []) (replicate 1024 (place 0 0 0 false)));
+      note = [];
+      start = 0;
     }
     ∷
     -- 23: 24 bytes: refusal 23
@@ -3999,6 +4410,8 @@ wholeRows =
       lent = unpackLent (1 ∷ 2 ∷ 0 ∷ 1 ∷ 2 ∷ 0 ∷ 1 ∷ []) (replicate 1024 (place 3 1 2 true));
       unpacking = unpackTold (refusal 23) (unpackLent (0 ∷ 0 ∷ 0 ∷ 0 ∷ 0 ∷ 0 ∷ 1 ∷ []) (replicate 1024 (place 0 0 0 false)));
       measuring = volumeTold (refusal 23) not-given (unpackLent (0 ∷ 0 ∷ 0 ∷ 0 ∷ 0 ∷ 0 ∷ 1 ∷ []) (replicate 1024 (place 0 0 0 false)));
+      note = [];
+      start = 0;
     }
     ∷
     -- 23: position 0 is -2049: refusal 23
@@ -4011,6 +4424,8 @@ wholeRows =
           (unpackLent (0 ∷ 0 ∷ 0 ∷ 0 ∷ 0 ∷ 0 ∷ 1 ∷ 2 ∷ []) (replicate 1024 (place 0 0 0 false) ++ (place 3 1 2 true ∷ [])));
       measuring = volumeTold (refusal 23) not-given
           (unpackLent (0 ∷ 0 ∷ 0 ∷ 0 ∷ 0 ∷ 0 ∷ 1 ∷ 2 ∷ []) (replicate 1024 (place 0 0 0 false) ++ (place 3 1 2 true ∷ [])));
+      note = [];
+      start = 0;
     }
     ∷
     -- 23: position 8 is -2049: refusal 23
@@ -4023,6 +4438,8 @@ wholeRows =
           (unpackLent (0 ∷ 0 ∷ 0 ∷ 0 ∷ 0 ∷ 0 ∷ 1 ∷ 2 ∷ []) (replicate 1024 (place 0 0 0 false) ++ (place 3 1 2 true ∷ [])));
       measuring = volumeTold (refusal 23) not-given
           (unpackLent (0 ∷ 0 ∷ 0 ∷ 0 ∷ 0 ∷ 0 ∷ 1 ∷ 2 ∷ []) (replicate 1024 (place 0 0 0 false) ++ (place 3 1 2 true ∷ [])));
+      note = [];
+      start = 0;
     }
     ∷
     -- 23: position 4 is 2048: refusal 23
@@ -4035,6 +4452,8 @@ wholeRows =
           (unpackLent (0 ∷ 0 ∷ 0 ∷ 0 ∷ 0 ∷ 0 ∷ 1 ∷ 2 ∷ []) (replicate 1024 (place 0 0 0 false) ++ (place 3 1 2 true ∷ [])));
       measuring = volumeTold (refusal 23) not-given
           (unpackLent (0 ∷ 0 ∷ 0 ∷ 0 ∷ 0 ∷ 0 ∷ 1 ∷ 2 ∷ []) (replicate 1024 (place 0 0 0 false) ++ (place 3 1 2 true ∷ [])));
+      note = [];
+      start = 0;
     }
     ∷
     -- 23: position 0 is 32767: refusal 23
@@ -4047,6 +4466,8 @@ wholeRows =
           (unpackLent (0 ∷ 0 ∷ 0 ∷ 0 ∷ 0 ∷ 0 ∷ 1 ∷ 2 ∷ []) (replicate 1024 (place 0 0 0 false) ++ (place 3 1 2 true ∷ [])));
       measuring = volumeTold (refusal 23) not-given
           (unpackLent (0 ∷ 0 ∷ 0 ∷ 0 ∷ 0 ∷ 0 ∷ 1 ∷ 2 ∷ []) (replicate 1024 (place 0 0 0 false) ++ (place 3 1 2 true ∷ [])));
+      note = [];
+      start = 0;
     }
     ∷
     -- 23: position 8 is -32768: refusal 23
@@ -4059,6 +4480,8 @@ wholeRows =
           (unpackLent (0 ∷ 0 ∷ 0 ∷ 0 ∷ 0 ∷ 0 ∷ 1 ∷ 2 ∷ []) (replicate 1024 (place 0 0 0 false) ++ (place 3 1 2 true ∷ [])));
       measuring = volumeTold (refusal 23) not-given
           (unpackLent (0 ∷ 0 ∷ 0 ∷ 0 ∷ 0 ∷ 0 ∷ 1 ∷ 2 ∷ []) (replicate 1024 (place 0 0 0 false) ++ (place 3 1 2 true ∷ [])));
+      note = [];
+      start = 0;
     }
     ∷
     -- no field 03, a rim: accepted, no volume by 24
@@ -4067,6 +4490,8 @@ wholeRows =
       lent = unpackLent (1 ∷ 2 ∷ 0 ∷ 1 ∷ []) (replicate 1024 (place 3 1 2 true));
       unpacking = unpackTold (modelOf 3 1 (totalsOf 3 1 0 (pos 1))) (unpackLent (0 ∷ 1 ∷ 2 ∷ 1 ∷ []) (replicate 1024 (place 0 0 0 false)));
       measuring = volumeTold (refusal 24) not-given (unpackLent (0 ∷ 0 ∷ 0 ∷ 1 ∷ []) (replicate 1024 (place 0 0 0 false)));
+      note = [];
+      start = 0;
     }
     ∷
     -- no field 03, no rim: accepted, no volume by 24
@@ -4077,6 +4502,8 @@ wholeRows =
           (unpackLent (0 ∷ 1 ∷ 2 ∷ 1 ∷ 0 ∷ 2 ∷ 1 ∷ []) (replicate 1024 (place 0 0 0 false) ++ (place 3 1 2 true ∷ [])));
       measuring = volumeTold (refusal 24) not-given
           (unpackLent (0 ∷ 0 ∷ 0 ∷ 0 ∷ 0 ∷ 0 ∷ 1 ∷ []) (replicate 1024 (place 0 0 0 false) ++ (place 3 1 2 true ∷ [])));
+      note = [];
+      start = 0;
     }
     ∷
     -- nothing: refusal 12
@@ -4085,6 +4512,8 @@ wholeRows =
       lent = unpackLent (1 ∷ 2 ∷ 0 ∷ 1 ∷ []) (place 3 1 2 true ∷ []);
       unpacking = unpackTold (refusal 12) (unpackLent (1 ∷ 2 ∷ 0 ∷ 1 ∷ []) (place 3 1 2 true ∷ []));
       measuring = volumeTold (refusal 12) not-given (unpackLent (1 ∷ 2 ∷ 0 ∷ 1 ∷ []) (place 3 1 2 true ∷ []));
+      note = [];
+      start = 0;
     }
     ∷
     -- 13 before 23: refusal 13
@@ -4093,6 +4522,8 @@ wholeRows =
       lent = unpackLent (1 ∷ 2 ∷ 0 ∷ 1 ∷ 2 ∷ 0 ∷ []) (place 3 1 2 true ∷ []);
       unpacking = unpackTold (refusal 13) (unpackLent (1 ∷ 2 ∷ 0 ∷ 1 ∷ 2 ∷ 0 ∷ []) (place 3 1 2 true ∷ []));
       measuring = volumeTold (refusal 13) not-given (unpackLent (1 ∷ 2 ∷ 0 ∷ 1 ∷ 2 ∷ 0 ∷ []) (place 3 1 2 true ∷ []));
+      note = [];
+      start = 0;
     }
     ∷
     -- 14 before 23: triangles: refusal 14
@@ -4101,6 +4532,8 @@ wholeRows =
       lent = unpackLent (1 ∷ 2 ∷ 0 ∷ 1 ∷ 2 ∷ []) (replicate 1024 (place 3 1 2 true));
       unpacking = unpackTold (refusal 14) (unpackLent (1 ∷ 2 ∷ 0 ∷ 1 ∷ 2 ∷ []) (replicate 1024 (place 3 1 2 true)));
       measuring = volumeTold (refusal 14) not-given (unpackLent (1 ∷ 2 ∷ 0 ∷ 1 ∷ 2 ∷ []) (replicate 1024 (place 3 1 2 true)));
+      note = [];
+      start = 0;
     }
     ∷
     -- 14 before 23: places: refusal 14
@@ -4109,6 +4542,8 @@ wholeRows =
       lent = unpackLent (1 ∷ 2 ∷ 0 ∷ 1 ∷ 2 ∷ 0 ∷ []) (replicate 1023 (place 3 1 2 true));
       unpacking = unpackTold (refusal 14) (unpackLent (1 ∷ 2 ∷ 0 ∷ 1 ∷ 2 ∷ 0 ∷ []) (replicate 1023 (place 3 1 2 true)));
       measuring = volumeTold (refusal 14) not-given (unpackLent (1 ∷ 2 ∷ 0 ∷ 1 ∷ 2 ∷ 0 ∷ []) (replicate 1023 (place 3 1 2 true)));
+      note = [];
+      start = 0;
     }
     ∷
     -- 15 before 23: refusal 15
@@ -4117,6 +4552,8 @@ wholeRows =
       lent = unpackLent (1 ∷ 2 ∷ 0 ∷ 1 ∷ []) (replicate 1024 (place 3 1 2 true));
       unpacking = unpackTold (refusal 15) (unpackLent (0 ∷ 0 ∷ 0 ∷ 1 ∷ []) (replicate 1024 (place 0 0 0 false)));
       measuring = volumeTold (refusal 15) not-given (unpackLent (0 ∷ 0 ∷ 0 ∷ 1 ∷ []) (replicate 1024 (place 0 0 0 false)));
+      note = [];
+      start = 0;
     }
     ∷
     -- 18 before 23: refusal 18
@@ -4125,6 +4562,8 @@ wholeRows =
       lent = unpackLent (1 ∷ 2 ∷ 0 ∷ 1 ∷ 2 ∷ 0 ∷ 1 ∷ 2 ∷ 0 ∷ 1 ∷ 2 ∷ 0 ∷ []) (replicate 1024 (place 3 1 2 true));
       unpacking = unpackTold (refusal 18) (unpackLent (replicate 12 0) (replicate 1024 (place 0 0 0 false)));
       measuring = volumeTold (refusal 18) not-given (unpackLent (replicate 12 0) (replicate 1024 (place 0 0 0 false)));
+      note = [];
+      start = 0;
     }
     ∷
     -- 19 before 23: refusal 19
@@ -4133,6 +4572,8 @@ wholeRows =
       lent = unpackLent (1 ∷ 2 ∷ 0 ∷ 1 ∷ []) (replicate 1024 (place 3 1 2 true));
       unpacking = unpackTold (refusal 19) (unpackLent (0 ∷ 0 ∷ 0 ∷ 1 ∷ []) (replicate 1024 (place 0 0 0 false)));
       measuring = volumeTold (refusal 19) not-given (unpackLent (0 ∷ 0 ∷ 0 ∷ 1 ∷ []) (replicate 1024 (place 0 0 0 false)));
+      note = [];
+      start = 0;
     }
     ∷
     -- 20 before 23: refusal 20
@@ -4141,6 +4582,8 @@ wholeRows =
       lent = unpackLent (1 ∷ 2 ∷ 0 ∷ 1 ∷ 2 ∷ 0 ∷ 1 ∷ 2 ∷ 0 ∷ 1 ∷ 2 ∷ 0 ∷ []) (replicate 1024 (place 3 1 2 true));
       unpacking = unpackTold (refusal 20) (unpackLent (replicate 12 0) (replicate 1024 (place 0 0 0 false)));
       measuring = volumeTold (refusal 20) not-given (unpackLent (replicate 12 0) (replicate 1024 (place 0 0 0 false)));
+      note = [];
+      start = 0;
     }
     ∷
     -- 23 before 24: a rim: refusal 23
@@ -4149,6 +4592,565 @@ wholeRows =
       lent = unpackLent (1 ∷ 2 ∷ 0 ∷ 1 ∷ []) (replicate 1024 (place 3 1 2 true));
       unpacking = unpackTold (refusal 23) (unpackLent (0 ∷ 0 ∷ 0 ∷ 1 ∷ []) (replicate 1024 (place 0 0 0 false)));
       measuring = volumeTold (refusal 23) not-given (unpackLent (0 ∷ 0 ∷ 0 ∷ 1 ∷ []) (replicate 1024 (place 0 0 0 false)));
+      note = [];
+      start = 0;
+    }
+    ∷
+    -- field 04 after 02: accepted, no volume by 24
+    record {
+      bytes = (1 ∷ 0 ∷ 8 ∷ 0 ∷ 3 ∷ 0 ∷ 2 ∷ 0 ∷ 3 ∷ 0 ∷ 1 ∷ 2 ∷ 0 ∷ 1 ∷ 244 ∷ 4 ∷ 0 ∷ 1 ∷ 65 ∷ []);
+      lent = unpackLent (1 ∷ 2 ∷ 0 ∷ 1 ∷ 2 ∷ 0 ∷ 1 ∷ []) (replicate 1025 (place 3 1 2 true));
+      unpacking = unpackTold (modelOf 3 2 (totalsOf 3 0 0 (pos 2)))
+          (unpackLent (0 ∷ 1 ∷ 2 ∷ 1 ∷ 0 ∷ 2 ∷ 1 ∷ []) (replicate 1024 (place 0 0 0 false) ++ (place 3 1 2 true ∷ [])));
+      measuring = volumeTold (refusal 24) not-given
+          (unpackLent (0 ∷ 0 ∷ 0 ∷ 0 ∷ 0 ∷ 0 ∷ 1 ∷ []) (replicate 1024 (place 0 0 0 false) ++ (place 3 1 2 true ∷ [])));
+      note = (65 ∷ []);
+      start = 18;
+    }
+    ∷
+    -- field 04 after 03: accepted, 0
+    record {
+      bytes =
+          (1 ∷ 0 ∷ 8 ∷ 0 ∷ 3 ∷ 0 ∷ 2 ∷ 0 ∷ 3 ∷ 0 ∷ 1 ∷ 2 ∷ 0 ∷ 1 ∷ 244 ∷ 3 ∷ 0 ∷ 18 ∷ 250 ∷ 136 ∷ 253 ∷ 90 ∷ 0 ∷ 118 ∷ 3 ∷ 220 ∷ 7 ∷ 140
+          ∷ 251 ∷ 134 ∷ 255 ∷ 202 ∷ 4 ∷ 88 ∷ 249 ∷ 48 ∷ 4 ∷ 0 ∷ 1 ∷ 65 ∷ []);
+      lent = unpackLent (1 ∷ 2 ∷ 0 ∷ 1 ∷ 2 ∷ 0 ∷ 1 ∷ []) (replicate 1025 (place 3 1 2 true));
+      unpacking = unpackTold (modelOf 3 2 (totalsOf 3 0 0 (pos 2)))
+          (unpackLent (0 ∷ 1 ∷ 2 ∷ 1 ∷ 0 ∷ 2 ∷ 1 ∷ []) (replicate 1024 (place 0 0 0 false) ++ (place 3 1 2 true ∷ [])));
+      measuring = volumeTold (modelOf 3 2 (totalsOf 3 0 0 (pos 2))) (given (pos 0))
+          (unpackLent (0 ∷ 1 ∷ 2 ∷ 1 ∷ 0 ∷ 2 ∷ 1 ∷ []) (replicate 1024 (place 0 0 0 false) ++ (place 3 1 2 true ∷ [])));
+      note = (65 ∷ []);
+      start = 39;
+    }
+    ∷
+    -- field 04 of zero bytes: accepted, 0
+    record {
+      bytes =
+          (1 ∷ 0 ∷ 8 ∷ 0 ∷ 3 ∷ 0 ∷ 2 ∷ 0 ∷ 3 ∷ 0 ∷ 1 ∷ 2 ∷ 0 ∷ 1 ∷ 244 ∷ 3 ∷ 0 ∷ 18 ∷ 250 ∷ 136 ∷ 253 ∷ 90 ∷ 0 ∷ 118 ∷ 3 ∷ 220 ∷ 7 ∷ 140
+          ∷ 251 ∷ 134 ∷ 255 ∷ 202 ∷ 4 ∷ 88 ∷ 249 ∷ 48 ∷ 4 ∷ 0 ∷ 2 ∷ 0 ∷ 0 ∷ []);
+      lent = unpackLent (1 ∷ 2 ∷ 0 ∷ 1 ∷ 2 ∷ 0 ∷ 1 ∷ []) (replicate 1025 (place 3 1 2 true));
+      unpacking = unpackTold (modelOf 3 2 (totalsOf 3 0 0 (pos 2)))
+          (unpackLent (0 ∷ 1 ∷ 2 ∷ 1 ∷ 0 ∷ 2 ∷ 1 ∷ []) (replicate 1024 (place 0 0 0 false) ++ (place 3 1 2 true ∷ [])));
+      measuring = volumeTold (modelOf 3 2 (totalsOf 3 0 0 (pos 2))) (given (pos 0))
+          (unpackLent (0 ∷ 1 ∷ 2 ∷ 1 ∷ 0 ∷ 2 ∷ 1 ∷ []) (replicate 1024 (place 0 0 0 false) ++ (place 3 1 2 true ∷ [])));
+      note = (0 ∷ 0 ∷ []);
+      start = 39;
+    }
+    ∷
+    -- field 04 that has fields 03 and 04: accepted, no volume by 24
+    record {
+      bytes = (1 ∷ 0 ∷ 8 ∷ 0 ∷ 3 ∷ 0 ∷ 2 ∷ 0 ∷ 3 ∷ 0 ∷ 1 ∷ 2 ∷ 0 ∷ 1 ∷ 244 ∷ 4 ∷ 0 ∷ 7 ∷ 3 ∷ 0 ∷ 0 ∷ 4 ∷ 0 ∷ 1 ∷ 65 ∷ []);
+      lent = unpackLent (1 ∷ 2 ∷ 0 ∷ 1 ∷ 2 ∷ 0 ∷ 1 ∷ []) (replicate 1025 (place 3 1 2 true));
+      unpacking = unpackTold (modelOf 3 2 (totalsOf 3 0 0 (pos 2)))
+          (unpackLent (0 ∷ 1 ∷ 2 ∷ 1 ∷ 0 ∷ 2 ∷ 1 ∷ []) (replicate 1024 (place 0 0 0 false) ++ (place 3 1 2 true ∷ [])));
+      measuring = volumeTold (refusal 24) not-given
+          (unpackLent (0 ∷ 0 ∷ 0 ∷ 0 ∷ 0 ∷ 0 ∷ 1 ∷ []) (replicate 1024 (place 0 0 0 false) ++ (place 3 1 2 true ∷ [])));
+      note = (3 ∷ 0 ∷ 0 ∷ 4 ∷ 0 ∷ 1 ∷ 65 ∷ []);
+      start = 18;
+    }
+    ∷
+    -- field 04 of 64 bytes: accepted, no volume by 24
+    record {
+      bytes =
+          (1 ∷ 0 ∷ 8 ∷ 0 ∷ 3 ∷ 0 ∷ 2 ∷ 0 ∷ 3 ∷ 0 ∷ 1 ∷ 2 ∷ 0 ∷ 1 ∷ 244 ∷ 4 ∷ 0 ∷ 64 ∷ 0 ∷ 37 ∷ 74 ∷ 111 ∷ 148 ∷ 185 ∷ 222 ∷ 3 ∷ 40 ∷ 77
+          ∷ 114 ∷ 151 ∷ 188 ∷ 225 ∷ 6 ∷ 43 ∷ 80 ∷ 117 ∷ 154 ∷ 191 ∷ 228 ∷ 9 ∷ 46 ∷ 83 ∷ 120 ∷ 157 ∷ 194 ∷ 231 ∷ 12 ∷ 49 ∷ 86 ∷ 123 ∷ 160
+          ∷ 197 ∷ 234 ∷ 15 ∷ 52 ∷ 89 ∷ 126 ∷ 163 ∷ 200 ∷ 237 ∷ 18 ∷ 55 ∷ 92 ∷ 129 ∷ 166 ∷ 203 ∷ 240 ∷ 21 ∷ 58 ∷ 95 ∷ 132 ∷ 169 ∷ 206 ∷ 243
+          ∷ 24 ∷ 61 ∷ 98 ∷ 135 ∷ 172 ∷ 209 ∷ 246 ∷ 27 ∷ []);
+      lent = unpackLent (1 ∷ 2 ∷ 0 ∷ 1 ∷ 2 ∷ 0 ∷ 1 ∷ []) (replicate 1025 (place 3 1 2 true));
+      unpacking = unpackTold (modelOf 3 2 (totalsOf 3 0 0 (pos 2)))
+          (unpackLent (0 ∷ 1 ∷ 2 ∷ 1 ∷ 0 ∷ 2 ∷ 1 ∷ []) (replicate 1024 (place 0 0 0 false) ++ (place 3 1 2 true ∷ [])));
+      measuring = volumeTold (refusal 24) not-given
+          (unpackLent (0 ∷ 0 ∷ 0 ∷ 0 ∷ 0 ∷ 0 ∷ 1 ∷ []) (replicate 1024 (place 0 0 0 false) ++ (place 3 1 2 true ∷ [])));
+      note =
+          (0 ∷ 37 ∷ 74 ∷ 111 ∷ 148 ∷ 185 ∷ 222 ∷ 3 ∷ 40 ∷ 77 ∷ 114 ∷ 151 ∷ 188 ∷ 225 ∷ 6 ∷ 43 ∷ 80 ∷ 117 ∷ 154 ∷ 191 ∷ 228 ∷ 9 ∷ 46 ∷ 83
+          ∷ 120 ∷ 157 ∷ 194 ∷ 231 ∷ 12 ∷ 49 ∷ 86 ∷ 123 ∷ 160 ∷ 197 ∷ 234 ∷ 15 ∷ 52 ∷ 89 ∷ 126 ∷ 163 ∷ 200 ∷ 237 ∷ 18 ∷ 55 ∷ 92 ∷ 129 ∷ 166
+          ∷ 203 ∷ 240 ∷ 21 ∷ 58 ∷ 95 ∷ 132 ∷ 169 ∷ 206 ∷ 243 ∷ 24 ∷ 61 ∷ 98 ∷ 135 ∷ 172 ∷ 209 ∷ 246 ∷ 27 ∷ []);
+      start = 18;
+    }
+    ∷
+    -- field 04 of 64 bytes after 03: accepted, 0
+    record {
+      bytes =
+          (1 ∷ 0 ∷ 8 ∷ 0 ∷ 3 ∷ 0 ∷ 2 ∷ 0 ∷ 3 ∷ 0 ∷ 1 ∷ 2 ∷ 0 ∷ 1 ∷ 244 ∷ 3 ∷ 0 ∷ 18 ∷ 250 ∷ 136 ∷ 253 ∷ 90 ∷ 0 ∷ 118 ∷ 3 ∷ 220 ∷ 7 ∷ 140
+          ∷ 251 ∷ 134 ∷ 255 ∷ 202 ∷ 4 ∷ 88 ∷ 249 ∷ 48 ∷ 4 ∷ 0 ∷ 64 ∷ 0 ∷ 37 ∷ 74 ∷ 111 ∷ 148 ∷ 185 ∷ 222 ∷ 3 ∷ 40 ∷ 77 ∷ 114 ∷ 151 ∷ 188
+          ∷ 225 ∷ 6 ∷ 43 ∷ 80 ∷ 117 ∷ 154 ∷ 191 ∷ 228 ∷ 9 ∷ 46 ∷ 83 ∷ 120 ∷ 157 ∷ 194 ∷ 231 ∷ 12 ∷ 49 ∷ 86 ∷ 123 ∷ 160 ∷ 197 ∷ 234 ∷ 15 ∷ 52
+          ∷ 89 ∷ 126 ∷ 163 ∷ 200 ∷ 237 ∷ 18 ∷ 55 ∷ 92 ∷ 129 ∷ 166 ∷ 203 ∷ 240 ∷ 21 ∷ 58 ∷ 95 ∷ 132 ∷ 169 ∷ 206 ∷ 243 ∷ 24 ∷ 61 ∷ 98 ∷ 135
+          ∷ 172 ∷ 209 ∷ 246 ∷ 27 ∷ []);
+      lent = unpackLent (1 ∷ 2 ∷ 0 ∷ 1 ∷ 2 ∷ 0 ∷ 1 ∷ []) (replicate 1025 (place 3 1 2 true));
+      unpacking = unpackTold (modelOf 3 2 (totalsOf 3 0 0 (pos 2)))
+          (unpackLent (0 ∷ 1 ∷ 2 ∷ 1 ∷ 0 ∷ 2 ∷ 1 ∷ []) (replicate 1024 (place 0 0 0 false) ++ (place 3 1 2 true ∷ [])));
+      measuring = volumeTold (modelOf 3 2 (totalsOf 3 0 0 (pos 2))) (given (pos 0))
+          (unpackLent (0 ∷ 1 ∷ 2 ∷ 1 ∷ 0 ∷ 2 ∷ 1 ∷ []) (replicate 1024 (place 0 0 0 false) ++ (place 3 1 2 true ∷ [])));
+      note =
+          (0 ∷ 37 ∷ 74 ∷ 111 ∷ 148 ∷ 185 ∷ 222 ∷ 3 ∷ 40 ∷ 77 ∷ 114 ∷ 151 ∷ 188 ∷ 225 ∷ 6 ∷ 43 ∷ 80 ∷ 117 ∷ 154 ∷ 191 ∷ 228 ∷ 9 ∷ 46 ∷ 83
+          ∷ 120 ∷ 157 ∷ 194 ∷ 231 ∷ 12 ∷ 49 ∷ 86 ∷ 123 ∷ 160 ∷ 197 ∷ 234 ∷ 15 ∷ 52 ∷ 89 ∷ 126 ∷ 163 ∷ 200 ∷ 237 ∷ 18 ∷ 55 ∷ 92 ∷ 129 ∷ 166
+          ∷ 203 ∷ 240 ∷ 21 ∷ 58 ∷ 95 ∷ 132 ∷ 169 ∷ 206 ∷ 243 ∷ 24 ∷ 61 ∷ 98 ∷ 135 ∷ 172 ∷ 209 ∷ 246 ∷ 27 ∷ []);
+      start = 39;
+    }
+    ∷
+    -- field 04, volume of M2: accepted, -605601792
+    record {
+      bytes =
+          (1 ∷ 0 ∷ 8 ∷ 0 ∷ 4 ∷ 0 ∷ 4 ∷ 0 ∷ 4 ∷ 0 ∷ 1 ∷ 2 ∷ 0 ∷ 2 ∷ 224 ∷ 208 ∷ 3 ∷ 0 ∷ 24 ∷ 250 ∷ 136 ∷ 253 ∷ 90 ∷ 0 ∷ 118 ∷ 3 ∷ 220 ∷ 7
+          ∷ 140 ∷ 251 ∷ 134 ∷ 255 ∷ 202 ∷ 4 ∷ 88 ∷ 249 ∷ 48 ∷ 254 ∷ 82 ∷ 3 ∷ 190 ∷ 249 ∷ 116 ∷ 4 ∷ 0 ∷ 1 ∷ 65 ∷ []);
+      lent = unpackLent (1 ∷ 2 ∷ 0 ∷ 1 ∷ 2 ∷ 0 ∷ 1 ∷ 2 ∷ 0 ∷ 1 ∷ 2 ∷ 0 ∷ 1 ∷ 2 ∷ 0 ∷ []) (replicate 1024 (place 3 1 2 true));
+      unpacking = unpackTold (modelOf 4 4 (totalsOf 6 0 0 (pos 2)))
+          (unpackLent (0 ∷ 1 ∷ 2 ∷ 1 ∷ 0 ∷ 3 ∷ 1 ∷ 3 ∷ 2 ∷ 2 ∷ 3 ∷ 0 ∷ 1 ∷ 2 ∷ 0 ∷ []) (replicate 1024 (place 0 0 0 false)));
+      measuring = volumeTold (modelOf 4 4 (totalsOf 6 0 0 (pos 2))) (given (negsuc 605601791))
+          (unpackLent (0 ∷ 1 ∷ 2 ∷ 1 ∷ 0 ∷ 3 ∷ 1 ∷ 3 ∷ 2 ∷ 2 ∷ 3 ∷ 0 ∷ 1 ∷ 2 ∷ 0 ∷ []) (replicate 1024 (place 0 0 0 false)));
+      note = (65 ∷ []);
+      start = 46;
+    }
+    ∷
+    -- field 04, a rim: accepted, no volume by 24
+    record {
+      bytes =
+          (1 ∷ 0 ∷ 8 ∷ 0 ∷ 3 ∷ 0 ∷ 1 ∷ 0 ∷ 3 ∷ 0 ∷ 1 ∷ 2 ∷ 0 ∷ 2 ∷ 237 ∷ 176 ∷ 3 ∷ 0 ∷ 18 ∷ 250 ∷ 136 ∷ 253 ∷ 90 ∷ 0 ∷ 118 ∷ 3 ∷ 220 ∷ 7
+          ∷ 140 ∷ 251 ∷ 134 ∷ 255 ∷ 202 ∷ 4 ∷ 88 ∷ 249 ∷ 48 ∷ 4 ∷ 0 ∷ 1 ∷ 65 ∷ []);
+      lent = unpackLent (1 ∷ 2 ∷ 0 ∷ 1 ∷ []) (replicate 1024 (place 3 1 2 true));
+      unpacking = unpackTold (modelOf 3 1 (totalsOf 3 1 0 (pos 1))) (unpackLent (0 ∷ 1 ∷ 2 ∷ 1 ∷ []) (replicate 1024 (place 0 0 0 false)));
+      measuring = volumeTold (refusal 24) not-given (unpackLent (0 ∷ 0 ∷ 0 ∷ 1 ∷ []) (replicate 1024 (place 0 0 0 false)));
+      note = (65 ∷ []);
+      start = 40;
+    }
+    ∷
+    -- 25 before 24: field 04 of 0 bytes, no field 03: refusal 25
+    record {
+      bytes = (1 ∷ 0 ∷ 8 ∷ 0 ∷ 3 ∷ 0 ∷ 2 ∷ 0 ∷ 3 ∷ 0 ∷ 1 ∷ 2 ∷ 0 ∷ 1 ∷ 244 ∷ 4 ∷ 0 ∷ 0 ∷ []);
+      lent = unpackLent (1 ∷ 2 ∷ 0 ∷ 1 ∷ 2 ∷ 0 ∷ 1 ∷ []) (replicate 1025 (place 3 1 2 true));
+      unpacking = unpackTold (refusal 25)
+          (unpackLent (0 ∷ 0 ∷ 0 ∷ 0 ∷ 0 ∷ 0 ∷ 1 ∷ []) (replicate 1024 (place 0 0 0 false) ++ (place 3 1 2 true ∷ [])));
+      measuring = volumeTold (refusal 25) not-given
+          (unpackLent (0 ∷ 0 ∷ 0 ∷ 0 ∷ 0 ∷ 0 ∷ 1 ∷ []) (replicate 1024 (place 0 0 0 false) ++ (place 3 1 2 true ∷ [])));
+      note = [];
+      start = 0;
+    }
+    ∷
+    -- 25: field 04 of 0 bytes after 03: refusal 25
+    record {
+      bytes =
+          (1 ∷ 0 ∷ 8 ∷ 0 ∷ 3 ∷ 0 ∷ 2 ∷ 0 ∷ 3 ∷ 0 ∷ 1 ∷ 2 ∷ 0 ∷ 1 ∷ 244 ∷ 3 ∷ 0 ∷ 18 ∷ 250 ∷ 136 ∷ 253 ∷ 90 ∷ 0 ∷ 118 ∷ 3 ∷ 220 ∷ 7 ∷ 140
+          ∷ 251 ∷ 134 ∷ 255 ∷ 202 ∷ 4 ∷ 88 ∷ 249 ∷ 48 ∷ 4 ∷ 0 ∷ 0 ∷ []);
+      lent = unpackLent (1 ∷ 2 ∷ 0 ∷ 1 ∷ 2 ∷ 0 ∷ 1 ∷ []) (replicate 1025 (place 3 1 2 true));
+      unpacking = unpackTold (refusal 25)
+          (unpackLent (0 ∷ 0 ∷ 0 ∷ 0 ∷ 0 ∷ 0 ∷ 1 ∷ []) (replicate 1024 (place 0 0 0 false) ++ (place 3 1 2 true ∷ [])));
+      measuring = volumeTold (refusal 25) not-given
+          (unpackLent (0 ∷ 0 ∷ 0 ∷ 0 ∷ 0 ∷ 0 ∷ 1 ∷ []) (replicate 1024 (place 0 0 0 false) ++ (place 3 1 2 true ∷ [])));
+      note = [];
+      start = 0;
+    }
+    ∷
+    -- 25: field 04 of 65 bytes: refusal 25
+    record {
+      bytes =
+          (1 ∷ 0 ∷ 8 ∷ 0 ∷ 3 ∷ 0 ∷ 2 ∷ 0 ∷ 3 ∷ 0 ∷ 1 ∷ 2 ∷ 0 ∷ 1 ∷ 244 ∷ 4 ∷ 0 ∷ 65 ∷ 0 ∷ 37 ∷ 74 ∷ 111 ∷ 148 ∷ 185 ∷ 222 ∷ 3 ∷ 40 ∷ 77
+          ∷ 114 ∷ 151 ∷ 188 ∷ 225 ∷ 6 ∷ 43 ∷ 80 ∷ 117 ∷ 154 ∷ 191 ∷ 228 ∷ 9 ∷ 46 ∷ 83 ∷ 120 ∷ 157 ∷ 194 ∷ 231 ∷ 12 ∷ 49 ∷ 86 ∷ 123 ∷ 160
+          ∷ 197 ∷ 234 ∷ 15 ∷ 52 ∷ 89 ∷ 126 ∷ 163 ∷ 200 ∷ 237 ∷ 18 ∷ 55 ∷ 92 ∷ 129 ∷ 166 ∷ 203 ∷ 240 ∷ 21 ∷ 58 ∷ 95 ∷ 132 ∷ 169 ∷ 206 ∷ 243
+          ∷ 24 ∷ 61 ∷ 98 ∷ 135 ∷ 172 ∷ 209 ∷ 246 ∷ 27 ∷ 64 ∷ []);
+      lent = unpackLent (1 ∷ 2 ∷ 0 ∷ 1 ∷ 2 ∷ 0 ∷ 1 ∷ []) (replicate 1025 (place 3 1 2 true));
+      unpacking = unpackTold (refusal 25)
+          (unpackLent (0 ∷ 0 ∷ 0 ∷ 0 ∷ 0 ∷ 0 ∷ 1 ∷ []) (replicate 1024 (place 0 0 0 false) ++ (place 3 1 2 true ∷ [])));
+      measuring = volumeTold (refusal 25) not-given
+          (unpackLent (0 ∷ 0 ∷ 0 ∷ 0 ∷ 0 ∷ 0 ∷ 1 ∷ []) (replicate 1024 (place 0 0 0 false) ++ (place 3 1 2 true ∷ [])));
+      note = [];
+      start = 0;
+    }
+    ∷
+    -- 25: field 04 of 65 bytes after 03: refusal 25
+    record {
+      bytes =
+          (1 ∷ 0 ∷ 8 ∷ 0 ∷ 3 ∷ 0 ∷ 2 ∷ 0 ∷ 3 ∷ 0 ∷ 1 ∷ 2 ∷ 0 ∷ 1 ∷ 244 ∷ 3 ∷ 0 ∷ 18 ∷ 250 ∷ 136 ∷ 253 ∷ 90 ∷ 0 ∷ 118 ∷ 3 ∷ 220 ∷ 7 ∷ 140
+          ∷ 251 ∷ 134 ∷ 255 ∷ 202 ∷ 4 ∷ 88 ∷ 249 ∷ 48 ∷ 4 ∷ 0 ∷ 65 ∷ 0 ∷ 37 ∷ 74 ∷ 111 ∷ 148 ∷ 185 ∷ 222 ∷ 3 ∷ 40 ∷ 77 ∷ 114 ∷ 151 ∷ 188
+          ∷ 225 ∷ 6 ∷ 43 ∷ 80 ∷ 117 ∷ 154 ∷ 191 ∷ 228 ∷ 9 ∷ 46 ∷ 83 ∷ 120 ∷ 157 ∷ 194 ∷ 231 ∷ 12 ∷ 49 ∷ 86 ∷ 123 ∷ 160 ∷ 197 ∷ 234 ∷ 15 ∷ 52
+          ∷ 89 ∷ 126 ∷ 163 ∷ 200 ∷ 237 ∷ 18 ∷ 55 ∷ 92 ∷ 129 ∷ 166 ∷ 203 ∷ 240 ∷ 21 ∷ 58 ∷ 95 ∷ 132 ∷ 169 ∷ 206 ∷ 243 ∷ 24 ∷ 61 ∷ 98 ∷ 135
+          ∷ 172 ∷ 209 ∷ 246 ∷ 27 ∷ 64 ∷ []);
+      lent = unpackLent (1 ∷ 2 ∷ 0 ∷ 1 ∷ 2 ∷ 0 ∷ 1 ∷ []) (replicate 1025 (place 3 1 2 true));
+      unpacking = unpackTold (refusal 25)
+          (unpackLent (0 ∷ 0 ∷ 0 ∷ 0 ∷ 0 ∷ 0 ∷ 1 ∷ []) (replicate 1024 (place 0 0 0 false) ++ (place 3 1 2 true ∷ [])));
+      measuring = volumeTold (refusal 25) not-given
+          (unpackLent (0 ∷ 0 ∷ 0 ∷ 0 ∷ 0 ∷ 0 ∷ 1 ∷ []) (replicate 1024 (place 0 0 0 false) ++ (place 3 1 2 true ∷ [])));
+      note = [];
+      start = 0;
+    }
+    ∷
+    -- 25: field 04 of 257 bytes: refusal 25
+    record {
+      bytes =
+          (1 ∷ 0 ∷ 8 ∷ 0 ∷ 3 ∷ 0 ∷ 2 ∷ 0 ∷ 3 ∷ 0 ∷ 1 ∷ 2 ∷ 0 ∷ 1 ∷ 244 ∷ 4 ∷ 1 ∷ 1 ∷ 0 ∷ 37 ∷ 74 ∷ 111 ∷ 148 ∷ 185 ∷ 222 ∷ 3 ∷ 40 ∷ 77 ∷ 114
+          ∷ 151 ∷ 188 ∷ 225 ∷ 6 ∷ 43 ∷ 80 ∷ 117 ∷ 154 ∷ 191 ∷ 228 ∷ 9 ∷ 46 ∷ 83 ∷ 120 ∷ 157 ∷ 194 ∷ 231 ∷ 12 ∷ 49 ∷ 86 ∷ 123 ∷ 160 ∷ 197
+          ∷ 234 ∷ 15 ∷ 52 ∷ 89 ∷ 126 ∷ 163 ∷ 200 ∷ 237 ∷ 18 ∷ 55 ∷ 92 ∷ 129 ∷ 166 ∷ 203 ∷ 240 ∷ 21 ∷ 58 ∷ 95 ∷ 132 ∷ 169 ∷ 206 ∷ 243 ∷ 24
+          ∷ 61 ∷ 98 ∷ 135 ∷ 172 ∷ 209 ∷ 246 ∷ 27 ∷ 64 ∷ 101 ∷ 138 ∷ 175 ∷ 212 ∷ 249 ∷ 30 ∷ 67 ∷ 104 ∷ 141 ∷ 178 ∷ 215 ∷ 252 ∷ 33 ∷ 70 ∷ 107
+          ∷ 144 ∷ 181 ∷ 218 ∷ 255 ∷ 36 ∷ 73 ∷ 110 ∷ 147 ∷ 184 ∷ 221 ∷ 2 ∷ 39 ∷ 76 ∷ 113 ∷ 150 ∷ 187 ∷ 224 ∷ 5 ∷ 42 ∷ 79 ∷ 116 ∷ 153 ∷ 190
+          ∷ 227 ∷ 8 ∷ 45 ∷ 82 ∷ 119 ∷ 156 ∷ 193 ∷ 230 ∷ 11 ∷ 48 ∷ 85 ∷ 122 ∷ 159 ∷ 196 ∷ 233 ∷ 14 ∷ 51 ∷ 88 ∷ 125 ∷ 162 ∷ 199 ∷ 236 ∷ 17
+          ∷ 54 ∷ 91 ∷ 128 ∷ 165 ∷ 202 ∷ 239 ∷ 20 ∷ 57 ∷ 94 ∷ 131 ∷ 168 ∷ 205 ∷ 242 ∷ 23 ∷ 60 ∷ 97 ∷ 134 ∷ 171 ∷ 208 ∷ 245 ∷ 26 ∷ 63 ∷ 100
+          ∷ 137 ∷ 174 ∷ 211 ∷ 248 ∷ 29 ∷ 66 ∷ 103 ∷ 140 ∷ 177 ∷ 214 ∷ 251 ∷ 32 ∷ 69 ∷ 106 ∷ 143 ∷ 180 ∷ 217 ∷ 254 ∷ 35 ∷ 72 ∷ 109 ∷ 146
+          ∷ 183 ∷ 220 ∷ 1 ∷ 38 ∷ 75 ∷ 112 ∷ 149 ∷ 186 ∷ 223 ∷ 4 ∷ 41 ∷ 78 ∷ 115 ∷ 152 ∷ 189 ∷ 226 ∷ 7 ∷ 44 ∷ 81 ∷ 118 ∷ 155 ∷ 192 ∷ 229 ∷ 10
+          ∷ 47 ∷ 84 ∷ 121 ∷ 158 ∷ 195 ∷ 232 ∷ 13 ∷ 50 ∷ 87 ∷ 124 ∷ 161 ∷ 198 ∷ 235 ∷ 16 ∷ 53 ∷ 90 ∷ 127 ∷ 164 ∷ 201 ∷ 238 ∷ 19 ∷ 56 ∷ 93
+          ∷ 130 ∷ 167 ∷ 204 ∷ 241 ∷ 22 ∷ 59 ∷ 96 ∷ 133 ∷ 170 ∷ 207 ∷ 244 ∷ 25 ∷ 62 ∷ 99 ∷ 136 ∷ 173 ∷ 210 ∷ 247 ∷ 28 ∷ 65 ∷ 102 ∷ 139 ∷ 176
+          ∷ 213 ∷ 250 ∷ 31 ∷ 68 ∷ 105 ∷ 142 ∷ 179 ∷ 216 ∷ 253 ∷ 34 ∷ 71 ∷ 108 ∷ 145 ∷ 182 ∷ 219 ∷ 0 ∷ []);
+      lent = unpackLent (1 ∷ 2 ∷ 0 ∷ 1 ∷ 2 ∷ 0 ∷ 1 ∷ []) (replicate 1025 (place 3 1 2 true));
+      unpacking = unpackTold (refusal 25)
+          (unpackLent (0 ∷ 0 ∷ 0 ∷ 0 ∷ 0 ∷ 0 ∷ 1 ∷ []) (replicate 1024 (place 0 0 0 false) ++ (place 3 1 2 true ∷ [])));
+      measuring = volumeTold (refusal 25) not-given
+          (unpackLent (0 ∷ 0 ∷ 0 ∷ 0 ∷ 0 ∷ 0 ∷ 1 ∷ []) (replicate 1024 (place 0 0 0 false) ++ (place 3 1 2 true ∷ [])));
+      note = [];
+      start = 0;
+    }
+    ∷
+    -- 12: field 04 twice: refusal 12
+    record {
+      bytes = (1 ∷ 0 ∷ 8 ∷ 0 ∷ 3 ∷ 0 ∷ 2 ∷ 0 ∷ 3 ∷ 0 ∷ 1 ∷ 2 ∷ 0 ∷ 1 ∷ 244 ∷ 4 ∷ 0 ∷ 2 ∷ 65 ∷ 66 ∷ 4 ∷ 0 ∷ 2 ∷ 65 ∷ 66 ∷ []);
+      lent = unpackLent (1 ∷ 2 ∷ 0 ∷ 1 ∷ []) (place 3 1 2 true ∷ []);
+      unpacking = unpackTold (refusal 12) (unpackLent (1 ∷ 2 ∷ 0 ∷ 1 ∷ []) (place 3 1 2 true ∷ []));
+      measuring = volumeTold (refusal 12) not-given (unpackLent (1 ∷ 2 ∷ 0 ∷ 1 ∷ []) (place 3 1 2 true ∷ []));
+      note = [];
+      start = 0;
+    }
+    ∷
+    -- 12: field 04 twice after 03: refusal 12
+    record {
+      bytes =
+          (1 ∷ 0 ∷ 8 ∷ 0 ∷ 3 ∷ 0 ∷ 2 ∷ 0 ∷ 3 ∷ 0 ∷ 1 ∷ 2 ∷ 0 ∷ 1 ∷ 244 ∷ 3 ∷ 0 ∷ 18 ∷ 250 ∷ 136 ∷ 253 ∷ 90 ∷ 0 ∷ 118 ∷ 3 ∷ 220 ∷ 7 ∷ 140
+          ∷ 251 ∷ 134 ∷ 255 ∷ 202 ∷ 4 ∷ 88 ∷ 249 ∷ 48 ∷ 4 ∷ 0 ∷ 2 ∷ 65 ∷ 66 ∷ 4 ∷ 0 ∷ 2 ∷ 65 ∷ 66 ∷ []);
+      lent = unpackLent (1 ∷ 2 ∷ 0 ∷ 1 ∷ []) (place 3 1 2 true ∷ []);
+      unpacking = unpackTold (refusal 12) (unpackLent (1 ∷ 2 ∷ 0 ∷ 1 ∷ []) (place 3 1 2 true ∷ []));
+      measuring = volumeTold (refusal 12) not-given (unpackLent (1 ∷ 2 ∷ 0 ∷ 1 ∷ []) (place 3 1 2 true ∷ []));
+      note = [];
+      start = 0;
+    }
+    ∷
+    -- 12: field 04 before 03: refusal 12
+    record {
+      bytes =
+          (1 ∷ 0 ∷ 8 ∷ 0 ∷ 3 ∷ 0 ∷ 2 ∷ 0 ∷ 3 ∷ 0 ∷ 1 ∷ 2 ∷ 0 ∷ 1 ∷ 244 ∷ 4 ∷ 0 ∷ 2 ∷ 65 ∷ 66 ∷ 3 ∷ 0 ∷ 18 ∷ 250 ∷ 136 ∷ 253 ∷ 90 ∷ 0 ∷ 118
+          ∷ 3 ∷ 220 ∷ 7 ∷ 140 ∷ 251 ∷ 134 ∷ 255 ∷ 202 ∷ 4 ∷ 88 ∷ 249 ∷ 48 ∷ []);
+      lent = unpackLent (1 ∷ 2 ∷ 0 ∷ 1 ∷ []) (place 3 1 2 true ∷ []);
+      unpacking = unpackTold (refusal 12) (unpackLent (1 ∷ 2 ∷ 0 ∷ 1 ∷ []) (place 3 1 2 true ∷ []));
+      measuring = volumeTold (refusal 12) not-given (unpackLent (1 ∷ 2 ∷ 0 ∷ 1 ∷ []) (place 3 1 2 true ∷ []));
+      note = [];
+      start = 0;
+    }
+    ∷
+    -- 12: field 03 twice, then 04: refusal 12
+    record {
+      bytes =
+          (1 ∷ 0 ∷ 8 ∷ 0 ∷ 3 ∷ 0 ∷ 2 ∷ 0 ∷ 3 ∷ 0 ∷ 1 ∷ 2 ∷ 0 ∷ 1 ∷ 244 ∷ 3 ∷ 0 ∷ 18 ∷ 250 ∷ 136 ∷ 253 ∷ 90 ∷ 0 ∷ 118 ∷ 3 ∷ 220 ∷ 7 ∷ 140
+          ∷ 251 ∷ 134 ∷ 255 ∷ 202 ∷ 4 ∷ 88 ∷ 249 ∷ 48 ∷ 3 ∷ 0 ∷ 18 ∷ 250 ∷ 136 ∷ 253 ∷ 90 ∷ 0 ∷ 118 ∷ 3 ∷ 220 ∷ 7 ∷ 140 ∷ 251 ∷ 134 ∷ 255
+          ∷ 202 ∷ 4 ∷ 88 ∷ 249 ∷ 48 ∷ 4 ∷ 0 ∷ 2 ∷ 65 ∷ 66 ∷ []);
+      lent = unpackLent (1 ∷ 2 ∷ 0 ∷ 1 ∷ []) (place 3 1 2 true ∷ []);
+      unpacking = unpackTold (refusal 12) (unpackLent (1 ∷ 2 ∷ 0 ∷ 1 ∷ []) (place 3 1 2 true ∷ []));
+      measuring = volumeTold (refusal 12) not-given (unpackLent (1 ∷ 2 ∷ 0 ∷ 1 ∷ []) (place 3 1 2 true ∷ []));
+      note = [];
+      start = 0;
+    }
+    ∷
+    -- 12: field 04 before 02: refusal 12
+    record {
+      bytes = (1 ∷ 0 ∷ 8 ∷ 0 ∷ 3 ∷ 0 ∷ 2 ∷ 0 ∷ 3 ∷ 0 ∷ 1 ∷ 4 ∷ 0 ∷ 2 ∷ 65 ∷ 66 ∷ 2 ∷ 0 ∷ 1 ∷ 244 ∷ []);
+      lent = unpackLent (1 ∷ 2 ∷ 0 ∷ 1 ∷ []) (place 3 1 2 true ∷ []);
+      unpacking = unpackTold (refusal 12) (unpackLent (1 ∷ 2 ∷ 0 ∷ 1 ∷ []) (place 3 1 2 true ∷ []));
+      measuring = volumeTold (refusal 12) not-given (unpackLent (1 ∷ 2 ∷ 0 ∷ 1 ∷ []) (place 3 1 2 true ∷ []));
+      note = [];
+      start = 0;
+    }
+    ∷
+    -- 12: field 04 before 01: refusal 12
+    record {
+      bytes = (4 ∷ 0 ∷ 2 ∷ 65 ∷ 66 ∷ 1 ∷ 0 ∷ 8 ∷ 0 ∷ 3 ∷ 0 ∷ 2 ∷ 0 ∷ 3 ∷ 0 ∷ 1 ∷ 2 ∷ 0 ∷ 1 ∷ 244 ∷ []);
+      lent = unpackLent (1 ∷ 2 ∷ 0 ∷ 1 ∷ []) (place 3 1 2 true ∷ []);
+      unpacking = unpackTold (refusal 12) (unpackLent (1 ∷ 2 ∷ 0 ∷ 1 ∷ []) (place 3 1 2 true ∷ []));
+      measuring = volumeTold (refusal 12) not-given (unpackLent (1 ∷ 2 ∷ 0 ∷ 1 ∷ []) (place 3 1 2 true ∷ []));
+      note = [];
+      start = 0;
+    }
+    ∷
+    -- 12: field 04 and no 02: refusal 12
+    record {
+      bytes = (1 ∷ 0 ∷ 8 ∷ 0 ∷ 3 ∷ 0 ∷ 2 ∷ 0 ∷ 3 ∷ 0 ∷ 1 ∷ 4 ∷ 0 ∷ 2 ∷ 65 ∷ 66 ∷ []);
+      lent = unpackLent (1 ∷ 2 ∷ 0 ∷ 1 ∷ []) (place 3 1 2 true ∷ []);
+      unpacking = unpackTold (refusal 12) (unpackLent (1 ∷ 2 ∷ 0 ∷ 1 ∷ []) (place 3 1 2 true ∷ []));
+      measuring = volumeTold (refusal 12) not-given (unpackLent (1 ∷ 2 ∷ 0 ∷ 1 ∷ []) (place 3 1 2 true ∷ []));
+      note = [];
+      start = 0;
+    }
+    ∷
+    -- 12: fields 03 and 04 and no 02: refusal 12
+    record {
+      bytes =
+          (1 ∷ 0 ∷ 8 ∷ 0 ∷ 3 ∷ 0 ∷ 2 ∷ 0 ∷ 3 ∷ 0 ∷ 1 ∷ 3 ∷ 0 ∷ 18 ∷ 250 ∷ 136 ∷ 253 ∷ 90 ∷ 0 ∷ 118 ∷ 3 ∷ 220 ∷ 7 ∷ 140 ∷ 251 ∷ 134 ∷ 255
+          ∷ 202 ∷ 4 ∷ 88 ∷ 249 ∷ 48 ∷ 4 ∷ 0 ∷ 2 ∷ 65 ∷ 66 ∷ []);
+      lent = unpackLent (1 ∷ 2 ∷ 0 ∷ 1 ∷ []) (place 3 1 2 true ∷ []);
+      unpacking = unpackTold (refusal 12) (unpackLent (1 ∷ 2 ∷ 0 ∷ 1 ∷ []) (place 3 1 2 true ∷ []));
+      measuring = volumeTold (refusal 12) not-given (unpackLent (1 ∷ 2 ∷ 0 ∷ 1 ∷ []) (place 3 1 2 true ∷ []));
+      note = [];
+      start = 0;
+    }
+    ∷
+    -- 12: field 04 and no 01: refusal 12
+    record {
+      bytes = (2 ∷ 0 ∷ 1 ∷ 244 ∷ 4 ∷ 0 ∷ 2 ∷ 65 ∷ 66 ∷ []);
+      lent = unpackLent (1 ∷ 2 ∷ 0 ∷ 1 ∷ []) (place 3 1 2 true ∷ []);
+      unpacking = unpackTold (refusal 12) (unpackLent (1 ∷ 2 ∷ 0 ∷ 1 ∷ []) (place 3 1 2 true ∷ []));
+      measuring = volumeTold (refusal 12) not-given (unpackLent (1 ∷ 2 ∷ 0 ∷ 1 ∷ []) (place 3 1 2 true ∷ []));
+      note = [];
+      start = 0;
+    }
+    ∷
+    -- 12: field 04 alone: refusal 12
+    record {
+      bytes = (4 ∷ 0 ∷ 2 ∷ 65 ∷ 66 ∷ []);
+      lent = unpackLent (1 ∷ 2 ∷ 0 ∷ 1 ∷ []) (place 3 1 2 true ∷ []);
+      unpacking = unpackTold (refusal 12) (unpackLent (1 ∷ 2 ∷ 0 ∷ 1 ∷ []) (place 3 1 2 true ∷ []));
+      measuring = volumeTold (refusal 12) not-given (unpackLent (1 ∷ 2 ∷ 0 ∷ 1 ∷ []) (place 3 1 2 true ∷ []));
+      note = [];
+      start = 0;
+    }
+    ∷
+    -- 12: field 04 cut after its tag: refusal 12
+    record {
+      bytes = (1 ∷ 0 ∷ 8 ∷ 0 ∷ 3 ∷ 0 ∷ 2 ∷ 0 ∷ 3 ∷ 0 ∷ 1 ∷ 2 ∷ 0 ∷ 1 ∷ 244 ∷ 4 ∷ []);
+      lent = unpackLent (1 ∷ 2 ∷ 0 ∷ 1 ∷ []) (place 3 1 2 true ∷ []);
+      unpacking = unpackTold (refusal 12) (unpackLent (1 ∷ 2 ∷ 0 ∷ 1 ∷ []) (place 3 1 2 true ∷ []));
+      measuring = volumeTold (refusal 12) not-given (unpackLent (1 ∷ 2 ∷ 0 ∷ 1 ∷ []) (place 3 1 2 true ∷ []));
+      note = [];
+      start = 0;
+    }
+    ∷
+    -- 12: field 04 cut in its length: refusal 12
+    record {
+      bytes = (1 ∷ 0 ∷ 8 ∷ 0 ∷ 3 ∷ 0 ∷ 2 ∷ 0 ∷ 3 ∷ 0 ∷ 1 ∷ 2 ∷ 0 ∷ 1 ∷ 244 ∷ 4 ∷ 0 ∷ []);
+      lent = unpackLent (1 ∷ 2 ∷ 0 ∷ 1 ∷ []) (place 3 1 2 true ∷ []);
+      unpacking = unpackTold (refusal 12) (unpackLent (1 ∷ 2 ∷ 0 ∷ 1 ∷ []) (place 3 1 2 true ∷ []));
+      measuring = volumeTold (refusal 12) not-given (unpackLent (1 ∷ 2 ∷ 0 ∷ 1 ∷ []) (place 3 1 2 true ∷ []));
+      note = [];
+      start = 0;
+    }
+    ∷
+    -- 12: field 04 cut before its contents: refusal 12
+    record {
+      bytes =
+          (1 ∷ 0 ∷ 8 ∷ 0 ∷ 3 ∷ 0 ∷ 2 ∷ 0 ∷ 3 ∷ 0 ∷ 1 ∷ 2 ∷ 0 ∷ 1 ∷ 244 ∷ 3 ∷ 0 ∷ 18 ∷ 250 ∷ 136 ∷ 253 ∷ 90 ∷ 0 ∷ 118 ∷ 3 ∷ 220 ∷ 7 ∷ 140
+          ∷ 251 ∷ 134 ∷ 255 ∷ 202 ∷ 4 ∷ 88 ∷ 249 ∷ 48 ∷ 4 ∷ 0 ∷ 2 ∷ []);
+      lent = unpackLent (1 ∷ 2 ∷ 0 ∷ 1 ∷ []) (place 3 1 2 true ∷ []);
+      unpacking = unpackTold (refusal 12) (unpackLent (1 ∷ 2 ∷ 0 ∷ 1 ∷ []) (place 3 1 2 true ∷ []));
+      measuring = volumeTold (refusal 12) not-given (unpackLent (1 ∷ 2 ∷ 0 ∷ 1 ∷ []) (place 3 1 2 true ∷ []));
+      note = [];
+      start = 0;
+    }
+    ∷
+    -- 12: field 04 cut in its contents: refusal 12
+    record {
+      bytes =
+          (1 ∷ 0 ∷ 8 ∷ 0 ∷ 3 ∷ 0 ∷ 2 ∷ 0 ∷ 3 ∷ 0 ∷ 1 ∷ 2 ∷ 0 ∷ 1 ∷ 244 ∷ 3 ∷ 0 ∷ 18 ∷ 250 ∷ 136 ∷ 253 ∷ 90 ∷ 0 ∷ 118 ∷ 3 ∷ 220 ∷ 7 ∷ 140
+          ∷ 251 ∷ 134 ∷ 255 ∷ 202 ∷ 4 ∷ 88 ∷ 249 ∷ 48 ∷ 4 ∷ 0 ∷ 2 ∷ 65 ∷ []);
+      lent = unpackLent (1 ∷ 2 ∷ 0 ∷ 1 ∷ []) (place 3 1 2 true ∷ []);
+      unpacking = unpackTold (refusal 12) (unpackLent (1 ∷ 2 ∷ 0 ∷ 1 ∷ []) (place 3 1 2 true ∷ []));
+      measuring = volumeTold (refusal 12) not-given (unpackLent (1 ∷ 2 ∷ 0 ∷ 1 ∷ []) (place 3 1 2 true ∷ []));
+      note = [];
+      start = 0;
+    }
+    ∷
+    -- 12: a byte after field 04: refusal 12
+    record {
+      bytes = (1 ∷ 0 ∷ 8 ∷ 0 ∷ 3 ∷ 0 ∷ 2 ∷ 0 ∷ 3 ∷ 0 ∷ 1 ∷ 2 ∷ 0 ∷ 1 ∷ 244 ∷ 4 ∷ 0 ∷ 2 ∷ 65 ∷ 66 ∷ 0 ∷ []);
+      lent = unpackLent (1 ∷ 2 ∷ 0 ∷ 1 ∷ []) (place 3 1 2 true ∷ []);
+      unpacking = unpackTold (refusal 12) (unpackLent (1 ∷ 2 ∷ 0 ∷ 1 ∷ []) (place 3 1 2 true ∷ []));
+      measuring = volumeTold (refusal 12) not-given (unpackLent (1 ∷ 2 ∷ 0 ∷ 1 ∷ []) (place 3 1 2 true ∷ []));
+      note = [];
+      start = 0;
+    }
+    ∷
+    -- 12: a byte after fields 03 and 04: refusal 12
+    record {
+      bytes =
+          (1 ∷ 0 ∷ 8 ∷ 0 ∷ 3 ∷ 0 ∷ 2 ∷ 0 ∷ 3 ∷ 0 ∷ 1 ∷ 2 ∷ 0 ∷ 1 ∷ 244 ∷ 3 ∷ 0 ∷ 18 ∷ 250 ∷ 136 ∷ 253 ∷ 90 ∷ 0 ∷ 118 ∷ 3 ∷ 220 ∷ 7 ∷ 140
+          ∷ 251 ∷ 134 ∷ 255 ∷ 202 ∷ 4 ∷ 88 ∷ 249 ∷ 48 ∷ 4 ∷ 0 ∷ 2 ∷ 65 ∷ 66 ∷ 0 ∷ []);
+      lent = unpackLent (1 ∷ 2 ∷ 0 ∷ 1 ∷ []) (place 3 1 2 true ∷ []);
+      unpacking = unpackTold (refusal 12) (unpackLent (1 ∷ 2 ∷ 0 ∷ 1 ∷ []) (place 3 1 2 true ∷ []));
+      measuring = volumeTold (refusal 12) not-given (unpackLent (1 ∷ 2 ∷ 0 ∷ 1 ∷ []) (place 3 1 2 true ∷ []));
+      note = [];
+      start = 0;
+    }
+    ∷
+    -- 12: a byte after field 04 of 0 bytes: refusal 12
+    record {
+      bytes = (1 ∷ 0 ∷ 8 ∷ 0 ∷ 3 ∷ 0 ∷ 2 ∷ 0 ∷ 3 ∷ 0 ∷ 1 ∷ 2 ∷ 0 ∷ 1 ∷ 244 ∷ 4 ∷ 0 ∷ 0 ∷ 0 ∷ []);
+      lent = unpackLent (1 ∷ 2 ∷ 0 ∷ 1 ∷ []) (place 3 1 2 true ∷ []);
+      unpacking = unpackTold (refusal 12) (unpackLent (1 ∷ 2 ∷ 0 ∷ 1 ∷ []) (place 3 1 2 true ∷ []));
+      measuring = volumeTold (refusal 12) not-given (unpackLent (1 ∷ 2 ∷ 0 ∷ 1 ∷ []) (place 3 1 2 true ∷ []));
+      note = [];
+      start = 0;
+    }
+    ∷
+    -- 12: tag 05 after field 04: refusal 12
+    record {
+      bytes = (1 ∷ 0 ∷ 8 ∷ 0 ∷ 3 ∷ 0 ∷ 2 ∷ 0 ∷ 3 ∷ 0 ∷ 1 ∷ 2 ∷ 0 ∷ 1 ∷ 244 ∷ 4 ∷ 0 ∷ 2 ∷ 65 ∷ 66 ∷ 5 ∷ 0 ∷ 0 ∷ []);
+      lent = unpackLent (1 ∷ 2 ∷ 0 ∷ 1 ∷ []) (place 3 1 2 true ∷ []);
+      unpacking = unpackTold (refusal 12) (unpackLent (1 ∷ 2 ∷ 0 ∷ 1 ∷ []) (place 3 1 2 true ∷ []));
+      measuring = volumeTold (refusal 12) not-given (unpackLent (1 ∷ 2 ∷ 0 ∷ 1 ∷ []) (place 3 1 2 true ∷ []));
+      note = [];
+      start = 0;
+    }
+    ∷
+    -- 12: tag 05 for 04: refusal 12
+    record {
+      bytes =
+          (1 ∷ 0 ∷ 8 ∷ 0 ∷ 3 ∷ 0 ∷ 2 ∷ 0 ∷ 3 ∷ 0 ∷ 1 ∷ 2 ∷ 0 ∷ 1 ∷ 244 ∷ 3 ∷ 0 ∷ 18 ∷ 250 ∷ 136 ∷ 253 ∷ 90 ∷ 0 ∷ 118 ∷ 3 ∷ 220 ∷ 7 ∷ 140
+          ∷ 251 ∷ 134 ∷ 255 ∷ 202 ∷ 4 ∷ 88 ∷ 249 ∷ 48 ∷ 5 ∷ 0 ∷ 2 ∷ 65 ∷ 66 ∷ []);
+      lent = unpackLent (1 ∷ 2 ∷ 0 ∷ 1 ∷ []) (place 3 1 2 true ∷ []);
+      unpacking = unpackTold (refusal 12) (unpackLent (1 ∷ 2 ∷ 0 ∷ 1 ∷ []) (place 3 1 2 true ∷ []));
+      measuring = volumeTold (refusal 12) not-given (unpackLent (1 ∷ 2 ∷ 0 ∷ 1 ∷ []) (place 3 1 2 true ∷ []));
+      note = [];
+      start = 0;
+    }
+    ∷
+    -- 12: 02 again after field 04: refusal 12
+    record {
+      bytes = (1 ∷ 0 ∷ 8 ∷ 0 ∷ 3 ∷ 0 ∷ 2 ∷ 0 ∷ 3 ∷ 0 ∷ 1 ∷ 2 ∷ 0 ∷ 1 ∷ 244 ∷ 4 ∷ 0 ∷ 2 ∷ 65 ∷ 66 ∷ 2 ∷ 0 ∷ 1 ∷ 244 ∷ []);
+      lent = unpackLent (1 ∷ 2 ∷ 0 ∷ 1 ∷ []) (place 3 1 2 true ∷ []);
+      unpacking = unpackTold (refusal 12) (unpackLent (1 ∷ 2 ∷ 0 ∷ 1 ∷ []) (place 3 1 2 true ∷ []));
+      measuring = volumeTold (refusal 12) not-given (unpackLent (1 ∷ 2 ∷ 0 ∷ 1 ∷ []) (place 3 1 2 true ∷ []));
+      note = [];
+      start = 0;
+    }
+    ∷
+    -- 12: 01 has a length of 7, and field 04: refusal 12
+    record {
+      bytes = (1 ∷ 0 ∷ 7 ∷ 0 ∷ 3 ∷ 0 ∷ 2 ∷ 0 ∷ 3 ∷ 0 ∷ 2 ∷ 0 ∷ 1 ∷ 244 ∷ 4 ∷ 0 ∷ 2 ∷ 65 ∷ 66 ∷ []);
+      lent = unpackLent (1 ∷ 2 ∷ 0 ∷ 1 ∷ []) (place 3 1 2 true ∷ []);
+      unpacking = unpackTold (refusal 12) (unpackLent (1 ∷ 2 ∷ 0 ∷ 1 ∷ []) (place 3 1 2 true ∷ []));
+      measuring = volumeTold (refusal 12) not-given (unpackLent (1 ∷ 2 ∷ 0 ∷ 1 ∷ []) (place 3 1 2 true ∷ []));
+      note = [];
+      start = 0;
+    }
+    ∷
+    -- 12 before 13: field 04 twice: refusal 12
+    record {
+      bytes = (1 ∷ 0 ∷ 8 ∷ 0 ∷ 2 ∷ 0 ∷ 2 ∷ 0 ∷ 3 ∷ 0 ∷ 1 ∷ 2 ∷ 0 ∷ 1 ∷ 244 ∷ 4 ∷ 0 ∷ 2 ∷ 65 ∷ 66 ∷ 4 ∷ 0 ∷ 2 ∷ 65 ∷ 66 ∷ []);
+      lent = unpackLent (1 ∷ 2 ∷ 0 ∷ 1 ∷ []) (place 3 1 2 true ∷ []);
+      unpacking = unpackTold (refusal 12) (unpackLent (1 ∷ 2 ∷ 0 ∷ 1 ∷ []) (place 3 1 2 true ∷ []));
+      measuring = volumeTold (refusal 12) not-given (unpackLent (1 ∷ 2 ∷ 0 ∷ 1 ∷ []) (place 3 1 2 true ∷ []));
+      note = [];
+      start = 0;
+    }
+    ∷
+    -- 13 before 25: refusal 13
+    record {
+      bytes = (1 ∷ 0 ∷ 8 ∷ 0 ∷ 2 ∷ 0 ∷ 2 ∷ 0 ∷ 3 ∷ 0 ∷ 1 ∷ 2 ∷ 0 ∷ 1 ∷ 244 ∷ 4 ∷ 0 ∷ 0 ∷ []);
+      lent = unpackLent (1 ∷ 2 ∷ 0 ∷ 1 ∷ 2 ∷ 0 ∷ []) (place 3 1 2 true ∷ []);
+      unpacking = unpackTold (refusal 13) (unpackLent (1 ∷ 2 ∷ 0 ∷ 1 ∷ 2 ∷ 0 ∷ []) (place 3 1 2 true ∷ []));
+      measuring = volumeTold (refusal 13) not-given (unpackLent (1 ∷ 2 ∷ 0 ∷ 1 ∷ 2 ∷ 0 ∷ []) (place 3 1 2 true ∷ []));
+      note = [];
+      start = 0;
+    }
+    ∷
+    -- 14 before 25: triangles: refusal 14
+    record {
+      bytes = (1 ∷ 0 ∷ 8 ∷ 0 ∷ 3 ∷ 0 ∷ 2 ∷ 0 ∷ 3 ∷ 0 ∷ 1 ∷ 2 ∷ 0 ∷ 1 ∷ 244 ∷ 4 ∷ 0 ∷ 0 ∷ []);
+      lent = unpackLent (1 ∷ 2 ∷ 0 ∷ 1 ∷ 2 ∷ []) (replicate 1024 (place 3 1 2 true));
+      unpacking = unpackTold (refusal 14) (unpackLent (1 ∷ 2 ∷ 0 ∷ 1 ∷ 2 ∷ []) (replicate 1024 (place 3 1 2 true)));
+      measuring = volumeTold (refusal 14) not-given (unpackLent (1 ∷ 2 ∷ 0 ∷ 1 ∷ 2 ∷ []) (replicate 1024 (place 3 1 2 true)));
+      note = [];
+      start = 0;
+    }
+    ∷
+    -- 14 before 25: places: refusal 14
+    record {
+      bytes = (1 ∷ 0 ∷ 8 ∷ 0 ∷ 3 ∷ 0 ∷ 2 ∷ 0 ∷ 3 ∷ 0 ∷ 1 ∷ 2 ∷ 0 ∷ 1 ∷ 244 ∷ 4 ∷ 0 ∷ 0 ∷ []);
+      lent = unpackLent (1 ∷ 2 ∷ 0 ∷ 1 ∷ 2 ∷ 0 ∷ []) (replicate 1023 (place 3 1 2 true));
+      unpacking = unpackTold (refusal 14) (unpackLent (1 ∷ 2 ∷ 0 ∷ 1 ∷ 2 ∷ 0 ∷ []) (replicate 1023 (place 3 1 2 true)));
+      measuring = volumeTold (refusal 14) not-given (unpackLent (1 ∷ 2 ∷ 0 ∷ 1 ∷ 2 ∷ 0 ∷ []) (replicate 1023 (place 3 1 2 true)));
+      note = [];
+      start = 0;
+    }
+    ∷
+    -- 15 before 25: refusal 15
+    record {
+      bytes = (1 ∷ 0 ∷ 8 ∷ 0 ∷ 3 ∷ 0 ∷ 1 ∷ 0 ∷ 3 ∷ 0 ∷ 1 ∷ 2 ∷ 0 ∷ 0 ∷ 4 ∷ 0 ∷ 0 ∷ []);
+      lent = unpackLent (1 ∷ 2 ∷ 0 ∷ 1 ∷ []) (replicate 1024 (place 3 1 2 true));
+      unpacking = unpackTold (refusal 15) (unpackLent (0 ∷ 0 ∷ 0 ∷ 1 ∷ []) (replicate 1024 (place 0 0 0 false)));
+      measuring = volumeTold (refusal 15) not-given (unpackLent (0 ∷ 0 ∷ 0 ∷ 1 ∷ []) (replicate 1024 (place 0 0 0 false)));
+      note = [];
+      start = 0;
+    }
+    ∷
+    -- 18 before 25: refusal 18
+    record {
+      bytes = (1 ∷ 0 ∷ 8 ∷ 0 ∷ 5 ∷ 0 ∷ 4 ∷ 0 ∷ 6 ∷ 0 ∷ 2 ∷ 2 ∷ 0 ∷ 3 ∷ 224 ∷ 64 ∷ 8 ∷ 4 ∷ 0 ∷ 0 ∷ []);
+      lent = unpackLent (1 ∷ 2 ∷ 0 ∷ 1 ∷ 2 ∷ 0 ∷ 1 ∷ 2 ∷ 0 ∷ 1 ∷ 2 ∷ 0 ∷ []) (replicate 1024 (place 3 1 2 true));
+      unpacking = unpackTold (refusal 18) (unpackLent (replicate 12 0) (replicate 1024 (place 0 0 0 false)));
+      measuring = volumeTold (refusal 18) not-given (unpackLent (replicate 12 0) (replicate 1024 (place 0 0 0 false)));
+      note = [];
+      start = 0;
+    }
+    ∷
+    -- 19 before 25: refusal 19
+    record {
+      bytes = (1 ∷ 0 ∷ 8 ∷ 0 ∷ 4 ∷ 0 ∷ 1 ∷ 0 ∷ 3 ∷ 0 ∷ 1 ∷ 2 ∷ 0 ∷ 2 ∷ 237 ∷ 176 ∷ 4 ∷ 0 ∷ 0 ∷ []);
+      lent = unpackLent (1 ∷ 2 ∷ 0 ∷ 1 ∷ []) (replicate 1024 (place 3 1 2 true));
+      unpacking = unpackTold (refusal 19) (unpackLent (0 ∷ 0 ∷ 0 ∷ 1 ∷ []) (replicate 1024 (place 0 0 0 false)));
+      measuring = volumeTold (refusal 19) not-given (unpackLent (0 ∷ 0 ∷ 0 ∷ 1 ∷ []) (replicate 1024 (place 0 0 0 false)));
+      note = [];
+      start = 0;
+    }
+    ∷
+    -- 20 before 25: refusal 20
+    record {
+      bytes = (1 ∷ 0 ∷ 8 ∷ 0 ∷ 5 ∷ 0 ∷ 4 ∷ 0 ∷ 5 ∷ 0 ∷ 2 ∷ 2 ∷ 0 ∷ 5 ∷ 225 ∷ 134 ∷ 224 ∷ 4 ∷ 219 ∷ 4 ∷ 0 ∷ 0 ∷ []);
+      lent = unpackLent (1 ∷ 2 ∷ 0 ∷ 1 ∷ 2 ∷ 0 ∷ 1 ∷ 2 ∷ 0 ∷ 1 ∷ 2 ∷ 0 ∷ []) (replicate 1024 (place 3 1 2 true));
+      unpacking = unpackTold (refusal 20) (unpackLent (replicate 12 0) (replicate 1024 (place 0 0 0 false)));
+      measuring = volumeTold (refusal 20) not-given (unpackLent (replicate 12 0) (replicate 1024 (place 0 0 0 false)));
+      note = [];
+      start = 0;
+    }
+    ∷
+    -- 23 before 25: no position: refusal 23
+    record {
+      bytes = (1 ∷ 0 ∷ 8 ∷ 0 ∷ 3 ∷ 0 ∷ 2 ∷ 0 ∷ 3 ∷ 0 ∷ 1 ∷ 2 ∷ 0 ∷ 1 ∷ 244 ∷ 3 ∷ 0 ∷ 0 ∷ 4 ∷ 0 ∷ 0 ∷ []);
+      lent = unpackLent (1 ∷ 2 ∷ 0 ∷ 1 ∷ 2 ∷ 0 ∷ 1 ∷ []) (replicate 1025 (place 3 1 2 true));
+      unpacking = unpackTold (refusal 23)
+          (unpackLent (0 ∷ 0 ∷ 0 ∷ 0 ∷ 0 ∷ 0 ∷ 1 ∷ []) (replicate 1024 (place 0 0 0 false) ++ (place 3 1 2 true ∷ [])));
+      measuring = volumeTold (refusal 23) not-given
+          (unpackLent (0 ∷ 0 ∷ 0 ∷ 0 ∷ 0 ∷ 0 ∷ 1 ∷ []) (replicate 1024 (place 0 0 0 false) ++ (place 3 1 2 true ∷ [])));
+      note = [];
+      start = 0;
+    }
+    ∷
+    -- 23 before 25: a position: refusal 23
+    record {
+      bytes =
+          (1 ∷ 0 ∷ 8 ∷ 0 ∷ 3 ∷ 0 ∷ 2 ∷ 0 ∷ 3 ∷ 0 ∷ 1 ∷ 2 ∷ 0 ∷ 1 ∷ 244 ∷ 3 ∷ 0 ∷ 18 ∷ 250 ∷ 136 ∷ 253 ∷ 90 ∷ 0 ∷ 118 ∷ 3 ∷ 220 ∷ 7 ∷ 140
+          ∷ 251 ∷ 134 ∷ 255 ∷ 202 ∷ 4 ∷ 88 ∷ 8 ∷ 0 ∷ 4 ∷ 0 ∷ 0 ∷ []);
+      lent = unpackLent (1 ∷ 2 ∷ 0 ∷ 1 ∷ 2 ∷ 0 ∷ 1 ∷ []) (replicate 1025 (place 3 1 2 true));
+      unpacking = unpackTold (refusal 23)
+          (unpackLent (0 ∷ 0 ∷ 0 ∷ 0 ∷ 0 ∷ 0 ∷ 1 ∷ []) (replicate 1024 (place 0 0 0 false) ++ (place 3 1 2 true ∷ [])));
+      measuring = volumeTold (refusal 23) not-given
+          (unpackLent (0 ∷ 0 ∷ 0 ∷ 0 ∷ 0 ∷ 0 ∷ 1 ∷ []) (replicate 1024 (place 0 0 0 false) ++ (place 3 1 2 true ∷ [])));
+      note = [];
+      start = 0;
+    }
+    ∷
+    -- 23: field 04 of one byte: refusal 23
+    record {
+      bytes = (1 ∷ 0 ∷ 8 ∷ 0 ∷ 3 ∷ 0 ∷ 2 ∷ 0 ∷ 3 ∷ 0 ∷ 1 ∷ 2 ∷ 0 ∷ 1 ∷ 244 ∷ 3 ∷ 0 ∷ 0 ∷ 4 ∷ 0 ∷ 1 ∷ 65 ∷ []);
+      lent = unpackLent (1 ∷ 2 ∷ 0 ∷ 1 ∷ 2 ∷ 0 ∷ 1 ∷ []) (replicate 1025 (place 3 1 2 true));
+      unpacking = unpackTold (refusal 23)
+          (unpackLent (0 ∷ 0 ∷ 0 ∷ 0 ∷ 0 ∷ 0 ∷ 1 ∷ []) (replicate 1024 (place 0 0 0 false) ++ (place 3 1 2 true ∷ [])));
+      measuring = volumeTold (refusal 23) not-given
+          (unpackLent (0 ∷ 0 ∷ 0 ∷ 0 ∷ 0 ∷ 0 ∷ 1 ∷ []) (replicate 1024 (place 0 0 0 false) ++ (place 3 1 2 true ∷ [])));
+      note = [];
+      start = 0;
+    }
+    ∷
+    -- 25 before 24: a rim: refusal 25
+    record {
+      bytes =
+          (1 ∷ 0 ∷ 8 ∷ 0 ∷ 3 ∷ 0 ∷ 1 ∷ 0 ∷ 3 ∷ 0 ∷ 1 ∷ 2 ∷ 0 ∷ 2 ∷ 237 ∷ 176 ∷ 3 ∷ 0 ∷ 18 ∷ 250 ∷ 136 ∷ 253 ∷ 90 ∷ 0 ∷ 118 ∷ 3 ∷ 220 ∷ 7
+          ∷ 140 ∷ 251 ∷ 134 ∷ 255 ∷ 202 ∷ 4 ∷ 88 ∷ 249 ∷ 48 ∷ 4 ∷ 0 ∷ 0 ∷ []);
+      lent = unpackLent (1 ∷ 2 ∷ 0 ∷ 1 ∷ []) (replicate 1024 (place 3 1 2 true));
+      unpacking = unpackTold (refusal 25) (unpackLent (0 ∷ 0 ∷ 0 ∷ 1 ∷ []) (replicate 1024 (place 0 0 0 false)));
+      measuring = volumeTold (refusal 25) not-given (unpackLent (0 ∷ 0 ∷ 0 ∷ 1 ∷ []) (replicate 1024 (place 0 0 0 false)));
+      note = [];
+      start = 0;
     }
     ∷
     []
@@ -4161,9 +5163,9 @@ unfolding equal equalPlaces equalAnswers packRight unpackRight wholePackRight wh
     oneRun oneFanEach inTriangle across allBelow allDistinct noneTwice allUsed passes checkTriangles check allOpen vertexAt lastOpen
     lastVertex front onward reached places loopAt without allowed inOrder atEdge atRest effect placesAt ringsAfter cleared test done
     beginning finishing answers afterAll logAll bits valueOf bitsOfBytes bytesWithin readNumber allZero operationBits operationsBits kindIn
-    readOperation packBytes takeField fieldsOf allInGrid signedOf positionBytes positionsFrom laterPart partsOf determinant sixVolumes has
-    dropTriangle turnIn turnOut edgeIn spotOf choosePlace limited taking chooseAt chooseIn orderBy chooseAll indexOf newNumbers packChosen
-    packChecked runAll numbersOf unpackRun unpackFields positionsOf wholeChosen wholeChecked thenTested unpackParts measured follow followed
-    nodes placesOf openAmong loopsOf placeNodes placeRings trianglesBuilt view sizesOf apart placesFit loopsFit linksFit soundElse sound
-    packRows unpackRows callRows fieldsRows lookRows wholePackRows wholeRows
+    readOperation packBytes takeField fieldsOf allInGrid signedOf positionBytes positionsFrom laterPart partsOf takeNote determinant
+    sixVolumes has dropTriangle turnIn turnOut edgeIn spotOf choosePlace limited taking chooseAt chooseIn orderBy chooseAll indexOf
+    newNumbers packChosen packChecked runAll numbersOf unpackRun unpackFields positionsOf wholeChosen wholeChecked thenTested unpackParts
+    measured follow followed nodes placesOf openAmong loopsOf placeNodes placeRings trianglesBuilt view sizesOf apart placesFit loopsFit
+    linksFit soundElse sound packRows unpackRows callRows fieldsRows lookRows wholePackRows wholeRows
 table = tt

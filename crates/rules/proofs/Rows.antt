@@ -25,8 +25,8 @@ use Rattle.rules.specs.Across.{across}
 use Rattle.rules.specs.Fields.{Fields, no-pack, fields, packBytes, fieldsOf}
 use Rattle.rules.specs.Unpack.{UnpackResult, numbersOf, unpack}
 use Rattle.rules.specs.Later.{Given, not-given, given}
-use Rattle.rules.specs.PackWhole.{packWholeWithin}
-use Rattle.rules.specs.UnpackWhole.{VolumeResult, unpackWhole, volume}
+use Rattle.rules.specs.PackWhole.{extras, packWholeWithin}
+use Rattle.rules.specs.Reading.{unpackNoted, VolumeResult, volume, BenchResult, bench}
 
 unfoldable pub equal : List ℕ → List ℕ → Bool
 equal [] [] = true
@@ -105,26 +105,29 @@ sameUnpacking r a b =
 unfoldable pub unpackRight : UnpackRow → Bool
 unpackRight x = sameUnpacking (unpack (x .bytes) (x .lent)) (x .answer) (x .left)
 
--- a packing with positions, if they are given
+-- a packing with positions and a note, if they are given
 pub record WholePackRow : Type 0 where
   pub limits : Most
   pub vertices : ℕ
   pub list : List ℕ
   pub positions : Given (List ℤ)
+  pub note : Given (List ℕ)
   pub lent : PackBuffers
   pub answer : Answer
   pub left : PackBuffers
 
 unfoldable pub wholePackRight : WholePackRow → Bool
 wholePackRight x =
-    samePacking (packWholeWithin (x .limits) (x .vertices) (x .list) (x .positions) (x .lent)) (x .answer) (x .left)
+    samePacking (packWholeWithin (x .limits) (x .vertices) (x .list) (extras (x .positions) (x .note)) (x .lent)) (x .answer) (x .left)
 
--- a pack that may have positions: what unpacking it tells and leaves, and the volume call
+-- a pack that may have positions and a note: what unpacking it tells and leaves, the volume call, and the note handed back
 pub record WholeRow : Type 0 where
   pub bytes : List ℕ
   pub lent : Buffers
   pub unpacking : UnpackResult
   pub measuring : VolumeResult
+  pub note : List ℕ
+  pub start : ℕ
 
 abbrev pub writtenSix : Given ℤ → List ℕ
 writtenSix not-given = []
@@ -135,10 +138,16 @@ sameVolume r s =
     sameAnswer (r .answer) (s .answer) && equal (writtenSix (r .six)) (writtenSix (s .six))
     && equal (r .buffers .triangles) (s .buffers .triangles) && equalPlaces (r .buffers .places) (s .buffers .places)
 
+-- the bench reader answers and writes as unpacking
+abbrev pub sameBench : BenchResult → WholeRow → Bool
+sameBench b x =
+    sameUnpacking (record { answer = b .answer; buffers = b .buffers }) (x .unpacking .answer) (x .unpacking .buffers)
+    && equal (b .note) (x .note) && eqb (b .start) (x .start)
+
 unfoldable pub wholeRight : WholeRow → Bool
 wholeRight x =
-    sameUnpacking (unpackWhole (x .bytes) (x .lent)) (x .unpacking .answer) (x .unpacking .buffers)
-    && sameVolume (volume (x .bytes) (x .lent)) (x .measuring)
+    sameUnpacking (unpackNoted (x .bytes) (x .lent)) (x .unpacking .answer) (x .unpacking .buffers)
+    && sameVolume (volume (x .bytes) (x .lent)) (x .measuring) && sameBench (bench (x .bytes) (x .lent)) x
 
 -- a book as numbers
 unfoldable pub writtenRing : Ring → List ℕ

@@ -77,8 +77,12 @@
 --   C-13: "for every new vertex number three signed 16-bit .." | Grid: positionBytes, positionsFrom | "positions: M1", signed-ends
 --   C-13: ".. grid positions, each from −2,048 to 2,047" | Grid: inGrid, allInGrid | "positions: the smallest and the largest"
 --   C-13: "It is optional"; "Packs without the field read as before" | Later: laterPart; UnpackWhole: fieldFits | "no field 03, a rim"
---   C-13: "the old pack followed by the positions, lent by old vertex, .." | PackWhole: wholePackOf | "positions: M2"
+--   C-13: "the old pack followed by the positions, lent by old vertex, .." | PackWhole: wholePackOf, withPositions | "positions: M2"
 --   C-13: ".. in new numbering" | PackWhole: positionsOf | "positions: two pieces, vertices in the order 3 5 4 2 0 1"
+--   C-15: "A field tag 04, .., may follow the others" | Note: noteTag, takeNote, pastOthers | "field 04 after 02", "field 04 after 03"
+--   C-15: ".. 1 to 64 bytes" | Limits: maxNote; Note: noteFits | "note: one byte, no positions", "note: 64 bytes", "field 04 of 64 bytes"
+--   C-15: ".. if packing is given a note" | PackWhole: Extras, wholePackOf; Note: withNote | "note: positions and a note, .."
+--   C-15: "A pack is then unique for .. its note" | NoTwoPacksOfTheThree in crates/notes_theory/specs/Claims | "note: 64 bytes"
 --   "A code has three bits, i and j ten, p seven" | Code: code, operationBits | "M1", "union 2 of two waiting loops; .."
 --   "high bit first", "the last byte is filled with zero .." | Bits: bits, bytesOf | "M1"
 --   the same, read | Code: readOperation; Bits: readNumber | "M1 to M5"
@@ -99,10 +103,13 @@
 --   11, "The pack room is shorter than the pack" | Pack: packStored | "11"
 --   C-11: 22, "that room has fewer than T entries, straight after 8" | Pack: orderLongEnough, packChecked | "22: no order entry"
 --   1 to 8, 22, 9 to 11 | Pack: pack, packWithin | "7 before 8", "8 before 22: numbering", "22 before 9" to "10 before 11"
---   C-13: 23 in packing, "after 22" | PackWhole: positionsFit | "positions: 23: none" to "positions: 23: 2048 at z of vertex 2"
+--   C-13: 23 in packing, "after 22" | PackWhole: positionsFit, givenFit | "positions: 23: none" to "positions: 23: 2048 at z of vertex 2"
 --   C-13: 1 to 8, 22, 23, 9 to 11 | PackWhole: packWholeWithin, wholeChecked | "positions: 5 before 23" to "positions: 11: .."
+--   C-15: 25 in packing, "the note's length is 0 or over 64" | Note: noteFits | "note: 25: 0 bytes" to "note: 25: 257 bytes"
+--   C-15: 1 to 8, 22, 23, 25 ("after 23"), 9 to 11 | PackWhole: wholeChecked | "note: 5 before 25" to "note: 25 before 11"
 --   12, "not the two fields above, whole and in order" | Fields: fieldsOf, firstField | "12: nothing, wrong tag, .."
 --   C-13: "12 counts it .. in its place, whole, at most once" | Later: partsOf, lastPart | "12: field 03 twice" to "12: 02 again after .."
+--   C-15: 12 of every other arrangement of its field | Note: lastNote, past | "12: field 04 twice" to "12 before 13: field 04 twice"
 --   13, "V is not 3 to 4,096, T not 1 to 8,192, .." | Limits: inRange | "13: V 2, V 4097, .."
 --   14, "fewer than 3T entries or .. 1,024 records" | Machine: longEnough | "14: triangles", "14: places"
 --   15, "end before the model is complete, or break off" | Unpack: runAll; Machine: complete | "15: no operations; .."
@@ -113,8 +120,10 @@
 --   20, "A vertex has more than one fan" | Fan: oneFanEach; Unpack: unpackEnded | "20: the shortest"
 --   12 to 20 | Unpack: unpack, unpackFields, unpackRun | "12 before 13" to "19 before 20: a vertex too many"
 --   C-13: 23, "the field's length is not 6V or a position is .." | UnpackWhole: fieldFits | "23: 0 bytes" to "23: position 8 is -32768"
---   C-13: 24, "the volume call meets no positions or .. a rim" | UnpackWhole: measured | "24: a rim", "no field 03, no rim"
---   C-13: 12 to 20, 23 ("after 20"), 24 ("last") | UnpackWhole: unpackWhole, volume | "13 before 23" to "23 before 24: a rim"
+--   C-13: 24, "the volume call meets no positions or .. a rim" | Reading: measured | "24: a rim", "no field 03, no rim"
+--   C-13: 12 to 20, 23 ("after 20"), 24 ("last") | UnpackWhole: unpackWhole; Reading: volume | "13 before 23" to "23 before 24: a rim"
+--   C-15: 25, "the note's length is 0 or over 64" | Note: noteFits | "25: field 04 of 0 bytes after 03" to "25: field 04 of 257 bytes"
+--   C-15: 12 to 20, 23, 25 ("after 23"), 24 | Reading: unpackNoted, volume | "13 before 25" to "25 before 24: a rim"
 --   21, "lent rooms shorter than 14 asks, or a state whose .." | Sound: sound, countsFit, sumsFit, linksFit, trianglesFit | states
 --   "The first operation at fault decides between 9 and 10" | Pack: chooseAll | "10 at an operation before that of 9"
 --   ".. and among 15 to 18; .. the lower number" | Unpack: runAll; Machine: done | "16 before 17: forward in a loop of three"
@@ -126,9 +135,11 @@
 --   C-11: after 22 "no room has changed" | Pack: turnedDown | "22: an order entry for each triangle but one"
 --   C-11: "past 8" means past every check before 9 | Pack: turnedDown, packRefused, packDone | "22: no order entry", "9"
 --   C-13: 23 in packing, "and no room has changed" | PackWhole: wholeChecked | "positions: 23: none" to "positions: 23 before 11"
+--   C-15: 25, "with what 23 leaves", in packing | PackWhole: wholeChecked | "note: 25: 0 bytes" to "note: 25 before 11"
 --   "After 9 to 11 .. zero"; C-11: the order's first T entries | Pack: packRefused; Buffer: zeroed | "9", "11"
 --   "after 15 to 20 .., the first 3T triangle entries" | Unpack: unpackRefused | "18: M10"
 --   C-13: "Both leave in unpacking what 20 leaves" | UnpackWhole: leftBy20 | "23: position 0 is -2049", "24: a rim"
+--   C-15: 25, "with what 23 leaves", in unpacking | UnpackWhole: thenTested, leftBy20 | "25: field 04 of 65 bytes", "25 before 24: a rim"
 --   "leaves the first 1,024 place records zero, .." | Buffer: cleared, freePlace | all rows of packing and unpacking
 --   "A refused building call changes nothing" | Build: BegunBy, OperatedBy | (the contracts of crates/service)
 --   "An accepted beginning leaves .." | Build: begunBuffers, begunBuilder | calls
@@ -138,10 +149,14 @@
 --   C-11: "for each built triangle, in building order, its input number" | Order: nextNumber, orderBy | "two pieces listed in turn: .."
 --   C-11: "each is there once" | EachOnce in crates/roundtrip/specs/Claims | (`each-triangle-once`)
 --   "packing answers the pack's length, unpacking V, T .." | Answer: packedAnswer, unpackedAnswer | "M1" to "M5"
---   C-13: "The volume call unpacks and gives besides six times .." | UnpackWhole: VolumeResult, sixOf | "volume of a torus"
+--   C-13: "The volume call unpacks and gives besides six times .." | Reading: VolumeResult, sixOf | "volume of a torus"
 --   C-13: "the exact whole-number sum over .. of the determinant .." | Volume: determinant, sixVolumes | "volume of M2, different numbers"
 --   C-13: "A model turned inside out .." | InsideOutOtherSign in crates/volume_theory/specs/Claims | "volume of M2, the same .."
 --   C-13: "Moving one of a vertex's three positions .." | MovedByAtMost in crates/volume_theory/specs/Claims | (`moved-by-at-most`)
+--   C-15: "The bench reader hands back the note as the very bytes in the pack" | Reading: bench, handedFrom | "field 04 that has fields .."
+--   C-15: ".. an empty part if there is none or unpacking refuses .." | Reading: handedBack | "no field 03, a rim", "25: field 04 of .."
+--   C-15: "Besides, it answers and writes as unpacking, refusals too" | Reading: bench | "field 04 after 02" to "25 before 24: a rim"
+--   C-15: "must take no notice", "Every other call .." | NotesMakeNoDifference in crates/notes_theory/specs/Claims | "field 04, .."
 --   "a building operation the triangle .. also written .." | Build: withTriangle, Leaves | calls
 --   "It changes nothing; a complete model holds no place" | Machine: complete; Finishing in crates/promises/specs/Promises | "M1" to "M5"
 --   "The finish gives edges, rims, unions and the Euler .." | Machine: totals | "M1" to "M5", "torus of seven vertices"
@@ -187,6 +202,7 @@ pub mod Code
 pub mod Fields
 pub mod Grid
 pub mod Later
+pub mod Note
 pub mod Volume
 pub mod Choice
 pub mod Right
@@ -195,6 +211,7 @@ pub mod Pack
 pub mod Unpack
 pub mod PackWhole
 pub mod UnpackWhole
+pub mod Reading
 pub mod View
 pub mod Sound
 pub mod Build

@@ -28,6 +28,10 @@ maxPlaces = 1024
 abbrev pub maxLoops : ℕ
 maxLoops = 100
 
+-- a note has at most so many bytes
+abbrev pub maxNote : ℕ
+maxNote = 64
+
 abbrev pub between : ℕ → ℕ → ℕ → Bool
 between lo n hi = leb lo n && leb n hi
 

@@ -10,6 +10,9 @@ pub const TRIANGLES: usize = 8192;
 
 pub const CORNERS: usize = 3 * TRIANGLES;
 
+// The most bytes of a note.
+pub const NOTE: usize = 64;
+
 // A triangle p q r has the directed edges p→q, q→r and r→p.
 pub struct Triangle {
     pub p: u16,
@@ -151,6 +154,19 @@ pub enum Packed {
 pub enum Unpacked {
     Model(Model),
     Refused(u8),
+}
+
+// The bench reader tells besides where the note stands in the pack and how many bytes it has, twice 0 if there is none.
+pub struct Benched {
+    pub answer: Unpacked,
+    pub start: usize,
+    pub length: usize,
+}
+
+// The same, with the note as a part of the pack that was lent.
+pub struct Noted<'a> {
+    pub answer: Unpacked,
+    pub note: &'a [u8],
 }
 
 // The volume call gives six times the volume besides.

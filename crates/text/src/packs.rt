@@ -8,8 +8,8 @@ use crate::streams::say_failed;
 use crate::words::is_same;
 ghost use Rattle.text.specs.Reads.{Fills};
 
-// The longest input that is taken for a pack. No pack has over 54,289 bytes: 14 before the operations; 20 bits at most for each of
-// 8,192 triangles and 3 for each of their 24,576 edges; 24,579 bytes of positions.
+// The longest input that is taken for a pack. No pack has over 54,356 bytes: 14 before the operations; 20 bits at most for each of
+// 8,192 triangles and 3 for each of their 24,576 edges; 24,579 bytes of positions; 67 of a note.
 pub const MOST_BYTES: usize = 65536;
 
 // What an input is read into has one byte more, to tell a longer one.

@@ -10,6 +10,18 @@ pub fn print_refusal(out: Output, n: u8) -> Output {
     out.bytes(b"refused ").number(n as u16, b'\n')
 }
 
+// Writes n bytes from one on, as they are; none if there are not so many.
+pub fn print_part(out: Output, bytes: &[u8], from: usize, n: usize) -> Output {
+    if bytes.len() < from {
+        return out;
+    }
+    if bytes.len() - from < n {
+        return out;
+    }
+    let end = from + n;
+    out.bytes(&bytes[from..end])
+}
+
 // Writes numbers, so many to a line.
 pub fn print_rows(start: Output, numbers: &[u16], row: usize) -> Output
     requires { ⌜ 0 < row ⌝ }
@@ -47,7 +59,8 @@ pub fn print_unpacked(out: Output, r: Unpacked, triangles: &[u16]) -> Output {
     print_rows(print_counts(out, m), &triangles[..n], 3)
 }
 
-fn print_refused(out: Output, r: Unpacked) -> Output {
+// Prints the refusal that an unpacking answered, if it did.
+pub fn print_refused(out: Output, r: Unpacked) -> Output {
     match r {
         Unpacked::Model(_) => out,
         Unpacked::Refused(n) => print_refusal(out, n),

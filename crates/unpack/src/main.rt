@@ -2,7 +2,7 @@
 // each triangle as built. A refused pack prints one line with its number. With arguments it does so for each in turn: the pack of
 // the file that it names, or for "-" that of standard input. What cannot be read gets a line on standard error and prints nothing;
 // after a write that fails there is such a line too, and the program ends.
-use positions::unpacking::unpack_whole_on;
+use notes::unpacking::unpack_noted_on;
 use rules::Builder;
 use rules::CORNERS;
 use text::packs::BUFFER;
@@ -20,7 +20,7 @@ fn unpack_read(out: Output, r: Read, pack: &[u8], triangles: &mut [u16]) -> Outp
     let Read::To(n) = r else {
         return out;
     };
-    let answer = unpack_whole_on(&pack[..n], triangles, Builder::MAX_PLACES);
+    let answer = unpack_noted_on(&pack[..n], triangles, Builder::MAX_PLACES);
     print_unpacked(out, answer, triangles)
 }
 

@@ -2,7 +2,7 @@
 // negative where the model is inside out. A refused pack prints one line with its number. With arguments it does so for each in turn:
 // the pack of the file that it names, or for "-" that of standard input. What cannot be read gets a line on standard error and prints
 // nothing; after a write that fails there is such a line too, and the program ends.
-use positions::measuring::volume_on;
+use measuring::volume_on;
 use rules::Builder;
 use rules::CORNERS;
 use text::packs::BUFFER;

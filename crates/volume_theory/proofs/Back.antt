@@ -18,8 +18,9 @@ use Rattle.rules.specs.Grid.{allInGrid, positionBytes, positionsFrom}
 use Rattle.rules.specs.declared.Point.{Point}
 use Rattle.rules.specs.Volume.{pointAt}
 use Rattle.rules.specs.Later.{positionsTag, Given, not-given, given, Parts, partsOf}
-use Rattle.rules.specs.PackWhole.{positionsFit, packWhole}
-use Rattle.rules.specs.UnpackWhole.{fieldFits, unpackWhole, positionsIn}
+use Rattle.rules.specs.PackWhole.{extras, positionsFit, packWhole}
+use Rattle.rules.specs.UnpackWhole.{fieldFits, unpackWhole}
+use Rattle.rules.specs.Reading.{positionsIn}
 use Rattle.counting.proofs.Bools.{and-left, and-right, and-both}
 use Rattle.wire_theory.specs.Shape.{Bytes}
 use Rattle.wire_theory.specs.Later.{laterBytes}
@@ -30,7 +31,7 @@ use Rattle.roundtrip.specs.Claims.{Gives, PackOf, listIn}
 use Rattle.roundtrip.proofs.Back.{every-accepted-pack-is-the-pack-of-its-list}
 use Rattle.volume_theory.specs.Whole.{fieldLength, Followed, positionsGiven, WholePackOf}
 use Rattle.volume_theory.specs.Whole.{EveryAcceptedPackIsThePackOfItsListAndPositions}
-use Rattle.volume_theory.proofs.Beside.{positions-follow-the-pack}
+use Rattle.volume_theory.proofs.Beside.{placed, given-neither-packs-the-list, positions-follow-the-pack}
 use Rattle.volume_theory.proofs.Whole.{Accepts, accepts, field-again}
 
 -- lists of positions with the same points
@@ -69,7 +70,7 @@ module _ (v n : ℕ) (xs two bs : List ℕ) (r : PackBuffers) (hb : Bytes bs) (f
   whole-long : length (two ++ fieldOf positionsTag bs) ≡ length two + fieldLength v
   whole-long = length-append two (fieldOf positionsTag bs) ∙ omega (arith, six)
 
-  followed : Followed v (length two) zs r (packWhole v xs (given zs) r) (pack v xs r)
+  followed : Followed v (length two) zs r (packWhole v xs (placed zs) r) (pack v xs r)
   followed = positions-follow-the-pack v xs zs r .follows fit (length two) (base .same-length) (omega (arith, long, whole-long))
 
   same-positions : followed .positions ≡ zs
@@ -83,7 +84,7 @@ module _ (v n : ℕ) (xs two bs : List ℕ) (r : PackBuffers) (hb : Bytes bs) (f
       ap₂ (λ (us vs : List ℕ). us ++ fieldOf positionsTag vs) (base .same-bytes)
       (ap positionBytes same-positions ∙ field-again v bs hb fits)
 
-  gives : Gives (two ++ fieldOf positionsTag bs) v n (packWhole v xs (given zs) r)
+  gives : Gives (two ++ fieldOf positionsTag bs) v n (packWhole v xs (placed zs) r)
   gives = record {
     same-length = followed .answer ∙ ap packed (sym whole-long);
     same-bytes =
@@ -118,20 +119,21 @@ every-accepted-pack-is-the-pack-of-its-list-and-positions bytes hb r m e =
 
     go : (x : Given (List ℕ)) → fieldFits (m .vertices) x ≡ true → bytes ≡ a .two ++ laterBytes x → Bytes (laterBytes x)
         → positionsGiven (positionsIn (partsOf bytes)) ≡ positionsGiven x
-        → WholePackOf bytes m (listIn m (unpackWhole bytes r)) (positionsGiven (positionsIn (partsOf bytes)))
+        → WholePackOf bytes m (listIn m (unpackWhole bytes r)) (extras (positionsGiven (positionsIn (partsOf bytes))) not-given)
     go not-given t b c d =
-        subst (WholePackOf bytes m (listIn m (unpackWhole bytes r))) (sym d)
+        subst (λ (y : Given (List ℤ)). WholePackOf bytes m (listIn m (unpackWhole bytes r)) (extras y not-given)) (sym d)
         (record {
           accepted = base .accepted;
           count = base .count;
           packs =
               λ r′ k o l. let q : bytes ≡ a .two = b ∙ append-nil (a .two) in
-              subst (λ (us : List ℕ). Gives us (m .vertices) (m .triangles) (pack (m .vertices) (listIn m (unpackWhole bytes r)) r′))
-              (sym q)
-              (base .packs r′ k o (omega (arith, l, ap length q)));
+              let xs = listIn m (unpackWhole bytes r) in
+              subst (Gives bytes (m .vertices) (m .triangles)) (sym (given-neither-packs-the-list (m .vertices) xs r′))
+              (subst (λ (us : List ℕ). Gives us (m .vertices) (m .triangles) (pack (m .vertices) xs r′)) (sym q)
+              (base .packs r′ k o (omega (arith, l, ap length q))));
         })
     go (given bs) t b c d =
-        subst (WholePackOf bytes m (listIn m (unpackWhole bytes r))) (sym d)
+        subst (λ (y : Given (List ℤ)). WholePackOf bytes m (listIn m (unpackWhole bytes r)) (extras y not-given)) (sym d)
         (record {
           accepted = base .accepted;
           count = base .count;
@@ -139,7 +141,7 @@ every-accepted-pack-is-the-pack-of-its-list-and-positions bytes hb r m e =
               λ r′ k o l. let q = ap length b ∙ length-append (a .two) (fieldOf positionsTag bs) in
               subst
               (λ (us : List ℕ). Gives us (m .vertices) (m .triangles)
-              (packWhole (m .vertices) (listIn m (unpackWhole bytes r)) (given (positionsFrom bs)) r′)) (sym b)
+              (packWhole (m .vertices) (listIn m (unpackWhole bytes r)) (placed (positionsFrom bs)) r′)) (sym b)
               (gives (m .vertices) (m .triangles) (listIn m (unpackWhole bytes r)) (a .two) bs r′ (c .1 .1 .1) t
               (base .packs r′ k o (omega (arith, l, q))) (omega (arith, l, ap length b)));
         })

@@ -24,8 +24,8 @@ use Rattle.rules.specs.Grid.{allInGrid, positionBytes, positionsFrom}
 use Rattle.rules.specs.Volume.{sixVolumes}
 use Rattle.rules.specs.Later.{positionsTag, Given, not-given, given, parts, partsOf}
 use Rattle.rules.specs.PackWhole.{packWhole}
-use Rattle.rules.specs.UnpackWhole.{fieldFits, modelIn, leftBy20, thenTested, unpackParts, unpackWhole, VolumeResult, positionsIn, sixOf}
-use Rattle.rules.specs.UnpackWhole.{measured, volume}
+use Rattle.rules.specs.UnpackWhole.{fieldFits, modelIn, leftBy20, unpackParts, unpackWhole}
+use Rattle.rules.specs.Reading.{VolumeResult, positionsIn, sixOf, measured, volume}
 use Rattle.counting.proofs.Bools.{and-both}
 use Rattle.counting.proofs.Ranges.{of-between}
 use Rattle.wire_theory.proofs.Later.{parts-written}
@@ -38,18 +38,11 @@ use Rattle.roundtrip.proofs.Fitting.{short-enough}
 use Rattle.roundtrip.proofs.Forth.{whole}
 use Rattle.roundtrip.proofs.Each.{front-bytes, each-once}
 use Rattle.volume_theory.specs.Whole.{Unpacked, PackWithPositionsUnpacks}
-use Rattle.volume_theory.proofs.Beside.{PackedWhole, packed-whole}
+use Rattle.volume_theory.proofs.Beside.{placed, PackedWhole, packed-whole}
+use Rattle.volume_theory.proofs.Whole.{tested-fits, volume-unnoted}
 use Rattle.volume_theory.proofs.Packed.{packing-keeps-the-volume}
 
--- an accepted unpacking whose field fits
-tested-fits : (ps : Given (List ℕ)) (r : Buffers) (u : UnpackResult) (m : Model) → u .answer ≡ unpacked m
-    → fieldFits (m .vertices) ps ≡ true → thenTested ps r u (modelIn (u .answer)) ≡ u
-unfolding thenTested
-tested-fits ps r u m e f =
-    ap (λ (a : Answer). thenTested ps r u (modelIn a)) e
-    ∙ ap (λ (t : Bool). elim t as (λ _. UnpackResult) [ true ↦ u | false ↦ record { answer = refusal 23; buffers = leftBy20 m r } ]) f
-
--- and without a rim
+-- an accepted unpacking of a model without a rim
 closed : (bs : List ℕ) (r : Buffers) (u : UnpackResult) (m : Model) → u .answer ≡ unpacked m → m .totals .rims ≡ 0
     → measured (given bs) r u (modelIn (u .answer))
     ≡ record { answer = u .answer; six = given (sixOf bs m (u .buffers)); buffers = u .buffers }
@@ -78,7 +71,7 @@ module _ (v : ℕ) (xs : List ℕ) (zs : List ℤ) (r : PackBuffers) (k : ℕ) (
   two-is : two ≡ packOf v (trianglesOf xs) (p .operations) (p .last)
   two-is = front-bytes v xs r n p
 
-  bytes-is : take k (packWhole v xs (given zs) r .buffers .pack) ≡ two ++ fieldOf positionsTag bs
+  bytes-is : take k (packWhole v xs (placed zs) r .buffers .pack) ≡ two ++ fieldOf positionsTag bs
   bytes-is =
       let whole = two ++ fieldOf positionsTag bs in
       ap (take k) (w .followed .bytes)
@@ -121,12 +114,13 @@ module _ (v : ℕ) (xs : List ℕ) (zs : List ℤ) (r : PackBuffers) (k : ℕ) (
 
   same : unpackWhole (two ++ fieldOf positionsTag bs) r′ ≡ unpack two r′
   unfolding unpackParts
-  same = ap (unpackParts r′) found ∙ tested-fits (given bs) r′ (unpack two r′) m (each .accepted) fits
+  same = ap (unpackParts r′) found ∙ tested-fits 23 (λ x. fieldFits (x .vertices) (given bs)) r′ (unpack two r′) m (each .accepted) fits
 
   volume-is : m .totals .rims ≡ 0 → volume (two ++ fieldOf positionsTag bs) r′
       ≡ record { answer = unpack two r′ .answer; six = given (sixOf bs m (unpack two r′ .buffers)); buffers = unpack two r′ .buffers }
   volume-is z =
-      ap₂ (λ (ps : Given (List ℕ)) (x : UnpackResult). measured ps r′ x (modelIn (x .answer))) (ap positionsIn found) same
+      volume-unnoted (two ++ fieldOf positionsTag bs) two (given bs) r′ found
+      ∙ ap₂ (λ (ps : Given (List ℕ)) (x : UnpackResult). measured ps r′ x (modelIn (x .answer))) (ap positionsIn found) same
       ∙ closed bs r′ (unpack two r′) m (each .accepted) z
 
   six-is : sixOf bs m (unpack two r′ .buffers) ≡ sixVolumes zs (trianglesOf xs)

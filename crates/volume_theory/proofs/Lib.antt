@@ -1,7 +1,6 @@
 pub mod Amounts
 pub mod Back
 pub mod Beside
-pub mod Calls
 pub mod Determinant
 pub mod Fitting
 pub mod Forth

@@ -13,13 +13,14 @@ use borrow.Author.Tests.{lt-leb, leb-false}
 use Rattle.rules.specs.declared.Triangle.{Triangle}
 use Rattle.rules.specs.declared.Operation.{Operation}
 use Rattle.rules.specs.Triangle.{trianglesOf}
+use Rattle.rules.specs.Check.{check}
+use Rattle.rules.specs.declared.Checked.the-variants.{Accepted}
 use Rattle.rules.specs.Answer.{refusal, packed}
 use Rattle.rules.specs.Bits.{bytesOf}
 use Rattle.rules.specs.Code.{operationsBits}
 use Rattle.rules.specs.Choice.{Packing}
 use Rattle.rules.specs.Pack.{Chosen, stopped, chosen, most, chosenFor, orderFor, packOf, PackBuffers, PackResult}
 use Rattle.rules.specs.Pack.{packRefused, packStored, contentsOf, packChosen, pack}
-use Rattle.rules.specs.Later.{given}
 use Rattle.rules.specs.PackWhole.{positionsFit, wholePackOf, wholeContentsOf, wholeChosen, packWhole}
 use Rattle.wire_theory.proofs.Fields.{length-pack}
 use Rattle.choice_theory.proofs.Runs.RoundTrip.{statedBy, numbered-all, accepted-complete}
@@ -29,7 +30,18 @@ use Rattle.roundtrip.proofs.Each.{one-to-one}
 use Rattle.roundtrip.proofs.Fitting.{short-enough}
 use Rattle.volume_theory.specs.Whole.{fieldLength, PassesRooms}
 use Rattle.volume_theory.specs.Shorter.{shorter, mostPack, Appended, Shorter}
-use Rattle.volume_theory.proofs.Beside.{runs, longer, follows}
+use Rattle.volume_theory.proofs.Beside.{placed, runs, longer, follows}
+
+-- the bytes of the operations are fewer than 65,536
+pub short-pack : (v : ℕ) (xs : List ℕ) (os : List Operation) (s : Packing) → check v xs ≡ Accepted
+    → chosenFor most (trianglesOf xs) ≡ chosen os s → length (packOf v (trianglesOf xs) os s) ≤ mostPack
+short-pack v xs os s a e =
+    let c = accepted-complete most v xs os s a e in
+    omega (
+      arith,
+      length-pack (statedBy v (trianglesOf xs) s) (bytesOf (operationsBits os)),
+      short-enough v xs os s a e c,
+    )
 
 module _ (v : ℕ) (xs : List ℕ) (zs : List ℤ) (r : PackBuffers) (fit : positionsFit v zs ≡ true) (rooms : PassesRooms v xs r) where
   abbrev ts : List Triangle
@@ -44,21 +56,21 @@ module _ (v : ℕ) (xs : List ℕ) (zs : List ℤ) (r : PackBuffers) (fit : posi
   q-is : pack v xs (shorter v r) ≡ packChosen v ts r₀ qs (chosenFor most ts)
   q-is = within-checked most v xs (shorter v r) (rooms .list) (rooms .rooms) (rooms .order)
 
-  p-is : packWhole v xs (given zs) r ≡ wholeChosen v ts zs r qs (chosenFor most ts)
-  p-is = runs v xs zs r fit rooms
+  p-is : packWhole v xs (placed zs) r ≡ wholeChosen v ts (placed zs) r qs (chosenFor most ts)
+  p-is = runs v xs r (placed zs) fit refl rooms
 
   room₀ : length (r₀ .pack) ≡ length (r .pack) - fieldLength v
   room₀ = length-take (length (r .pack) - fieldLength v) (r .pack) ∙ omega arith
 
   -- the pack with the positions is longer by the field
   longer-by : (os : List Operation) (s : Packing) → chosenFor most ts ≡ chosen os s
-      → length (wholePackOf v ts zs os s) ≡ length (packOf v ts os s) + fieldLength v
+      → length (wholePackOf v ts (placed zs) os s) ≡ length (packOf v ts os s) + fieldLength v
   longer-by os s e =
       let n = numbered-all most v ts (accepted-packable v xs (rooms .list)) os s (accepted-complete most v xs os s (rooms .list) e) in
-      omega (arith, longer v xs zs r fit os s, n)
+      omega (arith, longer v xs r zs fit os s, n)
 
   refused-at : (c : Chosen) → chosenFor most ts ≡ c → (k : ℕ) → packChosen v ts r₀ qs c .answer ≡ refusal k
-      → (wholeChosen v ts zs r qs c ≡ packRefused k v ts r) × (packChosen v ts r₀ qs c ≡ packRefused k v ts r₀)
+      → (wholeChosen v ts (placed zs) r qs c ≡ packRefused k v ts r) × (packChosen v ts r₀ qs c ≡ packRefused k v ts r₀)
   unfolding wholeChosen packChosen
   refused-at (stopped n) e k f =
       let q : refusal n ≡ refusal k = f in
@@ -67,7 +79,7 @@ module _ (v : ℕ) (xs : List ℕ) (zs : List ℤ) (r : PackBuffers) (fit : posi
   refused-at (chosen os s) e k f = go (leb (length (packOf v ts os s)) (length (r₀ .pack))) refl
     where
       go : (t : Bool) → leb (length (packOf v ts os s)) (length (r₀ .pack)) ≡ t
-          → (packStored v ts (wholeContentsOf v ts zs qs os s) r ≡ packRefused k v ts r)
+          → (packStored v ts (wholeContentsOf v ts (placed zs) qs os s) r ≡ packRefused k v ts r)
           × (packStored v ts (contentsOf v ts qs os s) r₀ ≡ packRefused k v ts r₀)
       go true l =
           absurd (not-packed (length (packOf v ts os s)) k
@@ -76,15 +88,15 @@ module _ (v : ℕ) (xs : List ℕ) (zs : List ℤ) (r : PackBuffers) (fit : posi
           let alone = stored-refused v ts (contentsOf v ts qs os s) r₀ l in
           let a : refusal 11 ≡ refusal k = sym (ap (λ (p : PackResult). p .answer) alone) ∙ f in
           let j : 11 ≡ k = cc in (
-            stored-refused v ts (wholeContentsOf v ts zs qs os s) r
-                (lt-leb (length (wholePackOf v ts zs os s)) (length (r .pack))
+            stored-refused v ts (wholeContentsOf v ts (placed zs) qs os s) r
+                (lt-leb (length (wholePackOf v ts (placed zs) os s)) (length (r .pack))
                 (omega (arith, longer-by os s e, room₀, leb-false (length (packOf v ts os s)) (length (r₀ .pack)) l)))
                 ∙ ap (λ (i : ℕ). packRefused i v ts r) j,
             alone ∙ ap (λ (i : ℕ). packRefused i v ts r₀) j,
           )
 
   refused : (k : ℕ) → pack v xs (shorter v r) .answer ≡ refusal k
-      → (packWhole v xs (given zs) r ≡ packRefused k v ts r) × (pack v xs (shorter v r) ≡ packRefused k v ts (shorter v r))
+      → (packWhole v xs (placed zs) r ≡ packRefused k v ts r) × (pack v xs (shorter v r) ≡ packRefused k v ts (shorter v r))
   refused k e =
       let c = refused-at (chosenFor most ts) refl k (sym (ap (λ (p : PackResult). p .answer) q-is) ∙ e) in
       (p-is ∙ c .0, q-is ∙ c .1)
@@ -104,16 +116,8 @@ module _ (v : ℕ) (xs : List ℕ) (zs : List ℤ) (r : PackBuffers) (fit : posi
           length-pack (statedBy v ts (p .last)) (bytesOf (operationsBits (p .operations))),
         )
 
-    -- the bytes of the operations are fewer than 65,536
     short : n ≤ mostPack
-    short =
-        let c = accepted-complete most v xs (p .operations) (p .last) (p .accepted) (p .chose) in
-        omega (
-          arith,
-          p .long,
-          length-pack (statedBy v ts (p .last)) (bytesOf (operationsBits (p .operations))),
-          short-enough v xs (p .operations) (p .last) (p .accepted) (p .chose) c,
-        )
+    short = omega (arith, p .long, short-pack v xs (p .operations) (p .last) (p .accepted) (p .chose))
 
     past : drop n (pack v xs (shorter v r) .buffers .pack) ≡ drop n (shorter v r .pack)
     past =
@@ -122,9 +126,9 @@ module _ (v : ℕ) (xs : List ℕ) (zs : List ℤ) (r : PackBuffers) (fit : posi
         ∙ drop-at bytes (drop (length bytes) (shorter v r .pack)) n (sym (p .long))
         ∙ ap (λ (k : ℕ). drop k (shorter v r .pack)) (sym (p .long))
 
-    packs : Appended v n zs r (packWhole v xs (given zs) r) (pack v xs (shorter v r))
+    packs : Appended v n zs r (packWhole v xs (placed zs) r) (pack v xs (shorter v r))
     packs = record {
-      followed = follows v xs zs r fit (r₀ .pack) n p room;
+      followed = follows v xs r zs fit (r₀ .pack) n p room;
       numbers = one-to-one v xs (shorter v r) n p;
       short = short;
       room = room;
@@ -132,5 +136,5 @@ module _ (v : ℕ) (xs : List ℕ) (zs : List ℤ) (r : PackBuffers) (fit : posi
     }
 
 pub packs-shorter : (v : ℕ) (xs : List ℕ) (zs : List ℤ) (r : PackBuffers) → positionsFit v zs ≡ true → PassesRooms v xs r
-    → Shorter v xs zs r (packWhole v xs (given zs) r) (pack v xs (shorter v r))
+    → Shorter v xs zs r (packWhole v xs (placed zs) r) (pack v xs (shorter v r))
 packs-shorter v xs zs r fit rooms = record { refused = refused v xs zs r fit rooms; packs = packs v xs zs r fit rooms }

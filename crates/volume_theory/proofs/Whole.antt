@@ -10,16 +10,19 @@ use lib.Dec.{eqb}
 use lib.ListN.{length}
 use borrow.Author.Tests.{eqb-true}
 use Rattle.rules.specs.declared.Model.{Model}
-use Rattle.rules.specs.Answer.{refusal, unpacked}
+use Rattle.rules.specs.Answer.{Answer, refusal, unpacked}
 use Rattle.rules.specs.Buffer.{Buffers}
 use Rattle.rules.specs.Unpack.{UnpackResult, unpack}
 use Rattle.rules.specs.Grid.{allInGrid, positionBytes, positionsFrom}
 use Rattle.rules.specs.Later.{Given, not-given, given, Parts, no-parts, parts, partsOf}
-use Rattle.rules.specs.UnpackWhole.{fieldFits, modelIn, leftBy20, thenTested, unpackParts, unpackWhole, positionsIn}
+use Rattle.rules.specs.UnpackWhole.{fieldFits, modelIn, leftBy20, thenTested, unpackParts, unpackWhole}
+use Rattle.rules.specs.Note.{NoteTaken, noteFits}
+use Rattle.rules.specs.Reading.{unpackNoted, positionsIn, measured, volume}
 use Rattle.wire_theory.specs.Shape.{Bytes}
 use Rattle.wire_theory.specs.Later.{laterBytes}
 use Rattle.wire_theory.proofs.Lists.{below-front, below-rest}
 use Rattle.wire_theory.proofs.Later.{two-parts, parts-found}
+use Rattle.wire_theory.proofs.Note.{no-note}
 use Rattle.wire_theory.proofs.Positions.{positions-again}
 use Rattle.counting.proofs.Bools.{and-left}
 use Rattle.roundtrip.specs.Claims.{listIn}
@@ -27,15 +30,39 @@ use Rattle.roundtrip.proofs.Back.{no-two-packs-of-one-list}
 use Rattle.volume_theory.specs.Whole.{PacksOfTwoFieldsReadAsBefore, positionsGiven}
 use Rattle.volume_theory.specs.Whole.{NoTwoPacksOfOneListAndPositions}
 
-pub tested-none : (r : Buffers) (u : UnpackResult) (g : Given Model) → thenTested not-given r u g ≡ u
+-- a test that every model passes
+pub tested-none : (k : ℕ) (r : Buffers) (u : UnpackResult) (x : Given Model) → thenTested k (λ m. true) r u x ≡ u
 unfolding thenTested
-tested-none r u not-given = refl
-tested-none r u (given m) = refl
+tested-none k r u not-given = refl
+tested-none k r u (given m) = refl
+
+-- an accepted model that passes
+pub tested-fits : (k : ℕ) (fits : Model → Bool) (r : Buffers) (u : UnpackResult) (m : Model) → u .answer ≡ unpacked m → fits m ≡ true
+    → thenTested k fits r u (modelIn (u .answer)) ≡ u
+unfolding thenTested
+tested-fits k fits r u m e f =
+    ap (λ (a : Answer). thenTested k fits r u (modelIn a)) e
+    ∙ ap (λ (t : Bool). elim t as (λ _. UnpackResult) [ true ↦ u | false ↦ record { answer = refusal k; buffers = leftBy20 m r } ]) f
 
 pub packs-of-two-fields-read-as-before : PacksOfTwoFieldsReadAsBefore
 unfolding unpackParts
 packs-of-two-fields-read-as-before bytes s ops e r =
-    ap (unpackParts r) (two-parts bytes s ops e) ∙ tested-none r (unpack bytes r) (modelIn (unpack bytes r .answer))
+    ap (unpackParts r) (two-parts bytes s ops e) ∙ tested-none 23 r (unpack bytes r) (modelIn (unpack bytes r .answer))
+
+-- a pack without a note
+module _ (bytes two : List ℕ) (g : Given (List ℕ)) (r : Buffers) (found : partsOf bytes ≡ parts two g) where
+  abbrev noted : NoteTaken → UnpackResult
+  noted d = let u = unpackWhole (d .before) r in thenTested 25 (λ m. noteFits (d .note)) r u (modelIn (u .answer))
+
+  pub unpack-unnoted : unpackNoted bytes r ≡ unpackWhole bytes r
+  unpack-unnoted =
+      ap noted (no-note bytes two g found) ∙ tested-none 25 r (unpackWhole bytes r) (modelIn (unpackWhole bytes r .answer))
+
+  pub volume-unnoted : volume bytes r
+      ≡ measured (positionsIn (partsOf bytes)) r (unpackWhole bytes r) (modelIn (unpackWhole bytes r .answer))
+  volume-unnoted =
+      ap₂ (λ (d : NoteTaken) (u : UnpackResult). measured (positionsIn (partsOf (d .before))) r u (modelIn (u .answer)))
+      (no-note bytes two g found) unpack-unnoted
 
 -- a pack that is accepted
 pub record Accepts (bytes : List ℕ) (r : Buffers) (m : Model) : Type 0 where
@@ -52,27 +79,27 @@ none-or-one e = let z : _≡_ {A = ℕ} 0 1 = ap (λ (g : Given Model). elim g [
 never : {A : Type 0} (k : ℕ) (m : Model) → refusal k ≡ unpacked m → A
 never k m e = absurd (none-or-one (ap modelIn e))
 
--- 23 passes
-pub record Passes (ps : Given (List ℕ)) (u : UnpackResult) (m : Model) (w : UnpackResult) : Type 0 where
+-- a test passes
+pub record Passes (fits : Model → Bool) (u : UnpackResult) (m : Model) (w : UnpackResult) : Type 0 where
   pub accepted : u .answer ≡ unpacked m
-  pub fits : fieldFits (m .vertices) ps ≡ true
+  pub fit : fits m ≡ true
   pub same : w ≡ u
 
-passes-23 : (ps : Given (List ℕ)) (r : Buffers) (u : UnpackResult) (m : Model) (x : Given Model) → modelIn (u .answer) ≡ x
-    → thenTested ps r u x .answer ≡ unpacked m → Passes ps u m (thenTested ps r u x)
+pub passes : (k : ℕ) (fits : Model → Bool) (r : Buffers) (u : UnpackResult) (m : Model) (x : Given Model) → modelIn (u .answer) ≡ x
+    → thenTested k fits r u x .answer ≡ unpacked m → Passes fits u m (thenTested k fits r u x)
 unfolding thenTested
-passes-23 ps r u m not-given f g = absurd (none-or-one (sym f ∙ ap modelIn g))
-passes-23 ps r u m (given m′) f g = go (fieldFits (m′ .vertices) ps) refl g
+passes k fits r u m not-given f g = absurd (none-or-one (sym f ∙ ap modelIn g))
+passes k fits r u m (given m′) f g = go (fits m′) refl g
   where
     w : Bool → UnpackResult
-    w t = elim t [ true ↦ u | false ↦ record { answer = refusal 23; buffers = leftBy20 m′ r } ]
+    w t = elim t [ true ↦ u | false ↦ record { answer = refusal k; buffers = leftBy20 m′ r } ]
 
-    go : (t : Bool) → fieldFits (m′ .vertices) ps ≡ t → w t .answer ≡ unpacked m → Passes ps u m (w t)
-    go true h k =
-        let e : given m′ ≡ given m = sym f ∙ ap modelIn k in
+    go : (t : Bool) → fits m′ ≡ t → w t .answer ≡ unpacked m → Passes fits u m (w t)
+    go true h a =
+        let e : given m′ ≡ given m = sym f ∙ ap modelIn a in
         let q : m′ ≡ m = cc in
-        record { accepted = k; fits = ap (λ (n : Model). fieldFits (n .vertices) ps) (sym q) ∙ h; same = refl }
-    go false h k = never 23 m k
+        record { accepted = a; fit = ap fits (sym q) ∙ h; same = refl }
+    go false h a = never k m a
 
 pub accepts : (bytes : List ℕ) (r : Buffers) (m : Model) → unpackWhole bytes r .answer ≡ unpacked m → Accepts bytes r m
 unfolding unpackParts
@@ -82,13 +109,13 @@ accepts bytes r m e = go (partsOf bytes) refl e
     go no-parts f g = never 12 m g
     go (parts two ps) f g =
         let u = unpack two r in
-        let k = passes-23 ps r u m (modelIn (u .answer)) refl g in
+        let k = passes 23 (λ x. fieldFits (x .vertices) ps) r u m (modelIn (u .answer)) refl g in
         record {
           two = two;
           field = ps;
           found = f;
           accepted = k .accepted;
-          fits = k .fits;
+          fits = k .fit;
           same = ap (unpackParts r) f ∙ k .same;
         }
 

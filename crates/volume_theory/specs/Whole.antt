@@ -3,15 +3,13 @@
 use Prim.Native.Nat.{ℕ, _+_, _*_, _≤_, _<_}
 use mathlib.Core.Bool.{true, false}
 use mathlib.Core.List.{List, _++_}
-use mathlib.Core.Logic.{_↔_}
 use mathlib.Core.Path.{_≡_}
-use lib.IntN.{ℤ, pos, negℤ, natAbs, _-ℤ_}
-use lib.ListN.{length, take, getD, set}
+use lib.IntN.{ℤ}
+use lib.ListN.{length, take}
 use Rattle.rules.specs.declared.Counts.{Counts}
 use Rattle.rules.specs.declared.Model.{Model}
 use Rattle.rules.specs.declared.Checked.the-variants.{Accepted}
-use Rattle.rules.specs.Triangle.{trianglesOf, In}
-use Rattle.rules.specs.Fan.{about}
+use Rattle.rules.specs.Triangle.{trianglesOf}
 use Rattle.rules.specs.Check.{check}
 use Rattle.rules.specs.Answer.{refusal, packed, unpacked}
 use Rattle.rules.specs.Buffer.{over, Buffers}
@@ -21,10 +19,15 @@ use Rattle.rules.specs.Unpack.{UnpackResult, unpack}
 use Rattle.rules.specs.Grid.{allInGrid, positionBytes, positionsFrom}
 use Rattle.rules.specs.Volume.{pointAt, sixVolumes}
 use Rattle.rules.specs.Later.{positionsTag, Given, not-given, given, partsOf}
-use Rattle.rules.specs.PackWhole.{positionsFit, packWhole}
-use Rattle.rules.specs.UnpackWhole.{unpackWhole, VolumeResult, positionsIn, volume}
+use Rattle.rules.specs.PackWhole.{Extras, extras, positionsFit, packWhole}
+use Rattle.rules.specs.UnpackWhole.{unpackWhole}
+use Rattle.rules.specs.Reading.{VolumeResult, positionsIn, volume}
 use Rattle.wire_theory.specs.Shape.{Bytes}
 use Rattle.roundtrip.specs.Claims.{newNumber, LongEnoughFor, Gives, listIn}
+
+-- given neither positions nor a note, packing is that of the list
+abbrev pub GivenNeitherPacksTheList : Type 0
+GivenNeitherPacksTheList = (v : ℕ) (xs : List ℕ) (r : PackBuffers) → packWhole v xs (extras not-given not-given) r ≡ pack v xs r
 
 -- how many bytes the field of positions takes
 abbrev pub fieldLength : ℕ → ℕ
@@ -62,7 +65,7 @@ pub record Beside (v : ℕ) (xs : List ℕ) (zs : List ℤ) (r : PackBuffers) (p
 
 abbrev pub PositionsFollowThePack : Type 0
 PositionsFollowThePack = (v : ℕ) (xs : List ℕ) (zs : List ℤ) (r : PackBuffers)
-    → Beside v xs zs r (packWhole v xs (given zs) r) (pack v xs r)
+    → Beside v xs zs r (packWhole v xs (extras (given zs) not-given) r) (pack v xs r)
 
 -- "Packs without the field read as before"
 abbrev pub PacksOfTwoFieldsReadAsBefore : Type 0
@@ -82,11 +85,11 @@ pub record Unpacked (v : ℕ) (xs : List ℕ) (zs : List ℤ) (n : ℕ) (q : Pac
     pub buffers : model .totals .rims ≡ 0 → w .buffers ≡ u .buffers
 
 abbrev pub PackWithPositionsUnpacks : Type 0
-PackWithPositionsUnpacks = (v : ℕ) (xs : List ℕ) (zs : List ℤ) (r : PackBuffers) (k : ℕ) → packWhole v xs (given zs) r .answer ≡ packed k
-    → (r′ : Buffers) → LongEnoughFor (length (trianglesOf xs)) r′
+PackWithPositionsUnpacks = (v : ℕ) (xs : List ℕ) (zs : List ℤ) (r : PackBuffers) (k : ℕ)
+    → packWhole v xs (extras (given zs) not-given) r .answer ≡ packed k → (r′ : Buffers) → LongEnoughFor (length (trianglesOf xs)) r′
     → (n : ℕ) × (k ≡ n + fieldLength v) × (pack v xs r .answer ≡ packed n)
-    × Unpacked v xs zs n (pack v xs r) (unpackWhole (take k (packWhole v xs (given zs) r .buffers .pack)) r′)
-    (volume (take k (packWhole v xs (given zs) r .buffers .pack)) r′) r′
+    × Unpacked v xs zs n (pack v xs r) (unpackWhole (take k (packWhole v xs (extras (given zs) not-given) r .buffers .pack)) r′)
+    (volume (take k (packWhole v xs (extras (given zs) not-given) r .buffers .pack)) r′) r′
 
 -- the positions of a pack, if it has any
 abbrev pub positionsGiven : Given (List ℕ) → Given (List ℤ)
@@ -96,39 +99,20 @@ positionsGiven (given bs) = given (positionsFrom bs)
 abbrev pub positionsOfPack : List ℕ → Given (List ℤ)
 positionsOfPack bytes = positionsGiven (positionsIn (partsOf bytes))
 
--- every accepted pack is the pack of its list and its positions
-pub record WholePackOf (bytes : List ℕ) (m : Model) (xs : List ℕ) (g : Given (List ℤ)) : Type 0 where
+-- the bytes are the pack of the list xs, with what is given besides
+pub record WholePackOf (bytes : List ℕ) (m : Model) (xs : List ℕ) (e : Extras) : Type 0 where
   pub accepted : check (m .vertices) xs ≡ Accepted
   pub count : length (trianglesOf xs) ≡ m .triangles
   pub packs : (r : PackBuffers) → packLongEnough (m .vertices) r ≡ true → orderLongEnough (trianglesOf xs) r ≡ true
-      → length bytes ≤ length (r .pack) → Gives bytes (m .vertices) (m .triangles) (packWhole (m .vertices) xs g r)
+      → length bytes ≤ length (r .pack) → Gives bytes (m .vertices) (m .triangles) (packWhole (m .vertices) xs e r)
 
+-- every accepted pack without a note is the pack of its list and its positions
 abbrev pub EveryAcceptedPackIsThePackOfItsListAndPositions : Type 0
 EveryAcceptedPackIsThePackOfItsListAndPositions = (bytes : List ℕ) → Bytes bytes → (r : Buffers) (m : Model)
-    → unpackWhole bytes r .answer ≡ unpacked m → WholePackOf bytes m (listIn m (unpackWhole bytes r)) (positionsOfPack bytes)
+    → unpackWhole bytes r .answer ≡ unpacked m
+    → WholePackOf bytes m (listIn m (unpackWhole bytes r)) (extras (positionsOfPack bytes) not-given)
 
 abbrev pub NoTwoPacksOfOneListAndPositions : Type 0
 NoTwoPacksOfOneListAndPositions = (bytes bytes′ : List ℕ) → Bytes bytes → Bytes bytes′ → (r r′ : Buffers) (m m′ : Model)
     → unpackWhole bytes r .answer ≡ unpacked m → unpackWhole bytes′ r′ .answer ≡ unpacked m′
     → listIn m (unpackWhole bytes r) ≡ listIn m′ (unpackWhole bytes′ r′) → positionsOfPack bytes ≡ positionsOfPack bytes′ → bytes ≡ bytes′
-
--- the list xs is packed with the positions zs, in some buffers, and the volume call gives s for its pack, in some buffers that are long
--- enough
-pub record PackedAndMeasured (v : ℕ) (xs : List ℕ) (zs : List ℤ) (s : ℤ) : Type 0 where
-  pub packing : PackBuffers
-  pub size : ℕ
-  pub packs : packWhole v xs (given zs) packing .answer ≡ packed size
-  pub measuring : Buffers
-  pub long : LongEnoughFor (length (trianglesOf xs)) measuring
-  pub six : volume (take size (packWhole v xs (given zs) packing .buffers .pack)) measuring .six ≡ given s
-
--- "A model turned inside out, if accepted too, gives the same amount with the other sign"
-abbrev pub TheCallInsideOut : Type 0
-TheCallInsideOut = (v : ℕ) (xs ys : List ℕ) (zs : List ℤ) (s t : ℤ) → PackedAndMeasured v xs zs s → PackedAndMeasured v ys zs t
-    → ((x y z : ℕ) → In x y z (trianglesOf xs) ↔ In y x z (trianglesOf ys)) → t ≡ negℤ s
-
--- "Moving one of a vertex's three positions by d steps, within the range, moves the result by at most .."
-abbrev pub TheCallMovedByAtMost : Type 0
-TheCallMovedByAtMost = (v : ℕ) (xs : List ℕ) (zs : List ℤ) (w k : ℕ) (z : ℤ) (s t : ℤ) → k < 3
-    → PackedAndMeasured v xs zs s → PackedAndMeasured v xs (set zs (3 * w + k) z) t
-    → natAbs (t -ℤ s) ≤ 8388608 * (natAbs (z -ℤ getD zs (3 * w + k) (pos 0)) * length (about w (trianglesOf xs)))

@@ -100,17 +100,17 @@ field-parts tag (t ∷ (h ∷ (l ∷ bs))) cs ds e = (go (eqb t tag) (leb (256 *
     go true false e = absurd (no-such cs ds e)
     go false y e = absurd (no-such cs ds e)
 
-record Parts (bs : List ℕ) (at tag a b : ℕ) : Type 0 where
-  cs : List ℕ
-  ds : List ℕ
-  taken : takeField tag (drop at bs) ≡ field cs ds
-  inner : take (length cs) (drop (at + 3) bs) ≡ cs
-  after : drop b bs ≡ ds
-  start : a ≡ at + 3
-  end : b ≡ at + 3 + length cs
-  within : b ≤ length bs
+pub record Parts (bs : List ℕ) (at tag a b : ℕ) : Type 0 where
+  pub cs : List ℕ
+  pub ds : List ℕ
+  pub taken : takeField tag (drop at bs) ≡ field cs ds
+  pub inner : take (length cs) (drop (at + 3) bs) ≡ cs
+  pub after : drop b bs ≡ ds
+  pub start : a ≡ at + 3
+  pub end : b ≡ at + 3 + length cs
+  pub within : b ≤ length bs
 
-parts : (bs : List ℕ) (at tag a b : ℕ) → fieldAt bs at tag ≡ At a b → Parts bs at tag a b
+pub parts : (bs : List ℕ) (at tag a b : ℕ) → fieldAt bs at tag ≡ At a b → Parts bs at tag a b
 unfolding fieldAt
 parts bs at tag a b e = go (takeField tag (drop at bs)) refl e
   where

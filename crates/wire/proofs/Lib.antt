@@ -1,8 +1,10 @@
 pub mod Asking
 pub mod Codes
 pub mod Contents
-pub mod Copies
+pub mod Header
 pub mod Held
+pub mod Notes
 pub mod Reading
+pub mod Told
 pub mod Windows
 pub mod Words

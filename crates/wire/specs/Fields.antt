@@ -9,6 +9,7 @@ use lib.ListN.{length, take, drop}
 use Rattle.rules.specs.declared.Counts.{Counts}
 use Rattle.rules.specs.Fields.{Field, no-field, field, takeField, Fields, no-pack, fields, fieldsOf}
 use Rattle.rules.specs.Later.{not-given, given, no-parts, parts, partsOf}
+use Rattle.rules.specs.Note.{past, takeNote}
 use Rattle.rules.specs.Limits.{inRange}
 use Rattle.rules.specs.Buffer.{over}
 use Rattle.wire_theory.specs.Header.{headerOf}
@@ -16,6 +17,8 @@ use Rattle.wire.specs.declared.fields.Contents.{Contents}
 use Rattle.wire.specs.declared.fields.Contents.the-variants.{At, Nothing}
 use Rattle.wire.specs.declared.fields.PackParts.{PackParts}
 use Rattle.wire.specs.declared.fields.PackParts.the-variants.{Two, Three, Neither}
+use Rattle.wire.specs.declared.fields.PackNote.{PackNote}
+use Rattle.wire.specs.declared.fields.PackNote.the-variants as N
 use Rattle.wire.specs.declared.fields.PackFields.{PackFields}
 use Rattle.wire.specs.declared.fields.PackFields.the-variants.{Found, Refused}
 
@@ -62,6 +65,26 @@ abbrev pub PartsTold : List ℕ → PackParts → Type 0
 PartsTold bs Two = partsOf bs ≡ parts bs not-given
 PartsTold bs (Three b c) = ThirdAt bs b c
 PartsTold bs Neither = partsOf bs ≡ no-parts
+
+-- r is the position after the field with this tag at a position, or that position
+pub record PastAt (bs : List ℕ) (at tag r : ℕ) : Type 0 where
+  pub rest : drop r bs ≡ past tag (drop at bs)
+  pub within : at ≤ length bs → r ≤ length bs
+
+-- the note of a pack: what stands before it ends at b, its contents begin at c
+pub record NoteAt (bs : List ℕ) (b c : ℕ) : Type 0 where
+  pub start : c ≡ b + 3
+  pub within : c ≤ length bs
+  pub found : takeNote bs ≡ record { before = take b bs; note = given (drop c bs) }
+
+abbrev pub NoteTold : List ℕ → PackNote → Type 0
+NoteTold bs (N.At b c) = NoteAt bs b c
+NoteTold bs N.Nothing = takeNote bs ≡ record { before = bs; note = not-given }
+
+-- what stands before the note ends at b
+pub record FrontAt (bs : List ℕ) (b : ℕ) : Type 0 where
+  pub within : b ≤ length bs
+  pub front : takeNote bs .before ≡ take b bs
 
 abbrev pub pickBuffer : Bool → List ℕ → List ℕ → List ℕ
 pickBuffer true a b = a

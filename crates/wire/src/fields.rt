@@ -13,13 +13,15 @@ ghost use Rattle.rules.specs.Fields.{wordAt, countsFrom};
 ghost use Rattle.rules.specs.Limits.{between, inRange};
 ghost use Rattle.rules.specs.Machine.{longEnough};
 ghost use Rattle.wire_theory.specs.Header.{headerOf};
-ghost use Rattle.wire.specs.Fields.{fieldAt, packFields, Parted, PartsTold, headed};
+ghost use Rattle.wire.specs.Fields.{fieldAt, packFields, Parted, PartsTold, PastAt, NoteTold, FrontAt, headed};
 
 const COUNTS_TAG: u8 = 1;
 
 const OPERATIONS_TAG: u8 = 2;
 
 pub const POSITIONS_TAG: u8 = 3;
+
+pub const NOTE_TAG: u8 = 4;
 
 // So many bytes stand before the operations: 11 for the counts with their tag and length, 3 for the operations' tag and length.
 pub const HEADER: usize = 14;
@@ -35,6 +37,12 @@ pub enum PackParts {
     Two,
     Three(usize, usize),
     Neither,
+}
+
+// Where a pack's other fields end and where the contents of its note begin, which go to the end of the pack; or it has none.
+pub enum PackNote {
+    At(usize, usize),
+    Nothing,
 }
 
 // Where the contents of a field start and end.
@@ -172,6 +180,45 @@ pub fn parts_of(pack: &[u8]) -> PackParts
         return PackParts::Neither;
     }
     PackParts::Three(b, from)
+}
+
+// The position after the field with this tag, if it is there and whole, else the same position.
+fn past_field(pack: &[u8], at: usize, tag: u8) -> usize
+    ensures { λ r. ⌜ PastAt (now (pack .entry)) at tag r ⌝ }
+{
+    let found = field_at(pack, at, tag);
+    match found {
+        Contents::At(_, end) => end,
+        Contents::Nothing => at,
+    }
+}
+
+// The note of any bytes: the last field, after those of the other tags that are there.
+pub fn note_of(pack: &[u8]) -> PackNote
+    ensures { λ r. ⌜ NoteTold (now (pack .entry)) r ⌝ }
+{
+    let a = past_field(pack, 0, COUNTS_TAG);
+    let b = past_field(pack, a, OPERATIONS_TAG);
+    let c = past_field(pack, b, POSITIONS_TAG);
+    let last = field_at(pack, c, NOTE_TAG);
+    let Contents::At(from, d) = last else {
+        return PackNote::Nothing;
+    };
+    if d != pack.len() {
+        return PackNote::Nothing;
+    }
+    PackNote::At(c, from)
+}
+
+// How many bytes stand before the note; all, if there is none.
+pub fn before_note(pack: &[u8]) -> usize
+    ensures { λ r. ⌜ FrontAt (now (pack .entry)) r ⌝ }
+{
+    let found = note_of(pack);
+    match found {
+        PackNote::At(end, _) => end,
+        PackNote::Nothing => pack.len(),
+    }
 }
 
 // The high byte of a number of two bytes.

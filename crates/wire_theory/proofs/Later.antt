@@ -19,8 +19,8 @@ use Rattle.wire_theory.proofs.Lists.{below-rest}
 use Rattle.wire_theory.proofs.Fields.{take-field, field-found}
 
 -- the bytes before some others
-front : (xs ys : List ℕ) → take (length (xs ++ ys) - length ys) (xs ++ ys) ≡ xs
-front xs ys = take-at xs ys (length (xs ++ ys) - length ys) (omega (arith, length-append xs ys))
+pub front-part : (xs ys : List ℕ) → take (length (xs ++ ys) - length ys) (xs ++ ys) ≡ xs
+front-part xs ys = take-at xs ys (length (xs ++ ys) - length ys) (omega (arith, length-append xs ys))
 
 -- after the operations
 later-written : (two : List ℕ) (g : Given (List ℕ)) → LaterFits g → laterPart two (laterBytes g) ≡ parts two g
@@ -40,10 +40,10 @@ parts-written s ops g l h =
     ap (afterCounts bytes)
     (ap (takeField countsTag) (append-assoc cs os (laterBytes g)) ∙ take-field countsTag (countsOf s) (os ++ laterBytes g) (omega arith))
     ∙ ap (afterOperations bytes) (take-field operationsTag ops (laterBytes g) l)
-    ∙ ap (λ (two : List ℕ). laterPart two (laterBytes g)) (front (cs ++ os) (laterBytes g)) ∙ later-written (cs ++ os) g h
+    ∙ ap (λ (two : List ℕ). laterPart two (laterBytes g)) (front-part (cs ++ os) (laterBytes g)) ∙ later-written (cs ++ os) g h
 
 take-all : (xs : List ℕ) → take (length xs - length {A = ℕ} []) xs ≡ xs
-take-all xs = let e = front xs [] in subst (λ (ys : List ℕ). take (length ys - length {A = ℕ} []) ys ≡ xs) (append-nil xs) e
+take-all xs = let e = front-part xs [] in subst (λ (ys : List ℕ). take (length ys - length {A = ℕ} []) ys ≡ xs) (append-nil xs) e
 
 -- the first two fields alone, whatever bytes they are
 pub two-parts : (bytes : List ℕ) (s : Counts) (ops : List ℕ) → fieldsOf bytes ≡ fields s ops → partsOf bytes ≡ parts bytes not-given
@@ -111,7 +111,7 @@ parts-found bytes two g h e = first (takeField countsTag bytes) refl e
         b ∙ ap (λ (us : List ℕ). fieldOf countsTag cs ++ us) (f .from)
         ∙ sym (append-assoc (fieldOf countsTag cs) (fieldOf operationsTag os) rest) in
         let cut : take (length bytes - length rest) bytes ≡ old =
-        ap (λ (us : List ℕ). take (length us - length rest) us) whole ∙ front old rest in
+        ap (λ (us : List ℕ). take (length us - length rest) us) whole ∙ front-part old rest in
         subst (λ (us : List ℕ). PartsFound us two g) (sym whole)
         (later-found old rest two g (below-rest 256 (fieldOf operationsTag os) rest (subst (λ (us : List ℕ). Bytes us) (f .from) k))
         (subst (λ (us : List ℕ). laterPart us rest ≡ parts two g) cut q))

@@ -1,9 +1,11 @@
 pub mod Buffer
 pub mod Bytes
+pub mod Copies
 pub mod Fields
 pub mod Grid
 pub mod Later
 pub mod Lists
+pub mod Note
 pub mod Numbers
 pub mod Operations
 pub mod Positions

@@ -17,6 +17,18 @@ pub const STATE: usize = 213;
 pub type State = [u16; STATE];
 
 extern "C" {
+    fn cutborder_bench(
+        pack: *const u8,
+        len: usize,
+        triangles: *mut u16,
+        triangles_len: usize,
+        places: *mut Place,
+        places_len: usize,
+        model: *mut [u16; 5],
+        euler: *mut i32,
+        start: *mut usize,
+        length: *mut usize,
+    ) -> u32;
     fn cutborder_begin(
         v: u32,
         t: u32,
@@ -63,12 +75,46 @@ extern "C" {
         places_len: usize,
         size: *mut u32,
     ) -> u32;
+    fn cutborder_pack_note(
+        v: usize,
+        list: *const u16,
+        len: usize,
+        note: *const u8,
+        note_len: usize,
+        numbering: *mut u16,
+        numbering_len: usize,
+        buffer: *mut u8,
+        buffer_len: usize,
+        order: *mut u16,
+        order_len: usize,
+        places: *mut Place,
+        places_len: usize,
+        size: *mut u32,
+    ) -> u32;
     fn cutborder_pack_positions(
         v: usize,
         list: *const u16,
         len: usize,
         positions: *const i16,
         positions_len: usize,
+        numbering: *mut u16,
+        numbering_len: usize,
+        buffer: *mut u8,
+        buffer_len: usize,
+        order: *mut u16,
+        order_len: usize,
+        places: *mut Place,
+        places_len: usize,
+        size: *mut u32,
+    ) -> u32;
+    fn cutborder_pack_positions_note(
+        v: usize,
+        list: *const u16,
+        len: usize,
+        positions: *const i16,
+        positions_len: usize,
+        note: *const u8,
+        note_len: usize,
         numbering: *mut u16,
         numbering_len: usize,
         buffer: *mut u8,
@@ -145,6 +191,18 @@ pub fn volume(pack: &[u8], triangles: &mut [u16], places: &mut [Place]) -> Resul
     Ok((answer(model, euler), six))
 }
 
+/// What unpacking answers, and the note as a part of the pack; empty if there is none or the pack is refused.
+pub fn bench<'a>(pack: &'a [u8], triangles: &mut [u16], places: &mut [Place]) -> (Result<Answer, Refusal>, &'a [u8]) {
+    let (mut model, mut euler) = ([BEFORE.0; 5], BEFORE.1);
+    let (mut start, mut length) = (usize::MAX, usize::MAX);
+    let (ts, ps) = ((triangles.as_mut_ptr(), triangles.len()), (places.as_mut_ptr(), places.len()));
+    let n = unsafe { cutborder_bench(pack.as_ptr(), pack.len(), ts.0, ts.1, ps.0, ps.1, &mut model, &mut euler, &mut start, &mut length) };
+    let told = verdict(n, model == [BEFORE.0; 5] && euler == BEFORE.1).map(|()| answer(model, euler));
+    let is_part = (start, length) == (0, 0) || length > 0 && start.checked_add(length) == Some(pack.len());
+    assert!(is_part, "{length} bytes from {start} on are not the note that ends pack {pack:02x?}");
+    (told, &pack[start..start + length])
+}
+
 fn answer(model: [u16; 5], euler: i32) -> Answer {
     let [v, t, edges, rims, unions] = model.map(u32::from);
     Answer { v, t, edges, rims, unions, euler }
@@ -172,14 +230,24 @@ impl Buffers {
 
 /// A packing, with positions by old vertex if they are given: the pack's length.
 pub fn pack(v: usize, list: &[u16], positions: Option<&[i16]>, lent: PackRooms) -> Result<usize, Refusal> {
+    pack_whole(v, list, positions, None, lent)
+}
+
+/// The same with a note, if it is given.
+pub fn pack_whole(v: usize, list: &[u16], positions: Option<&[i16]>, note: Option<&[u8]>, lent: PackRooms) -> Result<usize, Refusal> {
     let mut size = u32::from(BEFORE.0);
     let (ls, ns) = ((list.as_ptr(), list.len()), (lent.numbering.as_mut_ptr(), lent.numbering.len()));
     let (bs, os) = ((lent.out.as_mut_ptr(), lent.out.len()), (lent.order.as_mut_ptr(), lent.order.len()));
     let ps = (lent.places.as_mut_ptr(), lent.places.len());
-    let n = match positions.map(|zs| (zs.as_ptr(), zs.len())) {
-        None => unsafe { cutborder_pack(v, ls.0, ls.1, ns.0, ns.1, bs.0, bs.1, os.0, os.1, ps.0, ps.1, &mut size) },
-        Some(zs) => unsafe {
-            cutborder_pack_positions(v, ls.0, ls.1, zs.0, zs.1, ns.0, ns.1, bs.0, bs.1, os.0, os.1, ps.0, ps.1, &mut size)
+    let s = &mut size;
+    let n = match (positions.map(|zs| (zs.as_ptr(), zs.len())), note.map(|bytes| (bytes.as_ptr(), bytes.len()))) {
+        (None, None) => unsafe { cutborder_pack(v, ls.0, ls.1, ns.0, ns.1, bs.0, bs.1, os.0, os.1, ps.0, ps.1, s) },
+        (Some(zs), None) => unsafe {
+            cutborder_pack_positions(v, ls.0, ls.1, zs.0, zs.1, ns.0, ns.1, bs.0, bs.1, os.0, os.1, ps.0, ps.1, s)
+        },
+        (None, Some(ts)) => unsafe { cutborder_pack_note(v, ls.0, ls.1, ts.0, ts.1, ns.0, ns.1, bs.0, bs.1, os.0, os.1, ps.0, ps.1, s) },
+        (Some(zs), Some(ts)) => unsafe {
+            cutborder_pack_positions_note(v, ls.0, ls.1, zs.0, zs.1, ts.0, ts.1, ns.0, ns.1, bs.0, bs.1, os.0, os.1, ps.0, ps.1, s)
         },
     };
     verdict(n, size == u32::from(BEFORE.0))?;

@@ -3,6 +3,7 @@
 //! Prints a line for each part; stops at the first difference with the input that shows it.
 
 mod building;
+mod notes;
 mod packings;
 mod positions;
 mod searching;
@@ -160,6 +161,9 @@ fn main() {
     part("packs with positions", || positions::ways(&mut rng, 1_000 * scale));
     part("several refusals of such packs", || positions::faults_together(&mut rng, 4_000 * scale));
     positions::volumes(&mut rng, 500 * scale);
+    part("packs with notes", || notes::ways(&mut rng, 300 * scale));
+    part("several refusals of such packs", || notes::faults_together(&mut rng, 2_000 * scale));
+    notes::packed_again(&mut rng, 2_000 * scale);
     part("packings", || packings::random(&mut rng, 2_000 * scale));
     part("several refusals at once", || packings::faults_together(&mut rng));
     let t = Instant::now();

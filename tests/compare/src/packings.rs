@@ -1,23 +1,35 @@
-//! Packing, with and without positions, compared with the second program: the answer and all four buffers afterwards.
+//! Packing, with and without positions and notes, compared with the second program: the answer and all four buffers afterwards.
 
+use crate::notes::FIT_NOTES;
 use crate::{count, met, models, records, used_places, Tally};
-use compare::expected::{self, contents_of, with_field, LEVEL, LIMITS, UNFIT};
+use compare::expected::{self, contents_of, random_note, with_field, with_note, Way, LEVEL, LIMITS, UNFIT, UNFIT_NOTES};
 use compare::kinds::{self, Kinds};
-use compare::{narrow, pack, unpack, Buffers};
+use compare::{narrow, pack, pack_whole, unpack, Buffers};
 use cutborder::fast::Packer;
 use cutborder::gen::{self, Model};
 use cutborder::rng::Rng;
 use cutborder::{gen02, Place, Refusal};
 
-/// What was answered without positions, with positions that fit and with others, the ways in which these are 23, and what happened in
-/// shortened loops.
+/// What was answered without positions, with positions that fit and with others, the ways in which these are 23, the same with a note,
+/// the ways of notes without positions and with them, and what happened in shortened loops.
 #[derive(Default)]
 struct Seen {
     plain: Tally,
     fit: Tally,
     unfit: Tally,
     ways: Kinds,
+    noted: [Tally; 3],
+    notes: [Kinds; 2],
     kinds: Kinds,
+}
+
+/// Notes that 25 refuses and no field holds; their lengths in 16 bits would do.
+const LONG_NOTES: [Way<u8>; 2] =
+    [("25: 65,537 bytes", |_, note| note.resize(65_537, 9)), ("25: 65,600 bytes", |_, note| note.resize(65_600, 0))];
+
+/// All kinds of notes, half of which 25 refuses.
+fn note_ways() -> Vec<Way<u8>> {
+    [&FIT_NOTES[..], &UNFIT_NOTES, &LONG_NOTES].concat()
 }
 
 /// A flat model with a long rim or many of them, which full loops would hardly hold.
@@ -65,16 +77,23 @@ pub fn random(rng: &mut Rng, rounds: usize) -> (usize, Tally) {
         packing(rng, &m, &mut fast, &mut seen);
     }
     crate::shortened(&seen.kinds);
-    (2 * (rounds + known.len()), told(seen))
+    (3 * (rounds + known.len()), told(seen))
 }
 
-/// Every answer was met without positions, with such as fit (9 and 10 by `faults_together`), and with others, 23 in every way.
+/// Every answer was met without positions, with such as fit (9 and 10 by `faults_together`), and with others, 23 in every way; and so
+/// with notes, of every kind.
 fn told(seen: Seen) -> Tally {
     println!("    with positions: answers {:?}, with such as do not fit {:?}, ways of 23 {:?}", seen.fit, seen.unfit, seen.ways);
+    println!("    with notes, without positions and with both kinds: answers {:?}, ways of notes {:?}", seen.noted, seen.notes);
     met(&seen.plain, &[0, 1, 2, 3, 4, 5, 6, 7, 8, 9, 10, 11, 22]);
     met(&seen.fit, &[0, 1, 2, 3, 4, 5, 6, 7, 8, 11, 22]);
     met(&seen.unfit, &[1, 2, 3, 4, 5, 6, 7, 8, 22, 23]);
     kinds::met(&seen.ways, &UNFIT.map(|(way, _)| way));
+    let [plain, fit, unfit] = &seen.noted;
+    [plain, fit].iter().for_each(|tally| met(tally, &[0, 1, 2, 3, 4, 5, 6, 7, 8, 11, 22, 25]));
+    met(unfit, &[1, 2, 3, 4, 5, 6, 7, 8, 22, 23]);
+    let kinds: Vec<_> = note_ways().iter().map(|&(way, _)| way).collect();
+    seen.notes.iter().for_each(|ways| kinds::met(ways, &kinds));
     seen.plain
 }
 
@@ -101,15 +120,19 @@ fn buffers(rng: &mut Rng, m: &Model, long: usize) -> Buffers {
     }
 }
 
-/// One packing of a model, with positions if they are given, by the service and by the second program: what both answer, and the buffers
-/// afterwards.
-fn alike(m: &Model, positions: Option<&[i32]>, before: &Buffers) -> (Result<usize, Refusal>, Buffers) {
+/// What packing is given beside the list.
+type Given<'a> = (Option<&'a [i32]>, Option<&'a [u8]>);
+
+/// One packing of a model, with positions and a note if they are given, by the service and by the second program: what both answer, and
+/// the buffers afterwards.
+fn alike(m: &Model, given: Given, before: &Buffers) -> (Result<usize, Refusal>, Buffers) {
+    let (positions, note) = given;
     let (mut lent, mut expected) = (before.clone(), before.clone());
-    let answer = expected::pack(m.v, &m.list, positions, expected.lend());
-    let found = pack(m.v as usize, &m.list, positions.map(narrow).as_deref(), lent.lend());
-    assert_eq!(found, answer, "model {}, positions {positions:?}", m.line());
+    let answer = expected::pack_whole(m.v, &m.list, positions, note, expected.lend());
+    let found = pack_whole(m.v as usize, &m.list, positions.map(narrow).as_deref(), note, lent.lend());
+    assert_eq!(found, answer, "model {}, positions and note {given:?}", m.line());
     assert_eq!(lent.numbering, expected.numbering, "numbering of model {}", m.line());
-    assert_eq!(lent.pack, expected.pack, "pack of model {}, positions {positions:?}", m.line());
+    assert_eq!(lent.pack, expected.pack, "pack of model {}, positions and note {given:?}", m.line());
     assert_eq!(lent.order, expected.order, "order of model {}", m.line());
     assert_eq!(lent.places, expected.places, "places after model {}", m.line());
     (answer, lent)
@@ -129,11 +152,12 @@ fn ordered(m: &Model, size: usize, after: &Buffers) {
     }
 }
 
-/// One packing of a model, and the same by the second program's fast engine, which has no order buffer and no 22; then one with positions.
+/// One packing of a model, and the same by the second program's fast engine, which has no order buffer and no 22; then one with positions
+/// and one with a note.
 fn packing(rng: &mut Rng, m: &Model, fast: &mut Packer, seen: &mut Seen) {
     let long = expected::packed(m, None).map_or(20, |p| p.len());
     let before = buffers(rng, m, long);
-    let (answer, after) = alike(m, None, &before);
+    let (answer, after) = alike(m, (None, None), &before);
     count(&mut seen.plain, &answer);
     if let Ok(size) = answer {
         ordered(m, size, &after);
@@ -150,41 +174,83 @@ fn packing(rng: &mut Rng, m: &Model, fast: &mut Packer, seen: &mut Seen) {
         kinds::note_all(&mut seen.kinds, expected::begin(chosen.book.counts, m.list.len(), 1_024).expect("counts"), &ops);
     }
     with_positions(rng, m, long, seen);
+    noted(rng, m, long, seen);
 }
 
-/// One packing of a model with positions, some of which do not fit; without them its pack has so many bytes.
-fn with_positions(rng: &mut Rng, m: &Model, long: usize, seen: &mut Seen) {
+/// Positions for a model, half of which do not fit, in some way.
+fn some_positions(rng: &mut Rng, m: &Model) -> (Vec<i32>, Option<&'static str>) {
     let mut positions = gen02::positions(rng, (m.v as usize).min(5_000));
     let unfit = (rng.chance(1, 2) && !positions.is_empty()).then(|| UNFIT[rng.below(UNFIT.len())]);
     if let Some((_, spoil)) = unfit {
         spoil(rng, &mut positions);
     }
-    let before = buffers(rng, m, long + 3 + 2 * positions.len());
-    let (answer, after) = alike(m, Some(&positions), &before);
+    (positions, unfit.map(|(way, _)| way))
+}
+
+/// One packing of a model with positions, some of which do not fit; without them its pack has so many bytes.
+fn with_positions(rng: &mut Rng, m: &Model, long: usize, seen: &mut Seen) {
+    let (positions, unfit) = some_positions(rng, m);
+    let given = (Some(&positions[..]), None);
+    let before = buffers(rng, m, long + added(given));
+    let (answer, after) = alike(m, given, &before);
     match (unfit, answer) {
-        (None, Ok(size)) => follows(m, &positions, &before, size, &after),
-        (Some((way, _)), Err(23)) => kinds::count(&mut seen.ways, way),
+        (None, Ok(size)) => follows(m, given, &before, size, &after),
+        (Some(way), Err(23)) => kinds::count(&mut seen.ways, way),
         _ => {}
     }
     count(if unfit.is_some() { &mut seen.unfit } else { &mut seen.fit }, &answer);
 }
 
-/// The pack is that of the list followed by the positions in new numbering, and all else is as without them.
-fn follows(m: &Model, positions: &[i32], before: &Buffers, size: usize, after: &Buffers) {
+/// One packing of a model with a note of any kind, and with positions or without.
+fn noted(rng: &mut Rng, m: &Model, long: usize, seen: &mut Seen) {
+    let (positions, unfit) = some_positions(rng, m);
+    let positions = rng.chance(2, 3).then_some(&positions[..]);
+    let ways = note_ways();
+    let (way, change) = ways[rng.below(ways.len())];
+    let mut note = random_note(rng);
+    change(rng, &mut note);
+    let given = (positions, Some(&note[..]));
+    let before = buffers(rng, m, long + added(given));
+    let (answer, after) = alike(m, given, &before);
+    if let Ok(size) = answer {
+        follows(m, given, &before, size, &after);
+    }
+    if matches!(answer, Ok(_) | Err(25)) {
+        assert_eq!(answer.is_err(), way.starts_with("25"), "{way}, model {}", m.line());
+        kinds::count(&mut seen.notes[usize::from(positions.is_some())], way);
+    }
+    let kind = positions.map_or(0, |_| 1 + usize::from(unfit.is_some()));
+    count(&mut seen.noted[kind], &answer);
+}
+
+/// How many bytes positions and a note take in a pack.
+fn added((positions, note): Given) -> usize {
+    positions.map_or(0, |zs| 3 + 2 * zs.len()) + note.map_or(0, |note| 3 + note.len())
+}
+
+/// The pack is that of the list followed by the positions in new numbering and the note, and all else is as without them.
+fn follows(m: &Model, given: Given, before: &Buffers, size: usize, after: &Buffers) {
     let mut lent = before.clone();
     let n = pack(m.v as usize, &m.list, None, lent.lend()).expect("a pack");
-    let mut renumbered = vec![0; positions.len()];
-    for (old, &new) in lent.numbering[..m.v as usize].iter().enumerate() {
-        renumbered[3 * usize::from(new)..][..3].copy_from_slice(&positions[3 * old..][..3]);
+    let mut whole = lent.pack[..n].to_vec();
+    if let (Some(positions), _) = given {
+        let mut renumbered = vec![0; positions.len()];
+        for (old, &new) in lent.numbering[..m.v as usize].iter().enumerate() {
+            renumbered[3 * usize::from(new)..][..3].copy_from_slice(&positions[3 * old..][..3]);
+        }
+        whole = with_field(&whole, &contents_of(&renumbered));
     }
-    let whole = with_field(&lent.pack[..n], &contents_of(&renumbered));
-    assert!(after.pack[..size] == whole && after.pack[size..] == before.pack[size..], "pack of {}, positions {positions:?}", m.line());
+    if let (_, Some(note)) = given {
+        whole = with_note(&whole, note);
+    }
+    assert!(after.pack[..size] == whole && after.pack[size..] == before.pack[size..], "pack of {}, {given:?}", m.line());
     lent.pack.clone_from(&after.pack);
-    assert!(unchanged(&lent, after), "buffers of model {}, positions {positions:?}", m.line());
+    assert!(unchanged(&lent, after), "buffers of model {}, {given:?}", m.line());
 }
 
 /// Models that 7, 9, 10, 11 or nothing refuses, each with short and long buffers in every combination, without positions, with such as
-/// fit and with others: the first refusal in the order 7, 8, 22, 23, 9 to 11 is answered, and what is not past 23 changes nothing.
+/// fit and with others, and with notes likewise: the first refusal in the order 7, 8, 22, 23, 25, 9 to 11 is answered, and what is not
+/// past 25 changes nothing.
 pub fn faults_together(rng: &mut Rng) -> (usize, Tally) {
     let mut tally = Tally::new();
     let tetrahedron = Model { v: 4, list: vec![0, 1, 2, 1, 0, 3, 2, 1, 3, 0, 2, 3] };
@@ -195,36 +261,40 @@ pub fn faults_together(rng: &mut Rng) -> (usize, Tally) {
         let fit = gen02::positions(rng, m.v as usize);
         let unfit = [&fit[1..], &[-2_049]].concat();
         for positions in [None, Some(&fit[..]), Some(&unfit)] {
-            let each = (0..32).map(|i| ([1, 2, 4].map(|bit| i & bit != 0), [0, t - 1, t, t + 1][i / 8]));
-            each.for_each(|(short, order)| count(&mut tally, &fault(&m, own, positions, short, order)));
+            for note in [None, Some(0), Some(64), Some(65)] {
+                let note = note.map(|n| vec![9; n]);
+                let each = (0..32).map(|i| ([1, 2, 4].map(|bit| i & bit != 0), [0, t - 1, t, t + 1][i / 8]));
+                each.for_each(|(short, order)| count(&mut tally, &fault(&m, own, (positions, note.as_deref()), short, order)));
+            }
         }
     }
-    met(&tally, &[0, 7, 8, 9, 10, 11, 22, 23]);
+    met(&tally, &[0, 7, 8, 9, 10, 11, 22, 23, 25]);
     (tally.values().sum(), tally)
 }
 
 /// A model that is refused by its own number, or by none, with too few numbering entries, place records or bytes, or none of these, and
 /// so many order entries.
-fn fault(m: &Model, own: Refusal, positions: Option<&[i32]>, short: [bool; 3], order: usize) -> Result<usize, Refusal> {
+fn fault(m: &Model, own: Refusal, given: Given, short: [bool; 3], order: usize) -> Result<usize, Refusal> {
     let [few_numbers, few_records, few_bytes] = short;
-    let long = expected::packed(m, None).map_or(4_000, |p| p.len()) + positions.map_or(0, |zs| 3 + 2 * zs.len());
+    let long = expected::packed(m, None).map_or(4_000, |p| p.len()) + added(given);
     let before = Buffers {
         numbering: vec![7; m.v as usize - usize::from(few_numbers)],
         pack: vec![5; long - usize::from(few_bytes)],
         order: vec![9; order],
         places: used_places(1_024 - usize::from(few_records)),
     };
-    let (answer, after) = alike(m, positions, &before);
+    let (answer, after) = alike(m, given, &before);
     let expected = match own {
         7 => 7,
         _ if few_numbers || few_records => 8,
         _ if order < m.list.len() / 3 => 22,
-        _ if positions.is_some_and(|zs| zs.last() == Some(&-2_049)) => 23,
+        _ if given.0.is_some_and(|zs| zs.last() == Some(&-2_049)) => 23,
+        _ if given.1.is_some_and(|note| !(1..=64).contains(&note.len())) => 25,
         0 if few_bytes => 11,
         own => own,
     };
     assert_eq!(answer.err().unwrap_or(0), expected, "model {}", m.line());
-    assert!(!matches!(expected, 7 | 8 | 22 | 23) || unchanged(&before, &after), "{expected} changed a buffer, model {}", m.line());
+    assert!(!matches!(expected, 7 | 8 | 22 | 23 | 25) || unchanged(&before, &after), "{expected} changed a buffer, model {}", m.line());
     answer
 }
 

@@ -1,6 +1,6 @@
 //! Packs with positions, changed in every way that 12, 23 and 24 refuse, each way named and met; and what 02 says of volumes.
 
-use crate::unpackings::{buffers, measured, unpacked, Lent};
+use crate::unpackings::{buffers, measured, read, unpacked, Lent};
 use crate::{count, met, used_places, Tally};
 use compare::expected::{self, contents_of, stated_triangles, with_field, Way, UNFIT};
 use compare::kinds::{self, Kinds};
@@ -11,32 +11,42 @@ use cutborder::volume::determinant;
 use cutborder::{gen02, Place, Refusal};
 
 /// A pack, and the name of the way in which it was changed.
-type Changed = (&'static str, Vec<u8>);
+pub type Changed = (&'static str, Vec<u8>);
 
-/// 12: field 03 is not in its place, whole, once, or what follows it is no field.
-fn misplaced(rng: &mut Rng, pack: &[u8]) -> Vec<Changed> {
+/// The parts of a pack without a note: counts, operations and positions, which are empty if it has none.
+pub fn parts(pack: &[u8]) -> [&[u8]; 3] {
     let f = expected::fields(pack).expect("a pack");
     let (counts, rest) = pack.split_at(11);
     let (ops, three) = rest.split_at(3 + f.ops.len());
-    let arrangements: [(&'static str, &[&[u8]]); 15] = [
-        ("12: field 03 twice", &[counts, ops, three, three]),
-        ("12: field 03 twice, once before 02", &[counts, three, ops, three]),
-        ("12: field 03 before 02", &[counts, three, ops]),
-        ("12: field 03 before 01", &[three, counts, ops]),
-        ("12: field 03 and no 02", &[counts, three]),
-        ("12: field 03 and no 01", &[ops, three]),
-        ("12: field 03 cut after its tag", &[counts, ops, &three[..1]]),
-        ("12: field 03 cut in its length", &[counts, ops, &three[..2]]),
-        ("12: field 03 cut in its contents", &[counts, ops, &three[..rng.range(3, three.len() - 1)]]),
-        ("12: a byte after field 03", &[counts, ops, three, &[rng.below(256) as u8]]),
-        ("12: an empty field 04 after 03", &[counts, ops, three, &[4, 0, 0]]),
-        ("12: an empty field 03 after 03", &[counts, ops, three, &[3, 0, 0]]),
-        ("12: another tag for 03", &[counts, ops, &[[0, 1, 2, 4, 5, 0x83][rng.below(6)]], &three[1..]]),
-        ("12: 02 again after field 03", &[counts, ops, three, ops]),
-        ("12: field 01 has seven bytes", &[&[1, 0, 7], &counts[3..10], ops, three]),
-    ];
-    arrangements.iter().map(|(way, parts)| (*way, parts.concat())).collect()
+    [counts, ops, three]
 }
+
+/// A way to arrange the parts of a pack, with its name.
+pub type Arrangement<const N: usize> = (&'static str, fn(&mut Rng, [&[u8]; N]) -> Vec<u8>);
+
+/// The parts of a pack arranged in each of these ways.
+pub fn arranged<const N: usize>(rng: &mut Rng, ways: &[Arrangement<N>], parts: [&[u8]; N]) -> Vec<Changed> {
+    ways.iter().map(|(way, arrange)| (*way, arrange(rng, parts))).collect()
+}
+
+/// Ways for 12: field 03 is not in its place, whole, once, or what follows it is no field.
+const MISPLACED: [Arrangement<3>; 15] = [
+    ("12: field 03 twice", |_, [counts, ops, three]| [counts, ops, three, three].concat()),
+    ("12: field 03 twice, once before 02", |_, [counts, ops, three]| [counts, three, ops, three].concat()),
+    ("12: field 03 before 02", |_, [counts, ops, three]| [counts, three, ops].concat()),
+    ("12: field 03 before 01", |_, [counts, ops, three]| [three, counts, ops].concat()),
+    ("12: field 03 and no 02", |_, [counts, _, three]| [counts, three].concat()),
+    ("12: field 03 and no 01", |_, [_, ops, three]| [ops, three].concat()),
+    ("12: field 03 cut after its tag", |_, [counts, ops, three]| [counts, ops, &three[..1]].concat()),
+    ("12: field 03 cut in its length", |_, [counts, ops, three]| [counts, ops, &three[..2]].concat()),
+    ("12: field 03 cut in its contents", |rng, [counts, ops, three]| [counts, ops, &three[..rng.range(3, three.len() - 1)]].concat()),
+    ("12: a byte after field 03", |rng, [counts, ops, three]| [counts, ops, three, &[rng.below(256) as u8]].concat()),
+    ("12: an empty field 05 after 03", |_, [counts, ops, three]| [counts, ops, three, &[5, 0, 0]].concat()),
+    ("12: an empty field 03 after 03", |_, [counts, ops, three]| [counts, ops, three, &[3, 0, 0]].concat()),
+    ("12: another tag for 03", |rng, [counts, ops, three]| [counts, ops, &[[0, 1, 2, 5, 0x83][rng.below(5)]], &three[1..]].concat()),
+    ("12: 02 again after field 03", |_, [counts, ops, three]| [counts, ops, three, ops].concat()),
+    ("12: field 01 has seven bytes", |_, [counts, ops, three]| [&[1, 0, 7][..], &counts[3..10], ops, three].concat()),
+];
 
 /// Ways to change the contents of a field so that 23 refuses them, beside those of positions.
 const UNFIT_BYTES: [Way<u8>; 3] = [
@@ -46,7 +56,7 @@ const UNFIT_BYTES: [Way<u8>; 3] = [
 ];
 
 /// A list changed in each of these ways.
-fn each_way<T: Clone>(rng: &mut Rng, ways: &[Way<T>], list: &[T]) -> Vec<(&'static str, Vec<T>)> {
+pub fn each_way<T: Clone>(rng: &mut Rng, ways: &[Way<T>], list: &[T]) -> Vec<(&'static str, Vec<T>)> {
     let change = |(way, change): &Way<T>| {
         let mut list = list.to_vec();
         change(rng, &mut list);
@@ -80,8 +90,8 @@ fn unmeasured(positions: bool, rims: u32) -> Option<&'static str> {
 /// 23 goes before 24.
 const RIM_TOO: &str = "23: any of these, and a rim";
 
-/// What 12 leaves, all as it was, and what 20 leaves, which 23 and 24 leave too: 3T entries and 1,024 records are zero.
-fn leaves(refusal: Refusal, b: &[u8], before: &Lent, after: &Lent) -> bool {
+/// What 12 leaves, all as it was, and what 20 leaves, which 23 to 25 leave too: 3T entries and 1,024 records are zero.
+pub fn leaves(refusal: Refusal, b: &[u8], before: &Lent, after: &Lent) -> bool {
     let mut left = before.clone();
     if refusal > 14 {
         left.triangles[..3 * stated_triangles(b)].fill(0);
@@ -91,19 +101,19 @@ fn leaves(refusal: Refusal, b: &[u8], before: &Lent, after: &Lent) -> bool {
 }
 
 /// Ample buffers for a pack.
-fn buffers_for(b: &[u8]) -> Lent {
+pub fn buffers_for(b: &[u8]) -> Lent {
     Lent { triangles: vec![7; 3 * stated_triangles(b) + 2], places: used_places(1_025) }
 }
 
-/// A pack that both calls refuse, or if it is 24 the volume call alone, in ample buffers.
-fn refused(way: &'static str, refusal: Refusal, b: &[u8], ways: &mut Kinds, tally: &mut Tally) {
+/// A pack that all three calls refuse, or if it is 24 the volume call alone, in ample buffers.
+pub fn refused(way: &'static str, refusal: Refusal, b: &[u8], ways: &mut Kinds, tally: &mut Tally) {
     let before = buffers_for(b);
-    let (answer, after) = measured(b, &before);
-    assert_eq!(answer, Err(refusal), "{way}, pack {b:02x?}");
-    assert!(leaves(refusal, b, &before, &after), "{way}: buffers of pack {b:02x?}");
-    let (answer, after) = unpacked(b, &before);
-    assert_eq!(answer.err(), Some(refusal).filter(|&n| n != 24), "{way}, pack {b:02x?}");
-    assert!(refusal == 24 || leaves(refusal, b, &before, &after), "{way}: buffers of pack {b:02x?}");
+    let found = read(b, &before);
+    let ((measured, left), (unpacked, left_too)) = (found.measured, found.unpacked);
+    assert_eq!(measured, Err(refusal), "{way}, pack {b:02x?}");
+    assert!(leaves(refusal, b, &before, &left), "{way}: buffers of pack {b:02x?}");
+    assert_eq!(unpacked.err(), Some(refusal).filter(|&n| n != 24), "{way}, pack {b:02x?}");
+    assert!(refusal == 24 || leaves(refusal, b, &before, &left_too), "{way}: buffers of pack {b:02x?}");
     kinds::count(ways, way);
     count(tally, &Err::<(), _>(refusal));
 }
@@ -120,7 +130,7 @@ fn changed(rng: &mut Rng, m: &Model, ways: &mut Kinds, tally: &mut Tally) {
             None => count(tally, &measured(b, &buffers_for(b)).0),
         }
     }
-    misplaced(rng, &whole).iter().for_each(|(way, b)| refused(way, 12, b, ways, tally));
+    arranged(rng, &MISPLACED, parts(&whole)).iter().for_each(|(way, b)| refused(way, 12, b, ways, tally));
     for (way, b) in unfit(rng, &two, &positions) {
         refused(way, 23, &b, ways, tally);
         if rims > 0 {
@@ -137,6 +147,7 @@ pub fn ways(rng: &mut Rng, rounds: usize) -> (usize, Tally) {
         changed(rng, &m, &mut ways, &mut tally);
     }
     println!("    ways: {ways:?}");
+    kinds::met(&ways, &MISPLACED.map(|(way, _)| way));
     kinds::met(&ways, &UNMEASURED);
     kinds::met(&ways, &UNFIT.map(|(way, _)| way));
     kinds::met(&ways, &UNFIT_BYTES.map(|(way, _)| way));
@@ -148,7 +159,7 @@ pub fn ways(rng: &mut Rng, rounds: usize) -> (usize, Tally) {
 /// A pack of two fields that one of 13 to 20 refuses is refused so if positions follow that 23 would refuse.
 fn earlier(rng: &mut Rng, tally: &mut Tally) {
     let two = if rng.chance(1, 2) { expected::random_pack(rng, 40) } else { expected::random_whole_pack(rng) };
-    if !expected::fields(&two).is_ok_and(|f| f.positions.is_none()) {
+    if !expected::fields(&two).is_ok_and(|f| f.positions.is_none() && f.note.is_none()) {
         return;
     }
     let before = buffers(rng, &two);

@@ -5,10 +5,20 @@ use cutborder::{Answer, Place, Refusal, MAX_INPUT};
 
 type Reading<A> = fn(&[u8], &mut [u16], &mut [Place]) -> Result<A, Refusal>;
 
-/// What a call answers to a program's input, and the triangles that it wrote, as text. An input that is too long counts as 12.
+/// A program's input as a pack: one that is too long counts as an empty one, for 12 refuses both.
+fn pack_of(input: &[u8]) -> &[u8] {
+    if input.len() > MAX_INPUT { &[] } else { input }
+}
+
+/// Buffers of the most triangles and places.
+fn lent() -> (Vec<u16>, Vec<Place>) {
+    (vec![0; 24_576], vec![Place::default(); 1_024])
+}
+
+/// What a call answers to a program's input, and the triangles that it wrote, as text.
 fn answered<A>(input: &[u8], call: Reading<A>, text: impl FnOnce(A, &[u16]) -> String) -> String {
-    let (mut triangles, mut places) = (vec![0; 24_576], vec![Place::default(); 1_024]);
-    let answer = if input.len() > MAX_INPUT { Err(12) } else { call(input, &mut triangles, &mut places) };
+    let (mut triangles, mut places) = lent();
+    let answer = call(pack_of(input), &mut triangles, &mut places);
     answer.map_or_else(refused, |a| text(a, &triangles))
 }
 
@@ -30,12 +40,19 @@ pub fn measured(input: &[u8]) -> String {
     answered(input, expected::volume, |(_, six), _| format!("six {six}\n"))
 }
 
-/// All that the program `pack` must write for a model, with positions if they are given: the pack, or the line of a refusal; and its
-/// order, if it has one.
-pub fn packed(v: u64, list: &[u16], positions: Option<&[i32]>) -> (Vec<u8>, Option<String>) {
+/// All that the program `note` must write for some bytes, and what it must say on standard error.
+pub fn noted(input: &[u8]) -> (Vec<u8>, String) {
+    let (mut triangles, mut places) = lent();
+    let (answer, note) = expected::bench(pack_of(input), &mut triangles, &mut places);
+    (note.to_vec(), answer.map_or_else(refused, |_| String::new()))
+}
+
+/// All that the program `pack` must write for a model, with positions and a note if they are given: the pack, or the line of a refusal;
+/// and its order, if it has one.
+pub fn packed(v: u64, list: &[u16], positions: Option<&[i32]>, note: Option<&[u8]>) -> (Vec<u8>, Option<String>) {
     let t = list.len() / 3;
     let mut lent = Buffers::ample(v.min(4_096) as usize, t);
-    match expected::pack(v, list, positions, lent.lend()) {
+    match expected::pack_whole(v, list, positions, note, lent.lend()) {
         Ok(n) => (lent.pack[..n].to_vec(), Some(lent.order[..t].iter().map(|k| format!("{k}\n")).collect())),
         Err(n) => (refused(n).into_bytes(), None),
     }

@@ -1,9 +1,10 @@
-//! Unpacking and the volume call compared with the second program: the answers and both buffers afterwards.
+//! The calls that read a pack, unpacking, the volume call and the bench reader, compared with the second program: the answers and both
+//! buffers afterwards.
 
 use crate::{count, met, models, records, used_places, Tally};
 use compare::expected::{self, LEVEL};
 use compare::kinds::{self, Kinds};
-use compare::{unpack, volume};
+use compare::{bench, unpack, volume};
 use cutborder::fast::Unpacker;
 use cutborder::proto::unhex;
 use cutborder::rng::Rng;
@@ -12,24 +13,40 @@ use std::fmt::Debug;
 
 const PACKS: &str = include_str!("../../../reference/vectors/packs.txt");
 
-/// What is lent to either call.
+/// What is lent to each call.
 #[derive(Clone, PartialEq)]
 pub struct Lent {
     pub triangles: Vec<u16>,
     pub places: Vec<Place>,
 }
 
-/// Either call, the service's or the second program's.
-type Call<A> = fn(&[u8], &mut [u16], &mut [Place]) -> Result<A, Refusal>;
+/// One of the calls, the service's or the second program's.
+type Call<'a, A> = fn(&'a [u8], &mut [u16], &mut [Place]) -> A;
 
 /// One call of the service and of the second program: what both answer, and the buffers afterwards.
-fn alike<A: Debug + PartialEq>(b: &[u8], before: &Lent, ours: Call<A>, second: Call<A>) -> (Result<A, Refusal>, Lent) {
+fn alike<'a, A: Debug + PartialEq>(b: &'a [u8], before: &Lent, ours: Call<'a, A>, second: Call<'a, A>) -> (A, Lent) {
     let (mut lent, mut expected) = (before.clone(), before.clone());
     let answer = second(b, &mut expected.triangles, &mut expected.places);
     assert_eq!(ours(b, &mut lent.triangles, &mut lent.places), answer, "pack {b:02x?}");
     assert_eq!(lent.triangles, expected.triangles, "triangles of pack {b:02x?}");
     assert_eq!(lent.places, expected.places, "places after pack {b:02x?}");
     (answer, lent)
+}
+
+/// What unpacking and the volume call answer and leave, and the note.
+#[derive(PartialEq)]
+pub struct Read<'a> {
+    pub unpacked: (Result<Answer, Refusal>, Lent),
+    pub measured: (Result<(Answer, i64), Refusal>, Lent),
+    pub note: &'a [u8],
+}
+
+/// A pack read by all three calls; the bench reader answers and writes as unpacking.
+pub fn read<'a>(b: &'a [u8], before: &Lent) -> Read<'a> {
+    let (unpacked, measured) = (unpacked(b, before), measured(b, before));
+    let ((answer, note), after) = alike(b, before, bench, expected::bench);
+    assert!(answer == unpacked.0 && after == unpacked.1, "the bench reader and unpacking differ, pack {b:02x?}");
+    Read { unpacked, measured, note }
 }
 
 pub fn unpacked(b: &[u8], before: &Lent) -> (Result<Answer, Refusal>, Lent) {
@@ -47,23 +64,25 @@ pub fn buffers(rng: &mut Rng, b: &[u8]) -> Lent {
     Lent { triangles: vec![7; numbers], places: used_places(records(rng)) }
 }
 
-/// What was answered, and what happened in shortened loops.
+/// What was answered, how many notes were handed back, and what happened in shortened loops.
 #[derive(Default)]
 struct Seen {
     unpacks: Tally,
     volumes: Tally,
+    notes: usize,
     kinds: Kinds,
 }
 
-/// Some bytes unpacked and measured in buffers of some length.
+/// Some bytes read in buffers of some length.
 fn unpacking(rng: &mut Rng, b: &[u8], fast: &mut Unpacker, seen: &mut Seen) {
     let before = buffers(rng, b);
-    let (answer, after) = unpacked(b, &before);
+    let Read { unpacked: (answer, after), measured, note } = read(b, &before);
     count(&mut seen.unpacks, &answer);
-    count(&mut seen.volumes, &measured(b, &before).0);
+    count(&mut seen.volumes, &measured.0);
+    seen.notes += usize::from(!note.is_empty());
     let fields = expected::fields(b);
-    if answer != Err(23) {
-        // The fast engine knows two fields and no 23.
+    if !matches!(answer, Err(23 | 25)) {
+        // The fast engine knows two fields and neither of these.
         let two = fields.map_or(b.len(), |f| 14 + f.ops.len());
         let mut lent = before.clone();
         let found = fast.unpack_at(LEVEL, &b[..two], &mut lent.triangles, &mut lent.places);
@@ -75,7 +94,7 @@ fn unpacking(rng: &mut Rng, b: &[u8], fast: &mut Unpacker, seen: &mut Seen) {
     }
 }
 
-/// A pack, with positions or without, sound or spoilt, or any bytes.
+/// A pack, with positions and a note or without, sound or spoilt, or any bytes.
 fn bytes(rng: &mut Rng) -> Vec<u8> {
     let mut b = match rng.below(6) {
         0 => (0..rng.below(40)).map(|_| rng.below(256) as u8).collect(),
@@ -101,11 +120,14 @@ fn bytes(rng: &mut Rng) -> Vec<u8> {
     b
 }
 
-/// A sound model's pack, or nothing if it is refused; half of them have positions.
+/// A sound model's pack, or nothing if it is refused; half of them have positions, half a note.
 fn sound_pack(rng: &mut Rng) -> Vec<u8> {
     let m = gen::sound(rng, 200);
     let positions = rng.chance(1, 2).then(|| gen02::positions(rng, m.v as usize));
-    expected::packed(&m, positions.as_deref()).unwrap_or_default()
+    match expected::packed(&m, positions.as_deref()) {
+        Some(pack) if rng.chance(1, 2) => expected::with_note(&pack, &expected::random_note(rng)),
+        pack => pack.unwrap_or_default(),
+    }
 }
 
 /// Bytes that are no pack, or hardly one.
@@ -115,7 +137,7 @@ pub fn strings(rng: &mut Rng, rounds: usize) -> (usize, Tally) {
         let b = bytes(rng);
         unpacking(rng, &b, &mut fast, &mut seen);
     }
-    told(seen, &[0, 12, 13, 14, 15, 16, 17, 18, 19, 23], rounds)
+    told(seen, &[0, 12, 13, 14, 15, 16, 17, 18, 19, 23, 25], rounds)
 }
 
 /// Packs of all kinds, sound and spoilt.
@@ -134,12 +156,13 @@ pub fn unpacks(rng: &mut Rng, rounds: usize) -> (usize, Tally) {
         unpacking(rng, &b, &mut fast, &mut seen);
     }
     crate::shortened(&seen.kinds);
-    told(seen, &[0, 12, 13, 14, 15, 16, 17, 18, 19, 20, 23], rounds + packs.len())
+    told(seen, &[0, 12, 13, 14, 15, 16, 17, 18, 19, 20, 23, 25], rounds + packs.len())
 }
 
-/// All of these answers were met by both calls, and 24 by the volume's, which is printed.
+/// All of these answers were met by each call, 24 by the volume's, which is printed, and notes were handed back.
 fn told(seen: Seen, answers: &[u8], n: usize) -> (usize, Tally) {
-    println!("    measured: answers {:?}", seen.volumes);
+    println!("    measured: answers {:?}; {} notes handed back", seen.volumes, seen.notes);
+    assert!(seen.notes > 0, "no note was handed back");
     met(&seen.unpacks, answers);
     met(&seen.volumes, answers);
     met(&seen.volumes, &[24]);

@@ -69,17 +69,19 @@ fn integer(n: i64) -> String {
     argument(signed(n))
 }
 
-/// A packing without positions.
+/// A packing with nothing beside the list.
 pub fn packing(x: &Packing) -> String {
     let [limits, vertices, list, lent, answer, left] = packing_fields(x);
     record(&[limits, vertices, list, lent, answer, left])
 }
 
-/// A packing with positions, if they are given.
+/// A packing with positions and a note, if they are given.
 pub fn whole_packing(x: &Packing) -> String {
     let [limits, vertices, list, lent, answer, left] = packing_fields(x);
-    let positions = x.positions.as_ref().map_or("not-given".into(), |p| format!("given {}", self::list(p, |&n| signed(n.into()))));
-    record(&[limits, vertices, list, ("positions", positions), lent, answer, left])
+    let given = |value: Option<String>| value.map_or("not-given".into(), |shown| format!("given {shown}"));
+    let positions = given(x.extras.positions.as_ref().map(|p| self::list(p, |&n| signed(n.into()))));
+    let note = given(x.extras.note.as_ref().map(|n| numbers(n)));
+    record(&[limits, vertices, list, ("positions", positions), ("note", note), lent, answer, left])
 }
 
 fn packing_fields(x: &Packing) -> [(&'static str, String); 6] {
@@ -126,7 +128,7 @@ pub fn unpacking(x: &Unpacking) -> String {
     record(&[("bytes", numbers(&x.bytes)), ("lent", unpack_buffers(&x.lent)), ("answer", answer), ("left", unpack_buffers(&x.left))])
 }
 
-/// A pack that may have positions, unpacked and measured.
+/// A pack that may have positions and a note, unpacked, measured and read by the bench reader.
 pub fn whole(x: &Whole) -> String {
     let unpacked = model_or_refusal(x.unpacked.as_ref().map_err(|n| *n));
     let measured = model_or_refusal(x.measured.as_ref().map(|m| &m.0).map_err(|n| *n));
@@ -136,6 +138,8 @@ pub fn whole(x: &Whole) -> String {
         ("lent", unpack_buffers(&x.lent)),
         ("unpacking", format!("unpackTold ({unpacked}) ({})", unpack_buffers(&x.left))),
         ("measuring", format!("volumeTold ({measured}) {six} ({})", unpack_buffers(&x.left_measured))),
+        ("note", numbers(&x.note)),
+        ("start", x.start.to_string()),
     ])
 }
 

@@ -1,9 +1,10 @@
-//! Random cases: models, damaged lists, packs, damaged packs, lists of calls, looks across an edge, and models and packs with positions.
+//! Random cases: models, damaged lists, packs, damaged packs, lists of calls, looks across an edge, and models and packs with positions
+//! and a note.
 
 use crate::antt;
 use crate::expected::{self, LIMITS};
 use crate::prelude::{prelude, Home};
-use crate::second::{Building, PackBuffers, Packing, UnpackBuffers, Unpacking, Whole};
+use crate::second::{Building, Extras, PackBuffers, Packing, UnpackBuffers, Unpacking, Whole};
 use cutborder::gen::{self, Model};
 use cutborder::rng::Rng;
 use cutborder::{gen02, Place};
@@ -77,13 +78,21 @@ fn positions(rng: &mut Rng, v: usize) -> Vec<i32> {
     all
 }
 
-/// A packing with positions, or now and then without.
+/// A note; now and then it is too short or too long.
+fn note(rng: &mut Rng) -> Vec<u8> {
+    let n = [0, 1, 1, 2, 9, 30, 63, 64, 64, 65, 100][rng.below(11)];
+    (0..n).map(|_| rng.next() as u8).collect()
+}
+
+/// A packing with positions and a note, or now and then without.
 pub fn whole_packing(rng: &mut Rng, max_t: usize) -> Packing {
     let m = short(150, || if rng.chance(1, 6) { gen::model(rng, max_t) } else { gen02::model(rng) }, |m| &m.list);
     let limits = limits(rng);
-    let given = rng.chance(7, 8).then(|| positions(rng, m.v.min(60) as usize));
-    let lent = lent(rng, &m, packed_size(&m) + given.as_ref().map_or(0, |p| 3 + 2 * p.len()));
-    Packing::given(limits, m.v, &m.list, given, lent)
+    let positions = rng.chance(3, 4).then(|| positions(rng, m.v.min(60) as usize));
+    let note = rng.chance(2, 3).then(|| note(rng));
+    let extras = Extras { positions, note };
+    let lent = lent(rng, &m, packed_size(&m) + extras.size());
+    Packing::given(limits, m.v, &m.list, extras, lent)
 }
 
 pub fn unpacking(rng: &mut Rng, max_t: usize) -> Unpacking {
@@ -95,7 +104,7 @@ pub fn unpacking(rng: &mut Rng, max_t: usize) -> Unpacking {
     Unpacking::new(&bytes, lent)
 }
 
-/// A pack that may have positions, unpacked and measured.
+/// A pack that may have positions and a note, unpacked, measured and read by the bench reader.
 pub fn whole(rng: &mut Rng) -> Whole {
     let bytes = short(220, || expected::random_whole_pack(rng), |b| b);
     let t = expected::stated_triangles(&bytes);

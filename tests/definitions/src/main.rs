@@ -9,9 +9,12 @@
 mod antt;
 mod cases;
 mod edit;
+// tests/compare asks for more of it.
+#[allow(dead_code)]
 #[path = "../../expected.rs"]
 mod expected;
 mod lines;
+mod notes;
 mod positions;
 mod prelude;
 mod second;

@@ -2,19 +2,19 @@
 
 use crate::antt;
 use crate::expected::LIMITS;
-use crate::second::{PackBuffers, Packing, UnpackBuffers, Whole};
+use crate::second::{Extras, PackBuffers, Packing, UnpackBuffers, Whole};
 use crate::table::{model, M1, SPLIT, USED};
 use cutborder::proto::unhex;
 
-type Row = (String, String);
+pub type Row = (String, String);
 
 /// Different numbers for v vertices, of both signs and in both bytes.
-fn different(v: usize) -> Vec<i32> {
+pub fn different(v: usize) -> Vec<i32> {
     (1..=3 * v as i32).map(|i| (37 * i * i + 611 * i) % 4_096 - 2_048).collect()
 }
 
 /// These numbers with one of them changed.
-fn with(mut positions: Vec<i32>, i: usize, n: i32) -> Vec<i32> {
+pub fn with(mut positions: Vec<i32>, i: usize, n: i32) -> Vec<i32> {
     positions[i] = n;
     positions
 }
@@ -27,18 +27,23 @@ fn named<T>(name: &str, answer: &Result<T, u8>) -> String {
     }
 }
 
-fn pack_row(name: &str, limits: (u32, u32), line: &str, positions: Option<Vec<i32>>, change: impl Fn(&mut PackBuffers)) -> Row {
+/// A packing of a model with what is given beside it, in buffers with some entries more than are needed, changed so.
+pub fn packing_row(name: &str, limits: (u32, u32), line: &str, extras: Extras, change: impl Fn(&mut PackBuffers)) -> Row {
     let (v, list) = model(line);
     let (v, t) = (v as usize, list.len() / 3);
-    let mut buffers =
-        PackBuffers { numbering: vec![7; v + 1], places: vec![USED; 1_024], pack: vec![5; 24 + 6 * v + t], order: vec![9; t + 1] };
+    let long = 24 + 6 * v + t + extras.note.as_ref().map_or(0, |n| 3 + n.len());
+    let mut buffers = PackBuffers { numbering: vec![7; v + 1], places: vec![USED; 1_024], pack: vec![5; long], order: vec![9; t + 1] };
     change(&mut buffers);
-    let x = Packing::given(limits, v as u64, &list, positions, buffers);
-    (named(&format!("positions: {name}"), &x.answer), antt::whole_packing(&x))
+    let x = Packing::given(limits, v as u64, &list, extras, buffers);
+    (named(name, &x.answer), antt::whole_packing(&x))
 }
 
-const TRIANGLE: &str = "3 0 1 2";
-const TETRAHEDRON: &str = "4 0 1 2 1 0 3 2 1 3 0 2 3";
+fn pack_row(name: &str, limits: (u32, u32), line: &str, positions: Option<Vec<i32>>, change: impl Fn(&mut PackBuffers)) -> Row {
+    packing_row(&format!("positions: {name}"), limits, line, Extras { positions, note: None }, change)
+}
+
+pub const TRIANGLE: &str = "3 0 1 2";
+pub const TETRAHEDRON: &str = "4 0 1 2 1 0 3 2 1 3 0 2 3";
 const TURNED: &str = "4 1 0 2 0 1 3 1 2 3 2 0 3";
 const TORUS: &str = "7 0 1 3 1 2 4 2 3 5 3 4 6 4 5 0 5 6 1 6 0 2 1 0 5 2 1 6 3 2 0 4 3 1 5 4 2 6 5 3 0 6 4";
 
@@ -118,7 +123,7 @@ pub fn packings() -> Vec<Row> {
 }
 
 /// A pack, with so many entries of a triangle buffer and of a place list; before the call the former holds 1 2 0 again and again.
-fn whole_row(name: &str, bytes: &[u8], triangles: usize, places: usize) -> Row {
+pub fn whole_row(name: &str, bytes: &[u8], triangles: usize, places: usize) -> Row {
     let numbers = (1..=triangles).map(|i| (i % 3) as u16).collect();
     let x = Whole::new(bytes, UnpackBuffers { triangles: numbers, places: vec![USED; places] });
     let told = match (&x.unpacked, &x.measured) {
@@ -130,11 +135,11 @@ fn whole_row(name: &str, bytes: &[u8], triangles: usize, places: usize) -> Row {
 }
 
 /// The second program's pack of a model with positions.
-fn packed(line: &str, positions: &[i32]) -> Vec<u8> {
+pub fn packed(line: &str, positions: &[i32]) -> Vec<u8> {
     let (v, list) = model(line);
     let lent =
         PackBuffers { numbering: vec![0; v as usize], places: vec![USED; 1_024], pack: vec![0; 500], order: vec![0; list.len() / 3] };
-    let x = Packing::given(LIMITS, v, &list, Some(positions.to_vec()), lent);
+    let x = Packing::given(LIMITS, v, &list, Extras { positions: Some(positions.to_vec()), note: None }, lent);
     x.left.pack[..x.answer.expect("a pack")].to_vec()
 }
 
@@ -160,15 +165,15 @@ fn volumes() -> Vec<Row> {
 }
 
 /// The counts and the operations of M4, and of one that has the same list and V 2.
-const COUNTS: [u8; 11] = [1, 0, 8, 0, 3, 0, 2, 0, 3, 0, 1];
-const V_2: [u8; 11] = [1, 0, 8, 0, 2, 0, 2, 0, 3, 0, 1];
-const OPERATIONS: [u8; 4] = [2, 0, 1, 0xf4];
+pub const COUNTS: [u8; 11] = [1, 0, 8, 0, 3, 0, 2, 0, 3, 0, 1];
+pub const V_2: [u8; 11] = [1, 0, 8, 0, 2, 0, 2, 0, 3, 0, 1];
+pub const OPERATIONS: [u8; 4] = [2, 0, 1, 0xf4];
 
-fn field(tag: u8, contents: &[u8]) -> Vec<u8> {
+pub fn field(tag: u8, contents: &[u8]) -> Vec<u8> {
     [&[tag], &(contents.len() as u16).to_be_bytes()[..], contents].concat()
 }
 
-fn field_of(positions: &[i32]) -> Vec<u8> {
+pub fn field_of(positions: &[i32]) -> Vec<u8> {
     field(3, &positions.iter().flat_map(|&n| (n as i16).to_be_bytes()).collect::<Vec<u8>>())
 }
 
@@ -186,8 +191,8 @@ fn misplaced() -> Vec<Row> {
         ("12: field 03 cut in its length", vec![counts, ops, &three[..2]]),
         ("12: field 03 cut in its contents", vec![counts, ops, &three[..20]]),
         ("12: a byte after field 03", vec![counts, ops, three, &[0]]),
-        ("12: tag 04 after field 03", vec![counts, ops, three, &[4, 0, 0]]),
-        ("12: tag 04 for 03", vec![counts, ops, &[4], &three[1..]]),
+        ("12: tag 05 after field 03", vec![counts, ops, three, &[5, 0, 0]]),
+        ("12: tag 05 for 03", vec![counts, ops, &[5], &three[1..]]),
         ("12: 02 again after field 03", vec![counts, ops, three, ops]),
         ("12: 01 has a length of 7, and field 03", vec![short, ops, three]),
         ("12 before 13: a byte after field 03", vec![&V_2, ops, three, &[0]]),

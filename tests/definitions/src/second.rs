@@ -5,7 +5,7 @@ use cutborder::book::Book;
 use cutborder::fields::Fields;
 use cutborder::ops::{encode_ops, Counts, Op};
 use cutborder::plain::{self, Chosen, PackRooms};
-use cutborder::{volume, Answer, Level, Place, Refusal};
+use cutborder::{note, volume, Answer, Level, Place, Refusal};
 
 #[derive(Clone)]
 pub struct PackBuffers {
@@ -15,11 +15,25 @@ pub struct PackBuffers {
     pub order: Vec<u16>,
 }
 
+/// What is packed beside the list, if it is given: positions by old vertex, and a note.
+#[derive(Default)]
+pub struct Extras {
+    pub positions: Option<Vec<i32>>,
+    pub note: Option<Vec<u8>>,
+}
+
+impl Extras {
+    /// The bytes of their fields.
+    pub fn size(&self) -> usize {
+        self.positions.as_ref().map_or(0, |p| 3 + 2 * p.len()) + self.note.as_ref().map_or(0, |n| 3 + n.len())
+    }
+}
+
 pub struct Packing {
     pub limits: (u32, u32),
     pub v: u64,
     pub list: Vec<u16>,
-    pub positions: Option<Vec<i32>>,
+    pub extras: Extras,
     pub lent: PackBuffers,
     pub answer: Result<usize, Refusal>,
     pub left: PackBuffers,
@@ -27,33 +41,34 @@ pub struct Packing {
 
 impl Packing {
     pub fn new(limits: (u32, u32), v: u64, list: &[u16], lent: PackBuffers) -> Packing {
-        Packing::given(limits, v, list, None, lent)
+        Packing::given(limits, v, list, Extras::default(), lent)
     }
 
-    /// A packing that may be given positions.
-    pub fn given(limits: (u32, u32), v: u64, list: &[u16], positions: Option<Vec<i32>>, lent: PackBuffers) -> Packing {
+    /// A packing that may be given positions and a note.
+    pub fn given(limits: (u32, u32), v: u64, list: &[u16], extras: Extras, lent: PackBuffers) -> Packing {
         let mut left = lent.clone();
         let answer = if limits == LIMITS {
             let PackBuffers { numbering, places, pack, order } = &mut left;
-            expected::pack(v, list, positions.as_deref(), PackRooms { numbering, places, out: pack, order })
+            let rooms = PackRooms { numbering, places, out: pack, order };
+            expected::pack_whole(v, list, extras.positions.as_deref(), extras.note.as_deref(), rooms)
         } else {
-            pack_within(limits, v, list, positions.as_deref(), &mut left)
+            pack_within(limits, v, list, &extras, &mut left)
         };
-        Packing { limits, v, list: list.to_vec(), positions, lent, answer, left }
+        Packing { limits, v, list: list.to_vec(), extras, lent, answer, left }
     }
 }
 
-/// The second program's pack of a list, with positions by old vertex if they are given.
-fn pack_of(v: u64, t: usize, positions: Option<&[i32]>, ops: &[Op], chosen: &Chosen) -> Vec<u8> {
+/// The second program's pack of a list, with what is given beside it.
+fn pack_of(v: u64, t: usize, extras: &Extras, ops: &[Op], chosen: &Chosen) -> Vec<u8> {
     let book = &chosen.book;
     let counts = Counts { v: v as u32, t: t as u32, places: book.peak_places, loops: book.peak_loops };
-    let field = positions.map(|p| volume::write(p, &chosen.number));
-    Fields { counts, codes: None, ops: &encode_ops(ops), positions: field.as_deref(), note: None }.bytes()
+    let field = extras.positions.as_ref().map(|p| volume::write(p, &chosen.number));
+    Fields { counts, codes: None, ops: &encode_ops(ops), positions: field.as_deref(), note: extras.note.as_deref() }.bytes()
 }
 
-/// Packing with other limits on places and loops: the second program's choice, with 8, 22, 23, 11 and the buffers by our hand. At the
+/// Packing with other limits on places and loops: the second program's choice, with 8, 22, 23, 25, 11 and the buffers by our hand. At the
 /// rules' own limits tests/compare has them all from the second program.
-fn pack_within(limits: (u32, u32), v: u64, list: &[u16], positions: Option<&[i32]>, r: &mut PackBuffers) -> Result<usize, Refusal> {
+fn pack_within(limits: (u32, u32), v: u64, list: &[u16], extras: &Extras, r: &mut PackBuffers) -> Result<usize, Refusal> {
     plain::check(v, list)?;
     let n = v as usize;
     if r.numbering.len() < n || r.places.len() < 1_024 {
@@ -63,13 +78,16 @@ fn pack_within(limits: (u32, u32), v: u64, list: &[u16], positions: Option<&[i32
     if r.order.len() < t {
         return Err(22);
     }
-    if positions.is_some_and(|p| p.len() != 3 * n || !p.iter().all(|&x| volume::in_range(x))) {
+    if extras.positions.as_ref().is_some_and(|p| p.len() != 3 * n || !p.iter().all(|&x| volume::in_range(x))) {
         return Err(23);
+    }
+    if extras.note.as_ref().is_some_and(|x| !note::sound(x)) {
+        return Err(25);
     }
     let chosen = expected::choose(v, list, limits);
     r.places[..1_024].fill(Place::default());
     let result = chosen.and_then(|(ops, chosen)| {
-        let bytes = pack_of(v, t, positions, &ops, &chosen);
+        let bytes = pack_of(v, t, extras, &ops, &chosen);
         if bytes.len() > r.pack.len() {
             Err(11)
         } else {
@@ -92,7 +110,7 @@ fn pack_within(limits: (u32, u32), v: u64, list: &[u16], positions: Option<&[i32
     }
 }
 
-#[derive(Clone)]
+#[derive(Clone, PartialEq)]
 pub struct UnpackBuffers {
     pub triangles: Vec<u16>,
     pub places: Vec<Place>,
@@ -115,7 +133,8 @@ impl Unpacking {
     }
 }
 
-/// A pack that may have positions: unpacked, and measured by the volume call.
+/// A pack that may have positions and a note: unpacked, measured by the volume call, and read by the bench reader, which hands back the
+/// note and where it starts in the pack, 0 if it is empty.
 pub struct Whole {
     pub bytes: Vec<u8>,
     pub lent: UnpackBuffers,
@@ -123,6 +142,8 @@ pub struct Whole {
     pub left: UnpackBuffers,
     pub measured: Result<(Answer, i64), Refusal>,
     pub left_measured: UnpackBuffers,
+    pub note: Vec<u8>,
+    pub start: usize,
 }
 
 impl Whole {
@@ -131,7 +152,11 @@ impl Whole {
         let unpacked = expected::unpack(bytes, &mut left.triangles, &mut left.places);
         let mut left_measured = lent.clone();
         let measured = expected::volume(bytes, &mut left_measured.triangles, &mut left_measured.places);
-        Whole { bytes: bytes.to_vec(), lent, unpacked, left, measured, left_measured }
+        let mut left_read = lent.clone();
+        let (read, note) = expected::bench(bytes, &mut left_read.triangles, &mut left_read.places);
+        assert!(read == unpacked && left_read == left, "the bench reader answers and writes as unpacking: {bytes:?}");
+        let start = if note.is_empty() { 0 } else { note.as_ptr() as usize - bytes.as_ptr() as usize };
+        Whole { bytes: bytes.to_vec(), lent, unpacked, left, measured, left_measured, note: note.to_vec(), start }
     }
 }
 

@@ -3,6 +3,7 @@
 use crate::antt;
 use crate::expected::{self, LIMITS};
 use crate::lines;
+use crate::notes;
 use crate::positions;
 use crate::prelude::{prelude, Home};
 use crate::second::{Building, PackBuffers, Packing, UnpackBuffers, Unpacking};
@@ -324,8 +325,8 @@ pub fn module() -> String {
         ("callRows", "CallRow", "callsRight", buildings()),
         ("fieldsRows", "FieldsRow", "fieldsRight", packs()),
         ("lookRows", "LookRow", "lookRight", looks()),
-        ("wholePackRows", "WholePackRow", "wholePackRight", positions::packings()),
-        ("wholeRows", "WholeRow", "wholeRight", positions::packs()),
+        ("wholePackRows", "WholePackRow", "wholePackRight", [positions::packings(), notes::packings()].concat()),
+        ("wholeRows", "WholeRow", "wholeRight", [positions::packs(), notes::packs()].concat()),
     ];
     let (uses, unfolding) = prelude(&Home::Rules, &sections.each_ref().map(|s| s.0));
     let mut out = String::from(

@@ -49,6 +49,7 @@ use Rattle.rules.proofs.Packed as MPacked
 use Rattle.rules.proofs.Packed.Laws as MPacked′
 use Rattle.places.proofs.Walking.{tyAt}
 use Rattle.rules.specs.Later.{not-given}
+use Rattle.rules.specs.PackWhole.{extras}
 use Rattle.rules.specs.Answer.{packedAnswer}
 use Rattle.promises.specs.Promises.{Packs}
 use Rattle.capi.specs.Answered.{numberOf, sizeAfter}
@@ -158,8 +159,9 @@ module _ {M : Type 1} (𝓤 : URA M) (H : Heap 𝓤) (A : Atoms 𝓤) (W : Given
 
   exits : (r0 : Packed) (u0 : Val) (is0 : Is XPacked r0 (u0 ∷ [])) (ys₃ : List ℕ) (ys₄ : List ℕ) (ys₅ : List ℕ) (ys₆ : List Place)
       (same₃ : length ys₃ ≡ length xs₃) (same₄ : length ys₄ ≡ length xs₄) (same₅ : length ys₅ ≡ length xs₅)
-      (same₆ : length ys₆ ≡ length xs₆) (e0 : Packs a₁ xs₂ not-given xs₃ xs₄ xs₅ xs₆ r0 ys₃ ys₄ ys₅ ys₆) (r1 : ℕ) (u1 : Val)
-      (is1 : Is u32 r1 (u1 ∷ [])) (ys₇ : ℕ) (e1 : (r1 ≡ numberOf (packedAnswer r0)) × (ys₇ ≡ sizeAfter h₇ (packedAnswer r0)))
+      (same₆ : length ys₆ ≡ length xs₆) (e0 : Packs a₁ xs₂ (extras not-given not-given) xs₃ xs₄ xs₅ xs₆ r0 ys₃ ys₄ ys₅ ys₆) (r1 : ℕ)
+      (u1 : Val) (is1 : Is u32 r1 (u1 ∷ [])) (ys₇ : ℕ)
+      (e1 : (r1 ≡ numberOf (packedAnswer r0)) × (ys₇ ≡ sizeAfter h₇ (packedAnswer r0)))
       → ent 𝓤 (⋆ 𝓤 H A (‵ (flft κ₀ q₀) ∷ ‵ (flft κ₁ q₁) ∷ ‵ (flft κ₂ q₂) ∷ ‵ (flft κ₃ q₃) ∷ ‵ (flft κ₄ q₄) ∷ ‵ (flft κ₅ q₅)
       ∷ ‵ (ShrSlice (named 0) κ₀ u16 .own x₂ (sliceVal (b₂, o₂) (length xs₂) ∷ [])) ∷ ‵ (finally u16 γ₃ ys₃) ∷ ‵ (finally u8 γ₄ ys₄)
       ∷ ‵ (finally u16 γ₅ ys₅) ∷ ‵ (finally R γ₆ ys₆) ∷ ‵ (fres γ₇ (u32 .coded .code ys₇)) ∷ ‵ (u32 .own r1 (u1 ∷ [])) ∷ []))
@@ -171,7 +173,7 @@ module _ {M : Type 1} (𝓤 : URA M) (H : Heap 𝓤) (A : Atoms 𝓤) (W : Given
       suffices ! _ (ends-at 𝓤 H A public.ended stayed (public.clauses 𝓤 H A at-mem run) W
       (((κ₀, (κ₁, (κ₂, (κ₃, (κ₄, (κ₅, tt)))))), (q₀, (q₁, (q₂, (q₃, (q₄, (q₅, tt)))))), tt, x, at), tt) u1 r1
       (tt, (tt, (ys₃, (ys₄, (ys₅, (ys₆, (ys₇, tt))))))) (tt, (tt, (same₃, (same₄, (same₅, (same₆, (tt, tt))))))))
-      $ says ! (packs-for a₁ xs₂ not-given xs₃ xs₄ xs₅ xs₆ h₇ r0 r1 ys₃ ys₄ ys₅ ys₆ ys₇ e0 e1) $
+      $ says ! (packs-for a₁ xs₂ (extras not-given not-given) xs₃ xs₄ xs₅ xs₆ h₇ r0 r1 ys₃ ys₄ ys₅ ys₆ ys₇ e0 e1) $
       nothing ! $ move ! (6 ∷ 0 ∷ []) $ join ! $ move ! (5 ∷ 0 ∷ []) $ join ! $ move ! (4 ∷ 0 ∷ []) $ join ! $ move ! (3 ∷ 0 ∷ []) $ join !
       $ move ! (2 ∷ 0 ∷ []) $ join ! $ move ! (1 ∷ 0 ∷ []) $ join ! $ frame ! $ nothing ! $ move ! (6 ∷ 0 ∷ []) $ fjoin !
       $ move ! (5 ∷ 0 ∷ []) $ fjoin ! $ move ! (4 ∷ 0 ∷ []) $ fjoin ! $ move ! (3 ∷ 0 ∷ []) $ fjoin ! $ move ! (2 ∷ 0 ∷ [])
@@ -225,13 +227,14 @@ module _ {M : Type 1} (𝓤 : URA M) (H : Heap 𝓤) (A : Atoms 𝓤) (W : Given
 
   abbrev to-1 : (r0 : Packed) (u0 : Val) (is0 : Is XPacked r0 (u0 ∷ [])) (ys₃ : List ℕ) (ys₄ : List ℕ) (ys₅ : List ℕ) (ys₆ : List Place)
       (same₃ : length ys₃ ≡ length xs₃) (same₄ : length ys₄ ≡ length xs₄) (same₅ : length ys₅ ≡ length xs₅)
-      (same₆ : length ys₆ ≡ length xs₆) (e0 : Packs a₁ xs₂ not-given xs₃ xs₄ xs₅ xs₆ r0 ys₃ ys₄ ys₅ ys₆) → F1 𝓤 H A at-mem run .Ghost
+      (same₆ : length ys₆ ≡ length xs₆) (e0 : Packs a₁ xs₂ (extras not-given not-given) xs₃ xs₄ xs₅ xs₆ r0 ys₃ ys₄ ys₅ ys₆)
+      → F1 𝓤 H A at-mem run .Ghost
   to-1 r0 u0 is0 ys₃ ys₄ ys₅ ys₆ same₃ same₄ same₅ same₆ e0 =
       (((κ₅, tt), (q₅, tt), tt, (r0, (x₇, tt)), (u0 ∷ [], (vptr b₇ o₇ ∷ [], tt))), tt)
 
   goes-1 : (r0 : Packed) (u0 : Val) (is0 : Is XPacked r0 (u0 ∷ [])) (ys₃ : List ℕ) (ys₄ : List ℕ) (ys₅ : List ℕ) (ys₆ : List Place)
       (same₃ : length ys₃ ≡ length xs₃) (same₄ : length ys₄ ≡ length xs₄) (same₅ : length ys₅ ≡ length xs₅)
-      (same₆ : length ys₆ ≡ length xs₆) (e0 : Packs a₁ xs₂ not-given xs₃ xs₄ xs₅ xs₆ r0 ys₃ ys₄ ys₅ ys₆)
+      (same₆ : length ys₆ ≡ length xs₆) (e0 : Packs a₁ xs₂ (extras not-given not-given) xs₃ xs₄ xs₅ xs₆ r0 ys₃ ys₄ ys₅ ys₆)
       → ent 𝓤 (⋆ 𝓤 H A (‵ (flft κ₅ q₅) ∷ ‵ (MutRef (named 5) κ₅ u32 .own x₇ (vptr b₇ o₇ ∷ [])) ∷ []))
       (F1 𝓤 H A at-mem run .pre (to-1 r0 u0 is0 ys₃ ys₄ ys₅ ys₆ same₃ same₄ same₅ same₆ e0))
   goes-1 r0 u0 is0 ys₃ ys₄ ys₅ ys₆ same₃ same₄ same₅ same₆ e0 =
@@ -249,7 +252,7 @@ module _ {M : Type 1} (𝓤 : URA M) (H : Heap 𝓤) (A : Atoms 𝓤) (W : Given
 
     step-1 : (r0 : Packed) (u0 : Val) (is0 : Is XPacked r0 (u0 ∷ [])) (ys₃ : List ℕ) (ys₄ : List ℕ) (ys₅ : List ℕ) (ys₆ : List Place)
         (same₃ : length ys₃ ≡ length xs₃) (same₄ : length ys₄ ≡ length xs₄) (same₅ : length ys₅ ≡ length xs₅)
-        (same₆ : length ys₆ ≡ length xs₆) (e0 : Packs a₁ xs₂ not-given xs₃ xs₄ xs₅ xs₆ r0 ys₃ ys₄ ys₅ ys₆)
+        (same₆ : length ys₆ ≡ length xs₆) (e0 : Packs a₁ xs₂ (extras not-given not-given) xs₃ xs₄ xs₅ xs₆ r0 ys₃ ys₄ ys₅ ys₆)
         → ent 𝓤 (⋆ 𝓤 H A (‵ (froom (ty 0) l₀ 0) ∷ ‵ (fat fullShare (ty 1) l₁ 0 (vint w64 a₁))
         ∷ ‵ (fat fullShare (ty 2) l₂ 0 (sliceVal (b₂, o₂) (length xs₂)))
         ∷ ‵ (fat fullShare (ty 3) l₃ 0 (sliceVal (b₃, o₃) (length xs₃)))
@@ -482,10 +485,10 @@ module _ {M : Type 1} (𝓤 : URA M) (H : Heap 𝓤) (A : Atoms 𝓤) (W : Given
         split ! $ move ! (1 ∷ [])
         $ use1 W (some (λ (zs0 : Unit {0} × (Unit {0} × (List ℕ × (List ℕ × (List ℕ × (List Place × (Unit {0}))))))).
         ‵ (lasts f0′.ended (κ₀, (κ₁, (κ₂, (κ₃, (κ₄, tt))))) (a₁, (x₂, (x₃, (x₄, (x₅, (x₆, tt)))))) zs0) ⊛ raw
-        (fact 𝓤 (Packs a₁ xs₂ not-given xs₃ xs₄ xs₅ xs₆ r0 (zs0 .1 .1 .0) (zs0 .1 .1 .1 .0) (zs0 .1 .1 .1 .1 .0)
-        (zs0 .1 .1 .1 .1 .1 .0))))) (id⊢ 𝓤 _) $ pick ! (λ zs0.
+        (fact 𝓤 (Packs a₁ xs₂ (extras not-given not-given) xs₃ xs₄ xs₅ xs₆ r0 (zs0 .1 .1 .0) (zs0 .1 .1 .1 .0)
+        (zs0 .1 .1 .1 .1 .0) (zs0 .1 .1 .1 .1 .1 .0))))) (id⊢ 𝓤 _) $ pick ! (λ zs0.
         split ! $ move ! (1 ∷ [])
-        $ heard ! (Packs a₁ xs₂ not-given xs₃ xs₄ xs₅ xs₆ r0 (zs0 .1 .1 .0) (zs0 .1 .1 .1 .0) (zs0 .1 .1 .1 .1 .0)
+        $ heard ! (Packs a₁ xs₂ (extras not-given not-given) xs₃ xs₄ xs₅ xs₆ r0 (zs0 .1 .1 .0) (zs0 .1 .1 .1 .0) (zs0 .1 .1 .1 .1 .0)
         (zs0 .1 .1 .1 .1 .1 .0))
         (λ e0. fsplit ! $ drop ! $ fsplit ! $ drop ! $ fsplit ! $ fsplit ! $ move ! (1 ∷ [])
         $ feqL ! (λ same₃. move ! (1 ∷ []) $ fsplit ! $ fsplit ! $ move ! (1 ∷ [])

@@ -49,7 +49,8 @@ use Rattle.rules.specs.declared.Packed.{Packed}
 use Rattle.rules.proofs.Packed as MPacked
 use Rattle.rules.proofs.Packed.Laws as MPacked′
 use Rattle.places.proofs.Walking.{tyAt}
-use Rattle.rules.specs.Later.{given}
+use Rattle.rules.specs.Later.{not-given, given}
+use Rattle.rules.specs.PackWhole.{extras}
 use Rattle.rules.specs.Answer.{packedAnswer}
 use Rattle.promises.specs.Promises.{Packs}
 use Rattle.capi.specs.Answered.{numberOf, sizeAfter}
@@ -170,8 +171,9 @@ module _ {M : Type 1} (𝓤 : URA M) (H : Heap 𝓤) (A : Atoms 𝓤) (W : Given
 
   exits : (r0 : Packed) (u0 : Val) (is0 : Is XPacked r0 (u0 ∷ [])) (ys₄ : List ℕ) (ys₅ : List ℕ) (ys₆ : List ℕ) (ys₇ : List Place)
       (same₄ : length ys₄ ≡ length xs₄) (same₅ : length ys₅ ≡ length xs₅) (same₆ : length ys₆ ≡ length xs₆)
-      (same₇ : length ys₇ ≡ length xs₇) (e0 : Packs a₁ xs₂ (given xs₃) xs₄ xs₅ xs₆ xs₇ r0 ys₄ ys₅ ys₆ ys₇) (r1 : ℕ) (u1 : Val)
-      (is1 : Is u32 r1 (u1 ∷ [])) (ys₈ : ℕ) (e1 : (r1 ≡ numberOf (packedAnswer r0)) × (ys₈ ≡ sizeAfter h₈ (packedAnswer r0)))
+      (same₇ : length ys₇ ≡ length xs₇) (e0 : Packs a₁ xs₂ (extras (given xs₃) not-given) xs₄ xs₅ xs₆ xs₇ r0 ys₄ ys₅ ys₆ ys₇) (r1 : ℕ)
+      (u1 : Val) (is1 : Is u32 r1 (u1 ∷ [])) (ys₈ : ℕ)
+      (e1 : (r1 ≡ numberOf (packedAnswer r0)) × (ys₈ ≡ sizeAfter h₈ (packedAnswer r0)))
       → ent 𝓤 (⋆ 𝓤 H A (‵ (flft κ₀ q₀) ∷ ‵ (flft κ₁ q₁) ∷ ‵ (flft κ₂ q₂) ∷ ‵ (flft κ₃ q₃) ∷ ‵ (flft κ₄ q₄) ∷ ‵ (flft κ₅ q₅) ∷ ‵ (flft κ₆ q₆)
       ∷ ‵ (ShrSlice (named 0) κ₀ u16 .own x₂ (sliceVal (b₂, o₂) (length xs₂) ∷ []))
       ∷ ‵ (ShrSlice (named 1) κ₁ i16 .own x₃ (sliceVal (b₃, o₃) (length xs₃) ∷ [])) ∷ ‵ (finally u16 γ₄ ys₄) ∷ ‵ (finally u8 γ₅ ys₅)
@@ -185,7 +187,7 @@ module _ {M : Type 1} (𝓤 : URA M) (H : Heap 𝓤) (A : Atoms 𝓤) (W : Given
       suffices ! _ (ends-at 𝓤 H A public.ended stayed (public.clauses 𝓤 H A at-mem run) W
       (((κ₀, (κ₁, (κ₂, (κ₃, (κ₄, (κ₅, (κ₆, tt))))))), (q₀, (q₁, (q₂, (q₃, (q₄, (q₅, (q₆, tt))))))), tt, x, at), tt) u1 r1
       (tt, (tt, (tt, (ys₄, (ys₅, (ys₆, (ys₇, (ys₈, tt)))))))) (tt, (tt, (tt, (same₄, (same₅, (same₆, (same₇, (tt, tt)))))))))
-      $ says ! (packs-for a₁ xs₂ (given xs₃) xs₄ xs₅ xs₆ xs₇ h₈ r0 r1 ys₄ ys₅ ys₆ ys₇ ys₈ e0 e1) $
+      $ says ! (packs-for a₁ xs₂ (extras (given xs₃) not-given) xs₄ xs₅ xs₆ xs₇ h₈ r0 r1 ys₄ ys₅ ys₆ ys₇ ys₈ e0 e1) $
       nothing ! $ move ! (7 ∷ 0 ∷ []) $ join ! $ move ! (6 ∷ 0 ∷ []) $ join ! $ move ! (5 ∷ 0 ∷ []) $ join ! $ move ! (4 ∷ 0 ∷ []) $ join !
       $ move ! (3 ∷ 0 ∷ []) $ join ! $ move ! (2 ∷ 0 ∷ []) $ join ! $ move ! (1 ∷ 0 ∷ []) $ join ! $ frame ! $ nothing !
       $ move ! (7 ∷ 0 ∷ []) $ fjoin ! $ move ! (6 ∷ 0 ∷ []) $ fjoin ! $ move ! (5 ∷ 0 ∷ []) $ fjoin ! $ move ! (4 ∷ 0 ∷ [])
@@ -247,13 +249,14 @@ module _ {M : Type 1} (𝓤 : URA M) (H : Heap 𝓤) (A : Atoms 𝓤) (W : Given
 
   abbrev to-1 : (r0 : Packed) (u0 : Val) (is0 : Is XPacked r0 (u0 ∷ [])) (ys₄ : List ℕ) (ys₅ : List ℕ) (ys₆ : List ℕ) (ys₇ : List Place)
       (same₄ : length ys₄ ≡ length xs₄) (same₅ : length ys₅ ≡ length xs₅) (same₆ : length ys₆ ≡ length xs₆)
-      (same₇ : length ys₇ ≡ length xs₇) (e0 : Packs a₁ xs₂ (given xs₃) xs₄ xs₅ xs₆ xs₇ r0 ys₄ ys₅ ys₆ ys₇) → F1 𝓤 H A at-mem run .Ghost
+      (same₇ : length ys₇ ≡ length xs₇) (e0 : Packs a₁ xs₂ (extras (given xs₃) not-given) xs₄ xs₅ xs₆ xs₇ r0 ys₄ ys₅ ys₆ ys₇)
+      → F1 𝓤 H A at-mem run .Ghost
   to-1 r0 u0 is0 ys₄ ys₅ ys₆ ys₇ same₄ same₅ same₆ same₇ e0 =
       (((κ₆, tt), (q₆, tt), tt, (r0, (x₈, tt)), (u0 ∷ [], (vptr b₈ o₈ ∷ [], tt))), tt)
 
   goes-1 : (r0 : Packed) (u0 : Val) (is0 : Is XPacked r0 (u0 ∷ [])) (ys₄ : List ℕ) (ys₅ : List ℕ) (ys₆ : List ℕ) (ys₇ : List Place)
       (same₄ : length ys₄ ≡ length xs₄) (same₅ : length ys₅ ≡ length xs₅) (same₆ : length ys₆ ≡ length xs₆)
-      (same₇ : length ys₇ ≡ length xs₇) (e0 : Packs a₁ xs₂ (given xs₃) xs₄ xs₅ xs₆ xs₇ r0 ys₄ ys₅ ys₆ ys₇)
+      (same₇ : length ys₇ ≡ length xs₇) (e0 : Packs a₁ xs₂ (extras (given xs₃) not-given) xs₄ xs₅ xs₆ xs₇ r0 ys₄ ys₅ ys₆ ys₇)
       → ent 𝓤 (⋆ 𝓤 H A (‵ (flft κ₆ q₆) ∷ ‵ (MutRef (named 6) κ₆ u32 .own x₈ (vptr b₈ o₈ ∷ [])) ∷ []))
       (F1 𝓤 H A at-mem run .pre (to-1 r0 u0 is0 ys₄ ys₅ ys₆ ys₇ same₄ same₅ same₆ same₇ e0))
   goes-1 r0 u0 is0 ys₄ ys₅ ys₆ ys₇ same₄ same₅ same₆ same₇ e0 =
@@ -272,7 +275,7 @@ module _ {M : Type 1} (𝓤 : URA M) (H : Heap 𝓤) (A : Atoms 𝓤) (W : Given
 
     step-1 : (r0 : Packed) (u0 : Val) (is0 : Is XPacked r0 (u0 ∷ [])) (ys₄ : List ℕ) (ys₅ : List ℕ) (ys₆ : List ℕ) (ys₇ : List Place)
         (same₄ : length ys₄ ≡ length xs₄) (same₅ : length ys₅ ≡ length xs₅) (same₆ : length ys₆ ≡ length xs₆)
-        (same₇ : length ys₇ ≡ length xs₇) (e0 : Packs a₁ xs₂ (given xs₃) xs₄ xs₅ xs₆ xs₇ r0 ys₄ ys₅ ys₆ ys₇)
+        (same₇ : length ys₇ ≡ length xs₇) (e0 : Packs a₁ xs₂ (extras (given xs₃) not-given) xs₄ xs₅ xs₆ xs₇ r0 ys₄ ys₅ ys₆ ys₇)
         → ent 𝓤 (⋆ 𝓤 H A (‵ (froom (ty 0) l₀ 0) ∷ ‵ (fat fullShare (ty 1) l₁ 0 (vint w64 a₁))
         ∷ ‵ (fat fullShare (ty 2) l₂ 0 (sliceVal (b₂, o₂) (length xs₂)))
         ∷ ‵ (fat fullShare (ty 3) l₃ 0 (sliceVal (b₃, o₃) (length xs₃)))
@@ -556,11 +559,11 @@ module _ {M : Type 1} (𝓤 : URA M) (H : Heap 𝓤) (A : Atoms 𝓤) (W : Given
         split ! $ move ! (1 ∷ [])
         $ use1 W (some (λ (zs0 : Unit {0} × (Unit {0} × (Unit {0} × (List ℕ × (List ℕ × (List ℕ × (List Place × (Unit {0})))))))).
         ‵ (lasts f0′.ended (κ₀, (κ₁, (κ₂, (κ₃, (κ₄, (κ₅, tt)))))) (a₁, (x₂, (x₃, (x₄, (x₅, (x₆, (x₇, tt))))))) zs0) ⊛ raw
-        (fact 𝓤 (Packs a₁ xs₂ (given xs₃) xs₄ xs₅ xs₆ xs₇ r0 (zs0 .1 .1 .1 .0) (zs0 .1 .1 .1 .1 .0) (zs0 .1 .1 .1 .1 .1 .0)
-        (zs0 .1 .1 .1 .1 .1 .1 .0))))) (id⊢ 𝓤 _) $ pick ! (λ zs0.
+        (fact 𝓤 (Packs a₁ xs₂ (extras (given xs₃) not-given) xs₄ xs₅ xs₆ xs₇ r0 (zs0 .1 .1 .1 .0) (zs0 .1 .1 .1 .1 .0)
+        (zs0 .1 .1 .1 .1 .1 .0) (zs0 .1 .1 .1 .1 .1 .1 .0))))) (id⊢ 𝓤 _) $ pick ! (λ zs0.
         split ! $ move ! (1 ∷ [])
-        $ heard ! (Packs a₁ xs₂ (given xs₃) xs₄ xs₅ xs₆ xs₇ r0 (zs0 .1 .1 .1 .0) (zs0 .1 .1 .1 .1 .0) (zs0 .1 .1 .1 .1 .1 .0)
-        (zs0 .1 .1 .1 .1 .1 .1 .0))
+        $ heard ! (Packs a₁ xs₂ (extras (given xs₃) not-given) xs₄ xs₅ xs₆ xs₇ r0 (zs0 .1 .1 .1 .0) (zs0 .1 .1 .1 .1 .0)
+        (zs0 .1 .1 .1 .1 .1 .0) (zs0 .1 .1 .1 .1 .1 .1 .0))
         (λ e0. fsplit ! $ drop ! $ fsplit ! $ drop ! $ fsplit ! $ drop ! $ fsplit ! $ fsplit ! $ move ! (1 ∷ [])
         $ feqL ! (λ same₄. move ! (1 ∷ []) $ fsplit ! $ fsplit ! $ move ! (1 ∷ [])
         $ feqL ! (λ same₅. move ! (1 ∷ []) $ fsplit ! $ fsplit ! $ move ! (1 ∷ [])

@@ -50,7 +50,7 @@ use Rattle.rules.specs.declared.Measured.{Measured}
 use Rattle.rules.proofs.Measured as MMeasured
 use Rattle.rules.proofs.Measured.Laws as MMeasured′
 use Rattle.places.proofs.Walking.{tyAt}
-use Rattle.rules.specs.UnpackWhole.{measuredAnswer, measuredSix}
+use Rattle.rules.specs.Reading.{measuredAnswer, measuredSix}
 use Rattle.promises.specs.Promises.{Measures}
 use Rattle.capi.specs.Answered.{numberOf, modelAfter, eulerAfter, sixAfter}
 use Rattle.capi.proofs.Laws.{measures-for}

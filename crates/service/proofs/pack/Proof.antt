@@ -55,9 +55,8 @@ use Rattle.border_theory.proofs.Records.Reading.{counted}
 use Rattle.border_theory.proofs.Records.Counting.{count-fits}
 use Rattle.places.proofs.Walking.{tyAt}
 use Rattle.border_theory.specs.Records.Changes.{clearedTo}
-use Rattle.rules.specs.Later.{not-given}
 use Rattle.pack_theory.specs.Packing.Lent.{PackedOn, clearedBy}
-use Rattle.service.proofs.PackLaws.{packs, packs-fit}
+use Rattle.service.proofs.PackLaws.{packs-alone, packs-alone-fit}
 use Rattle.places.proofs.count as count′
 use Rattle.places.proofs.count.Symbol as count-def
 use Rattle.places.proofs.count.Symbol.{name as #count}
@@ -199,7 +198,7 @@ module _ {M : Type 1} (𝓤 : URA M) (H : Heap 𝓤) (A : Atoms 𝓤) (W : Given
       suffices ! _ (ends-at 𝓤 H A public.ended stayed (public.clauses 𝓤 H A at-mem run) W
       (((κ₀, (κ₁, (κ₂, (κ₃, (κ₄, tt))))), (q₀, (q₁, (q₂, (q₃, (q₄, tt))))), tt, x, at), tt) u r
       (tt, (tt, (ys₃, (ys₄, (ys₅, (ps′, tt)))))) (tt, (tt, (l′₃, (l′₄, (l′₅, (lp, tt)))))))
-      $ says ! (packs a₁ xs₂ not-given xs₃ xs₄ xs₅ ps r ys₃ ys₄ ys₅ e ps′ ep) $
+      $ says ! (packs-alone a₁ xs₂ xs₃ xs₄ xs₅ ps r ys₃ ys₄ ys₅ e ps′ ep) $
       nothing ! $ move ! (5 ∷ 0 ∷ []) $ join ! $ move ! (4 ∷ 0 ∷ []) $ join ! $ move ! (3 ∷ 0 ∷ []) $ join ! $ move ! (2 ∷ 0 ∷ []) $ join !
       $ move ! (1 ∷ 0 ∷ []) $ join ! $ frame ! $ nothing ! $ move ! (5 ∷ 0 ∷ []) $ fjoin ! $ move ! (4 ∷ 0 ∷ []) $ fjoin !
       $ move ! (3 ∷ 0 ∷ []) $ fjoin ! $ move ! (2 ∷ 0 ∷ []) $ fjoin ! $ move ! (1 ∷ 0 ∷ []) $ fjoin !
@@ -264,7 +263,7 @@ module _ {M : Type 1} (𝓤 : URA M) (H : Heap 𝓤) (A : Atoms 𝓤) (W : Given
       $ nothing ! $ move ! (1 ∷ 0 ∷ []) $ frame ! $ done !
 
   fits : (r : Packed) (ys₃ : List ℕ) (ys₄ : List ℕ) (ys₅ : List ℕ) → PackedOn a₁ xs₂ xs₃ xs₄ xs₅ n r ys₃ ys₄ ys₅ → clearedBy r ≤ length ps
-  fits r ys₃ ys₄ ys₅ e = packs-fit a₁ xs₂ not-given xs₃ xs₄ xs₅ ps r ys₃ ys₄ ys₅ e
+  fits r ys₃ ys₄ ys₅ e = packs-alone-fit a₁ xs₂ xs₃ xs₄ xs₅ ps r ys₃ ys₄ ys₅ e
 
   few : (r : Packed) → clearedBy r ≤ length ps → clearedBy r < 2 ^ 64
   few r l = omega (arith, l, gn .0)

@@ -56,7 +56,9 @@ use Rattle.border_theory.proofs.Records.Reading.{counted}
 use Rattle.border_theory.proofs.Records.Counting.{count-fits}
 use Rattle.places.proofs.Walking.{tyAt}
 use Rattle.border_theory.specs.Records.Changes.{clearedTo}
-use Rattle.rules.specs.Later.{given}
+use Rattle.rules.specs.Later.{not-given, given}
+use Rattle.rules.specs.PackWhole.{extras}
+use Rattle.rules.specs.PackWhole.{extras}
 use Rattle.positions_theory.specs.Packing.{PackedWholeOn}
 use Rattle.pack_theory.specs.Packing.Lent.{clearedBy}
 use Rattle.service.proofs.PackLaws.{packs, packs-fit}
@@ -199,8 +201,8 @@ module _ {M : Type 1} (𝓤 : URA M) (H : Heap 𝓤) (A : Atoms 𝓤) (W : Given
   small = count-fits (length ps) (gn .0)
 
   exits : (r : Packed) (ys₄ : List ℕ) (ys₅ : List ℕ) (ys₆ : List ℕ) (ps′ : List Place) (u : Val)
-      → PackedWholeOn a₁ xs₂ xs₃ xs₄ xs₅ xs₆ n r ys₄ ys₅ ys₆ → ps′ ≡ clearedTo (clearedBy r) ps → length ys₄ ≡ length xs₄
-      → length ys₅ ≡ length xs₅ → length ys₆ ≡ length xs₆ → length ps′ ≡ length ps
+      → PackedWholeOn a₁ xs₂ (extras (given xs₃) not-given) xs₄ xs₅ xs₆ n r ys₄ ys₅ ys₆ → ps′ ≡ clearedTo (clearedBy r) ps
+      → length ys₄ ≡ length xs₄ → length ys₅ ≡ length xs₅ → length ys₆ ≡ length xs₆ → length ps′ ≡ length ps
       → ent 𝓤 (⋆ 𝓤 H A (‵ (flft κ₀ q₀) ∷ ‵ (flft κ₁ q₁) ∷ ‵ (flft κ₂ q₂) ∷ ‵ (flft κ₃ q₃) ∷ ‵ (flft κ₄ q₄) ∷ ‵ (flft κ₅ q₅)
       ∷ ‵ (ShrSlice (named 0) κ₀ u16 .own x₂ (sliceVal (b₂, o₂) (length xs₂) ∷ []))
       ∷ ‵ (ShrSlice (named 1) κ₁ i16 .own x₃ (sliceVal (b₃, o₃) (length xs₃) ∷ [])) ∷ ‵ (finally u16 γ₄ ys₄) ∷ ‵ (finally u8 γ₅ ys₅)
@@ -213,7 +215,7 @@ module _ {M : Type 1} (𝓤 : URA M) (H : Heap 𝓤) (A : Atoms 𝓤) (W : Given
       suffices ! _ (ends-at 𝓤 H A public.ended stayed (public.clauses 𝓤 H A at-mem run) W
       (((κ₀, (κ₁, (κ₂, (κ₃, (κ₄, (κ₅, tt)))))), (q₀, (q₁, (q₂, (q₃, (q₄, (q₅, tt)))))), tt, x, at), tt) u r
       (tt, (tt, (tt, (ys₄, (ys₅, (ys₆, (ps′, tt))))))) (tt, (tt, (tt, (l′₄, (l′₅, (l′₆, (lp, tt))))))))
-      $ says ! (packs a₁ xs₂ (given xs₃) xs₄ xs₅ xs₆ ps r ys₄ ys₅ ys₆ e ps′ ep) $
+      $ says ! (packs a₁ xs₂ (extras (given xs₃) not-given) xs₄ xs₅ xs₆ ps r ys₄ ys₅ ys₆ e ps′ ep) $
       nothing ! $ move ! (6 ∷ 0 ∷ []) $ join ! $ move ! (5 ∷ 0 ∷ []) $ join ! $ move ! (4 ∷ 0 ∷ []) $ join ! $ move ! (3 ∷ 0 ∷ []) $ join !
       $ move ! (2 ∷ 0 ∷ []) $ join ! $ move ! (1 ∷ 0 ∷ []) $ join ! $ frame ! $ nothing ! $ move ! (6 ∷ 0 ∷ []) $ fjoin !
       $ move ! (5 ∷ 0 ∷ []) $ fjoin ! $ move ! (4 ∷ 0 ∷ []) $ fjoin ! $ move ! (3 ∷ 0 ∷ []) $ fjoin ! $ move ! (2 ∷ 0 ∷ [])
@@ -284,9 +286,9 @@ module _ {M : Type 1} (𝓤 : URA M) (H : Heap 𝓤) (A : Atoms 𝓤) (W : Given
       $ owned ! XPacked (Is XPacked) (EL.makes MPacked.the-type MPacked′.the-plain 𝓤 H A) r _ is $ fjoin ! $ move ! (1 ∷ 0 ∷ []) $ join !
       $ nothing ! $ move ! (1 ∷ 0 ∷ []) $ frame ! $ done !
 
-  fits : (r : Packed) (ys₄ : List ℕ) (ys₅ : List ℕ) (ys₆ : List ℕ) → PackedWholeOn a₁ xs₂ xs₃ xs₄ xs₅ xs₆ n r ys₄ ys₅ ys₆
-      → clearedBy r ≤ length ps
-  fits r ys₄ ys₅ ys₆ e = packs-fit a₁ xs₂ (given xs₃) xs₄ xs₅ xs₆ ps r ys₄ ys₅ ys₆ e
+  fits : (r : Packed) (ys₄ : List ℕ) (ys₅ : List ℕ) (ys₆ : List ℕ)
+      → PackedWholeOn a₁ xs₂ (extras (given xs₃) not-given) xs₄ xs₅ xs₆ n r ys₄ ys₅ ys₆ → clearedBy r ≤ length ps
+  fits r ys₄ ys₅ ys₆ e = packs-fit a₁ xs₂ (extras (given xs₃) not-given) xs₄ xs₅ xs₆ ps r ys₄ ys₅ ys₆ e
 
   few : (r : Packed) → clearedBy r ≤ length ps → clearedBy r < 2 ^ 64
   few r l = omega (arith, l, gn .0)
@@ -334,9 +336,10 @@ module _ {M : Type 1} (𝓤 : URA M) (H : Heap 𝓤) (A : Atoms 𝓤) (W : Given
         ∷ ‵ (froom (ty 15) l₁₅ 0) ∷ ‵ (froom (ty 16) l₁₆ 0) ∷ ‵ (froom (ty 17) l₁₇ 0)
         ∷ ‵ (froom (ty 18) l₁₈ 0) ∷ ‵ (froom (ty 19) l₁₉ 0) ∷ Dies
 
-    clearing : (r : Packed) (ys₄ : List ℕ) (ys₅ : List ℕ) (ys₆ : List ℕ) (u : Val) → PackedWholeOn a₁ xs₂ xs₃ xs₄ xs₅ xs₆ n r ys₄ ys₅ ys₆
-        → length ys₄ ≡ length xs₄ → length ys₅ ≡ length xs₅ → length ys₆ ≡ length xs₆ → Is XPacked r (u ∷ [])
-        → Holds (hasTy (ty 9) u) × WT u → ent 𝓤 (⋆ 𝓤 H A (Ctx-clear r ys₄ ys₅ ys₆ u)) (Wp 𝓤 H C Λ En pieces.t-10 (atReturn 𝓤 H En Post))
+    clearing : (r : Packed) (ys₄ : List ℕ) (ys₅ : List ℕ) (ys₆ : List ℕ) (u : Val)
+        → PackedWholeOn a₁ xs₂ (extras (given xs₃) not-given) xs₄ xs₅ xs₆ n r ys₄ ys₅ ys₆ → length ys₄ ≡ length xs₄
+        → length ys₅ ≡ length xs₅ → length ys₆ ≡ length xs₆ → Is XPacked r (u ∷ []) → Holds (hasTy (ty 9) u) × WT u
+        → ent 𝓤 (⋆ 𝓤 H A (Ctx-clear r ys₄ ys₅ ys₆ u)) (Wp 𝓤 H C Λ En pieces.t-10 (atReturn 𝓤 H En Post))
     clearing r ys₄ ys₅ ys₆ u e l′₄ l′₅ l′₆ is wu =
         qed W (Ctx-clear r ys₄ ys₅ ys₆ u) ∵ exec ! C Λ En pieces.t-10 (atRet En Post) $
         assigns ! (addr ! (from ! (fld ! refl (hop ! (look-in ! 20 (sub ! 0 refl (whole !))) (stop !))))) (from ! (stop !))
@@ -448,11 +451,12 @@ module _ {M : Type 1} (𝓤 : URA M) (H : Heap 𝓤) (A : Atoms 𝓤) (W : Given
         split ! $ move ! (1 ∷ [])
         $ use1 W (some (λ (zs : Unit {0} × (Unit {0} × (Unit {0} × (List ℕ × (List ℕ × (List ℕ × (Unit {0} × (Unit {0})))))))).
         ‵ (lasts core′.ended (κ₀, (κ₁, (κ₂, (κ₃, (κ₄, tt))))) (a₁, (x₂, (x₃, (x₄, (x₅, (x₆, (n, tt))))))) zs) ⊛ raw
-        (fact 𝓤 (PackedWholeOn a₁ xs₂ xs₃ xs₄ xs₅ xs₆ n r (zs .1 .1 .1 .0) (zs .1 .1 .1 .1 .0) (zs .1 .1 .1 .1 .1 .0)))))
-        (id⊢ 𝓤 _) $ pick ! (λ zs.
+        (fact 𝓤 (PackedWholeOn a₁ xs₂ (extras (given xs₃) not-given) xs₄ xs₅ xs₆ n r (zs .1 .1 .1 .0) (zs .1 .1 .1 .1 .0)
+        (zs .1 .1 .1 .1 .1 .0))))) (id⊢ 𝓤 _) $ pick ! (λ zs.
         split ! $ move ! (1 ∷ [])
-        $ heard ! (PackedWholeOn a₁ xs₂ xs₃ xs₄ xs₅ xs₆ n r (zs .1 .1 .1 .0) (zs .1 .1 .1 .1 .0) (zs .1 .1 .1 .1 .1 .0))
-        (λ e. fsplit ! $ drop ! $ fsplit ! $ drop ! $ fsplit ! $ drop ! $ fsplit ! $ fsplit ! $ move ! (1 ∷ [])
+        $ heard ! (PackedWholeOn a₁ xs₂ (extras (given xs₃) not-given) xs₄ xs₅ xs₆ n r (zs .1 .1 .1 .0) (zs .1 .1 .1 .1 .0)
+        (zs .1 .1 .1 .1 .1 .0)) (λ e.
+        fsplit ! $ drop ! $ fsplit ! $ drop ! $ fsplit ! $ drop ! $ fsplit ! $ fsplit ! $ move ! (1 ∷ [])
         $ feqL ! (λ l′₄. move ! (1 ∷ []) $ fsplit ! $ fsplit ! $ move ! (1 ∷ [])
         $ feqL ! (λ l′₅. move ! (1 ∷ []) $ fsplit ! $ fsplit ! $ move ! (1 ∷ []) $ feqL ! (λ l′₆.
         move ! (4 ∷ []) $ split ! $ move ! (1 ∷ []) $ peeks ! XPacked (Is XPacked) (shows 𝓤 H A XPacked) r (u ∷ []) (λ is.

@@ -55,17 +55,17 @@ use Rattle.border_theory.proofs.Records.Reading.{counted}
 use Rattle.border_theory.proofs.Records.Counting.{count-fits}
 use Rattle.places.proofs.Walking.{tyAt}
 use Rattle.border_theory.specs.Records.Changes.{clearedTo}
-use Rattle.positions_theory.specs.Unpacking.{UnpackedWholeOn}
+use Rattle.notes_theory.specs.Unpacking.{UnpackedNotedOn}
 use Rattle.unpack_theory.specs.Lent.{clearedBy}
 use Rattle.service.proofs.Laws.{unpacks, unpacks-fit}
 use Rattle.places.proofs.count as count′
 use Rattle.places.proofs.count.Symbol as count-def
 use Rattle.places.proofs.count.Symbol.{name as #count}
 use Rattle.places.proofs.count.Met as count-thm
-use Rattle.positions.proofs.unpacking.unpack_whole_on as core′
-use Rattle.positions.proofs.unpacking.unpack_whole_on.Symbol as core-def
-use Rattle.positions.proofs.unpacking.unpack_whole_on.Symbol.{name as #core}
-use Rattle.positions.proofs.unpacking.unpack_whole_on.Met as core-thm
+use Rattle.notes.proofs.unpacking.unpack_noted_on as core′
+use Rattle.notes.proofs.unpacking.unpack_noted_on.Symbol as core-def
+use Rattle.notes.proofs.unpacking.unpack_noted_on.Symbol.{name as #core}
+use Rattle.notes.proofs.unpacking.unpack_noted_on.Met as core-thm
 use Rattle.unpacker.proofs.cleared as cleared′
 use Rattle.unpacker.proofs.cleared.Symbol as cleared-def
 use Rattle.unpacker.proofs.cleared.Symbol.{name as #cleared}
@@ -158,7 +158,7 @@ module _ {M : Type 1} (𝓤 : URA M) (H : Heap 𝓤) (A : Atoms 𝓤) (W : Given
   small : n < 2 ^ 64
   small = count-fits (length ps) (gn .0)
 
-  exits : (r : Unpacked) (ys₂ : List ℕ) (ps′ : List Place) (u : Val) → UnpackedWholeOn xs₁ xs₂ n r ys₂ → ps′ ≡ clearedTo (clearedBy r) ps
+  exits : (r : Unpacked) (ys₂ : List ℕ) (ps′ : List Place) (u : Val) → UnpackedNotedOn xs₁ xs₂ n r ys₂ → ps′ ≡ clearedTo (clearedBy r) ps
       → length ys₂ ≡ length xs₂ → length ps′ ≡ length ps
       → ent 𝓤 (⋆ 𝓤 H A (‵ (flft κ₀ q₀) ∷ ‵ (flft κ₁ q₁) ∷ ‵ (flft κ₂ q₂)
       ∷ ‵ (ShrSlice (named 0) κ₀ u8 .own x₁ (sliceVal (b₁, o₁) (length xs₁) ∷ [])) ∷ ‵ (finally u16 γ₂ ys₂) ∷ ‵ (finally R γ ps′)
@@ -211,7 +211,7 @@ module _ {M : Type 1} (𝓤 : URA M) (H : Heap 𝓤) (A : Atoms 𝓤) (W : Given
       $ owned ! XUnpacked (Is XUnpacked) (EL.makes MUnpacked.the-type MUnpacked′.the-plain 𝓤 H A) r _ is $ fjoin ! $ move ! (1 ∷ 0 ∷ [])
       $ join ! $ nothing ! $ move ! (1 ∷ 0 ∷ []) $ frame ! $ done !
 
-  fits : (r : Unpacked) (ys₂ : List ℕ) → UnpackedWholeOn xs₁ xs₂ n r ys₂ → clearedBy r ≤ length ps
+  fits : (r : Unpacked) (ys₂ : List ℕ) → UnpackedNotedOn xs₁ xs₂ n r ys₂ → clearedBy r ≤ length ps
   fits r ys₂ e = unpacks-fit xs₁ xs₂ ps r ys₂ e
 
   few : (r : Unpacked) → clearedBy r ≤ length ps → clearedBy r < 2 ^ 64
@@ -250,7 +250,7 @@ module _ {M : Type 1} (𝓤 : URA M) (H : Heap 𝓤) (A : Atoms 𝓤) (W : Given
         ∷ ‵ (froom (ty 7) l₇ 0) ∷ ‵ (froom (ty 8) l₈ 0) ∷ ‵ (froom (ty 9) l₉ 0) ∷ ‵ (froom (ty 10) l₁₀ 0)
         ∷ ‵ (froom (ty 11) l₁₁ 0) ∷ Dies
 
-    clearing : (r : Unpacked) (ys₂ : List ℕ) (u : Val) → UnpackedWholeOn xs₁ xs₂ n r ys₂ → length ys₂ ≡ length xs₂ → Is XUnpacked r (u ∷ [])
+    clearing : (r : Unpacked) (ys₂ : List ℕ) (u : Val) → UnpackedNotedOn xs₁ xs₂ n r ys₂ → length ys₂ ≡ length xs₂ → Is XUnpacked r (u ∷ [])
         → Holds (hasTy (ty 5) u) × WT u → ent 𝓤 (⋆ 𝓤 H A (Ctx-clear r ys₂ u)) (Wp 𝓤 H C Λ En pieces.t-6 (atReturn 𝓤 H En Post))
     clearing r ys₂ u e l′₂ is wu =
         qed W (Ctx-clear r ys₂ u) ∵ exec ! C Λ En pieces.t-6 (atRet En Post) $
@@ -326,10 +326,10 @@ module _ {M : Type 1} (𝓤 : URA M) (H : Heap 𝓤) (A : Atoms 𝓤) (W : Given
         $ await ! tt $ pick ! (λ r.
         split ! $ move ! (1 ∷ [])
         $ use1 W (some (λ (zs : Unit {0} × (List ℕ × (Unit {0} × (Unit {0})))).
-        ‵ (lasts core′.ended (κ₀, (κ₁, tt)) (x₁, (x₂, (n, tt))) zs) ⊛ raw (fact 𝓤 (UnpackedWholeOn xs₁ xs₂ n r (zs .1 .0)))))
+        ‵ (lasts core′.ended (κ₀, (κ₁, tt)) (x₁, (x₂, (n, tt))) zs) ⊛ raw (fact 𝓤 (UnpackedNotedOn xs₁ xs₂ n r (zs .1 .0)))))
         (id⊢ 𝓤 _) $ pick ! (λ zs.
         split ! $ move ! (1 ∷ [])
-        $ heard ! (UnpackedWholeOn xs₁ xs₂ n r (zs .1 .0))
+        $ heard ! (UnpackedNotedOn xs₁ xs₂ n r (zs .1 .0))
         (λ e. fsplit ! $ drop ! $ fsplit ! $ fsplit ! $ move ! (1 ∷ []) $ feqL ! (λ l′₂.
         move ! (2 ∷ []) $ split ! $ move ! (1 ∷ []) $ peeks ! XUnpacked (Is XUnpacked) (shows 𝓤 H A XUnpacked) r (u ∷ []) (λ is.
         let wu : Holds (hasTy (ty 5) u) × WT u = EL.lawful MUnpacked.the-type MUnpacked′.the-laws 𝓤 H A W tt .typed r (u ∷ []) is .0 in
@@ -425,7 +425,7 @@ unpack-spec 𝓤 H 𝓜 𝓖 𝓡 =
     (tables 𝓤 H 𝓜 𝓡 code.env .C) (tables 𝓤 H 𝓜 𝓡 code.env .Λ) #public code.function (code.unfolded 𝓤 H 𝓜 𝓡)
     (public-meets 𝓤 H (𝓖 .A) (givenOf 𝓤 H 𝓜 𝓖) (𝓜 .mem) (𝓡 .run) (tablesOf 𝓤 H 𝓜 (tables 𝓤 H 𝓜 𝓡 code.env))
     (cited 𝓤 H (Count 𝓤 H (𝓖 .A) (𝓜 .mem) (𝓡 .run)) 𝓜 𝓡 code.env #count count-def.routine code.calls-places·count (count-thm.met 𝓤 H 𝓜 𝓖 𝓡))
-    (cited 𝓤 H (Core 𝓤 H (𝓖 .A) (𝓜 .mem) (𝓡 .run)) 𝓜 𝓡 code.env #core core-def.routine code.calls-positions·unpacking·unpack-whole-on
+    (cited 𝓤 H (Core 𝓤 H (𝓖 .A) (𝓜 .mem) (𝓡 .run)) 𝓜 𝓡 code.env #core core-def.routine code.calls-notes·unpacking·unpack-noted-on
     (core-thm.met 𝓤 H 𝓜 𝓖 𝓡))
     (cited 𝓤 H (Cleared 𝓤 H (𝓖 .A) (𝓜 .mem) (𝓡 .run)) 𝓜 𝓡 code.env #cleared cleared-def.routine code.calls-unpacker·cleared
     (cleared-thm.met 𝓤 H 𝓜 𝓖 𝓡))

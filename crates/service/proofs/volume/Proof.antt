@@ -55,20 +55,21 @@ use Rattle.border_theory.proofs.Records.Reading.{counted}
 use Rattle.border_theory.proofs.Records.Counting.{count-fits}
 use Rattle.places.proofs.Walking.{tyAt}
 use Rattle.border_theory.specs.Records.Changes.{clearedTo}
-use Rattle.positions_theory.specs.Unpacking.{MeasuredOn, clearedMeasuring}
+use Rattle.positions_theory.specs.Unpacking.{clearedMeasuring}
+use Rattle.notes_theory.specs.Unpacking.{MeasuredOn}
 use Rattle.service.proofs.Laws.{measures, measures-fit}
 use Rattle.places.proofs.count as count′
 use Rattle.places.proofs.count.Symbol as count-def
 use Rattle.places.proofs.count.Symbol.{name as #count}
 use Rattle.places.proofs.count.Met as count-thm
-use Rattle.positions.proofs.measuring.volume_on as core′
-use Rattle.positions.proofs.measuring.volume_on.Symbol as core-def
-use Rattle.positions.proofs.measuring.volume_on.Symbol.{name as #core}
-use Rattle.positions.proofs.measuring.volume_on.Met as core-thm
-use Rattle.positions.proofs.measuring.cleared as cleared′
-use Rattle.positions.proofs.measuring.cleared.Symbol as cleared-def
-use Rattle.positions.proofs.measuring.cleared.Symbol.{name as #cleared}
-use Rattle.positions.proofs.measuring.cleared.Met as cleared-thm
+use Rattle.measuring.proofs.volume_on as core′
+use Rattle.measuring.proofs.volume_on.Symbol as core-def
+use Rattle.measuring.proofs.volume_on.Symbol.{name as #core}
+use Rattle.measuring.proofs.volume_on.Met as core-thm
+use Rattle.measuring.proofs.cleared as cleared′
+use Rattle.measuring.proofs.cleared.Symbol as cleared-def
+use Rattle.measuring.proofs.cleared.Symbol.{name as #cleared}
+use Rattle.measuring.proofs.cleared.Met as cleared-thm
 use Rattle.places.proofs.clear as clear′
 use Rattle.places.proofs.clear.Symbol as clear-def
 use Rattle.places.proofs.clear.Symbol.{name as #clear}
@@ -423,9 +424,9 @@ volume-spec 𝓤 H 𝓜 𝓖 𝓡 =
     (tables 𝓤 H 𝓜 𝓡 code.env .C) (tables 𝓤 H 𝓜 𝓡 code.env .Λ) #public code.function (code.unfolded 𝓤 H 𝓜 𝓡)
     (public-meets 𝓤 H (𝓖 .A) (givenOf 𝓤 H 𝓜 𝓖) (𝓜 .mem) (𝓡 .run) (tablesOf 𝓤 H 𝓜 (tables 𝓤 H 𝓜 𝓡 code.env))
     (cited 𝓤 H (Count 𝓤 H (𝓖 .A) (𝓜 .mem) (𝓡 .run)) 𝓜 𝓡 code.env #count count-def.routine code.calls-places·count (count-thm.met 𝓤 H 𝓜 𝓖 𝓡))
-    (cited 𝓤 H (Core 𝓤 H (𝓖 .A) (𝓜 .mem) (𝓡 .run)) 𝓜 𝓡 code.env #core core-def.routine code.calls-positions·measuring·volume-on
+    (cited 𝓤 H (Core 𝓤 H (𝓖 .A) (𝓜 .mem) (𝓡 .run)) 𝓜 𝓡 code.env #core core-def.routine code.calls-measuring·volume-on
     (core-thm.met 𝓤 H 𝓜 𝓖 𝓡))
-    (cited 𝓤 H (Cleared 𝓤 H (𝓖 .A) (𝓜 .mem) (𝓡 .run)) 𝓜 𝓡 code.env #cleared cleared-def.routine code.calls-positions·measuring·cleared
+    (cited 𝓤 H (Cleared 𝓤 H (𝓖 .A) (𝓜 .mem) (𝓡 .run)) 𝓜 𝓡 code.env #cleared cleared-def.routine code.calls-measuring·cleared
     (cleared-thm.met 𝓤 H 𝓜 𝓖 𝓡))
     (cited 𝓤 H (Clear 𝓤 H (𝓖 .A) (𝓜 .mem) (𝓡 .run)) 𝓜 𝓡 code.env #clear clear-def.routine code.calls-places·clear
     (clear-thm.met 𝓤 H 𝓜 𝓖 𝓡)))

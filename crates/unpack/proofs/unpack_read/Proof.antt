@@ -14,12 +14,12 @@ enum-told c = search needs
 returns : tie.Need-returns
 returns c = search needs
 
-slice-aggregate-unpack-whole-on : tie.Need-slice-aggregate-unpack-whole-on
-slice-aggregate-unpack-whole-on c =
+slice-aggregate-unpack-noted-on : tie.Need-slice-aggregate-unpack-noted-on
+slice-aggregate-unpack-noted-on c =
     filled-length 0 _ (c .before .before .before .before .before .before .pre) (c .before .before .r .given .1)
 
-unpack-whole-on-requires : tie.Need-unpack-whole-on-requires
-unpack-whole-on-requires c κs = search needs
+unpack-noted-on-requires : tie.Need-unpack-noted-on-requires
+unpack-noted-on-requires c κs = search needs
 
 print-unpacked-requires : tie.Need-print-unpacked-requires
 print-unpacked-requires c κs = search needs
@@ -37,8 +37,8 @@ unpack-read-spec =
     enum-known-r
     enum-told
     returns
-    slice-aggregate-unpack-whole-on
-    unpack-whole-on-requires
+    slice-aggregate-unpack-noted-on
+    unpack-noted-on-requires
     print-unpacked-requires
     same-length
     returns-2)

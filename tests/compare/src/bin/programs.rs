@@ -1,15 +1,16 @@
-//! The programs `unpack`, `volume` and `pack` compared with the second program. `programs FOLDER`
+//! The programs `unpack`, `volume`, `note` and `pack` compared with the second program. `programs FOLDER`
 //!
-//! Every pack and model of the second program's vectors, random ones, sound and spoilt, with positions and without, input that is too long,
-//! and input that is none; packs in files that are named; files that are not there; what cannot be read.
+//! Every pack and model of the second program's vectors, random ones, sound and spoilt, with positions and notes and without, input that is
+//! too long, and input that is none; packs in files that are named; files that are not there; what cannot be read.
 
-use compare::expected::{self, UNFIT};
+use compare::expected::{self, random_note, unfit_note, with_note, UNFIT};
 use compare::texts;
 use cutborder::gen::{self, Model};
 use cutborder::gen02;
 use cutborder::proto::unhex;
 use cutborder::rng::Rng;
 use std::ffi::{c_char, CStr};
+use std::fmt::Debug;
 use std::fs::{self, File, OpenOptions};
 use std::io::Write;
 use std::os::fd::FromRawFd;
@@ -23,10 +24,11 @@ const MORE_MODELS: &str = include_str!("../../../definitions/models.txt");
 const OLD_ORDER: &str = "what was there before\n";
 const NO_MODEL: &str = "no model: V and the vertex numbers are expected, decimal, with white space between\n";
 
-/// What the program writes for some bytes, with some arguments.
-fn written(program: &str, args: &[&str], input: &[u8]) -> Vec<u8> {
+/// What the program writes for some bytes, with some arguments, and what it says on standard error.
+fn told(program: &str, args: &[String], input: &[u8]) -> (Vec<u8>, String) {
     let mut command = Command::new(program);
-    let mut child = command.args(args).stdin(Stdio::piped()).stdout(Stdio::piped()).spawn().expect("the program starts");
+    command.args(args).stdin(Stdio::piped()).stdout(Stdio::piped()).stderr(Stdio::piped());
+    let mut child = command.spawn().expect("the program starts");
     let mut pipe = child.stdin.take().unwrap();
     let bytes = input.to_vec();
     // The program reads no more than it needs of an input that is too long.
@@ -34,7 +36,14 @@ fn written(program: &str, args: &[&str], input: &[u8]) -> Vec<u8> {
     let out = child.wait_with_output().expect("the program ends");
     writer.join().unwrap();
     assert!(out.status.success(), "status {:?}", out.status);
-    out.stdout
+    (out.stdout, String::from_utf8(out.stderr).expect("text"))
+}
+
+/// What it writes where it says nothing.
+fn written(program: &str, args: &[String], input: &[u8]) -> Vec<u8> {
+    let (out, said) = told(program, args, input);
+    assert_eq!(said, "", "{program} {args:?}");
+    out
 }
 
 fn printed(program: &str, input: &[u8]) -> String {
@@ -60,17 +69,25 @@ fn fields_of_length(n: usize) -> Vec<u8> {
     bytes
 }
 
-/// A program that reads packs, on packs of all kinds.
-fn readings(program: &str, expected: fn(&[u8]) -> String) -> usize {
+/// Packs of all kinds.
+fn many_packs() -> Vec<Vec<u8>> {
     let mut packs: Vec<Vec<u8>> = PACKS.lines().filter(|l| !l.starts_with('#')).map(|l| unhex(l).expect("hexadecimal")).collect();
     let mut rng = Rng::new(7);
     packs.extend((0..150).map(|_| expected::random_pack(&mut rng, 100)));
     packs.extend((0..400).map(|_| expected::random_whole_pack(&mut rng)));
     let positions = gen02::positions(&mut rng, 4_096);
-    packs.extend([None, Some(&positions[..])].map(|p| expected::packed(&torus(), p).expect("a pack")));
+    let torus = [None, Some(&positions[..])].map(|p| expected::packed(&torus(), p).expect("a pack"));
+    packs.extend(torus.iter().map(|p| with_note(p, &random_note(&mut rng))));
+    packs.extend(torus);
     packs.extend([vec![0; 65_536], vec![0; 65_537], vec![1; 200_000], fields_of_length(65_536), fields_of_length(65_537)]);
+    packs
+}
+
+/// A program that reads packs, on packs of all kinds.
+fn readings<T: PartialEq + Debug>(run: impl Fn(&[u8]) -> T, expected: fn(&[u8]) -> T) -> usize {
+    let packs = many_packs();
     for p in &packs {
-        assert_eq!(printed(program, p), expected(p), "pack of {} bytes: {:02x?}", p.len(), &p[..p.len().min(60)]);
+        assert_eq!(run(p), expected(p), "pack of {} bytes: {:02x?}", p.len(), &p[..p.len().min(60)]);
     }
     packs.len()
 }
@@ -82,21 +99,24 @@ fn fresh_folder(name: &str) -> PathBuf {
     folder
 }
 
-/// What the program writes with `--order`, and to the file that this names, which held something before; positions are given as text.
-fn ordered(program: &str, folder: &Path, input: &[u8], positions: Option<&str>) -> (Vec<u8>, String) {
-    let name = |file: &str| folder.join(file).to_str().expect("a name").to_string();
-    let mut args = vec!["--order".to_string(), name("order")];
-    fs::write(&args[1], OLD_ORDER).expect("a file");
-    if let Some(text) = positions {
-        let at = if text.len() % 2 == 0 { 0 } else { 2 };
-        args.splice(at..at, ["--positions".to_string(), name("positions")]);
-        fs::write(name("positions"), text).expect("a file");
+/// What the program writes with `--order`, and to the file that this names, which held something before; positions are given as text. The
+/// options stand in any order.
+fn ordered(program: &str, folder: &Path, input: &[u8], positions: Option<&str>, note: Option<&[u8]>) -> (Vec<u8>, String) {
+    let mut args = Vec::new();
+    for (name, contents) in [("order", Some(OLD_ORDER.as_bytes())), ("positions", positions.map(str::as_bytes)), ("note", note)] {
+        if let Some(bytes) = contents {
+            let file = folder.join(name);
+            fs::write(&file, bytes).expect("a file");
+            args.extend([format!("--{name}"), file.to_str().expect("a name").to_string()]);
+        }
     }
-    let out = written(program, &args.iter().map(String::as_str).collect::<Vec<_>>(), input);
-    (out, fs::read_to_string(name("order")).expect("the order"))
+    let options = args.len() / 2;
+    args.rotate_left(2 * (input.len() % options));
+    let out = written(program, &args, input);
+    (out, fs::read_to_string(folder.join("order")).expect("the order"))
 }
 
-/// The packings of a model, without positions, with some and with such that do not fit; and what is read from the packs.
+/// The packings of a model, without positions and a note, with some, and with such that do not fit; and what is read from the packs.
 fn packings(folder: &str, own: &Path, rng: &mut Rng, text: &str) -> usize {
     let words: Vec<u64> = text.split_ascii_whitespace().filter_map(|w| w.parse().ok()).collect();
     let (v, list) = (words[0], words[1..].iter().map(|&x| x as u16).collect::<Vec<u16>>());
@@ -104,18 +124,23 @@ fn packings(folder: &str, own: &Path, rng: &mut Rng, text: &str) -> usize {
     let sound = gen02::positions(rng, v.clamp(1, 4_096) as usize);
     let mut unfit = sound.clone();
     UNFIT[rng.below(UNFIT.len())].1(rng, &mut unfit);
-    assert_eq!(written(&format!("{folder}/pack"), &[], spaced.as_bytes()), texts::packed(v, &list, None).0, "model {text}");
-    for positions in [None, Some(sound), Some(unfit)] {
-        let (pack, order) = texts::packed(v, &list, positions.as_deref());
-        let grid = positions.as_deref().map(texts::lines_of);
-        let answer = ordered(&format!("{folder}/pack"), own, spaced.as_bytes(), grid.as_deref());
-        assert_eq!(answer, (pack.clone(), order.clone().unwrap_or(OLD_ORDER.into())), "model {text}, positions {positions:?}");
+    let (short, long) = (random_note(rng), unfit_note(rng));
+    let (sound, unfit, short, long) = (Some(&sound[..]), Some(&unfit[..]), Some(&short[..]), Some(&long[..]));
+    let cases = [(None, None), (sound, None), (unfit, None), (None, short), (sound, short), (None, long), (sound, long), (unfit, long)];
+    assert_eq!(written(&format!("{folder}/pack"), &[], spaced.as_bytes()), texts::packed(v, &list, None, None).0, "model {text}");
+    for (positions, note) in cases {
+        let (pack, order) = texts::packed(v, &list, positions, note);
+        let grid = positions.map(texts::lines_of);
+        let answer = ordered(&format!("{folder}/pack"), own, spaced.as_bytes(), grid.as_deref(), note);
+        let said = format!("model {text}, positions {positions:?}, note {note:02x?}");
+        assert_eq!(answer, (pack.clone(), order.clone().unwrap_or(OLD_ORDER.into())), "{said}");
         if order.is_some() {
-            assert_eq!(printed(&format!("{folder}/unpack"), &pack), texts::unpacked(&pack), "model {text}");
-            assert_eq!(printed(&format!("{folder}/volume"), &pack), texts::measured(&pack), "model {text}, positions {positions:?}");
+            assert_eq!(printed(&format!("{folder}/unpack"), &pack), texts::unpacked(&pack), "{said}");
+            assert_eq!(printed(&format!("{folder}/volume"), &pack), texts::measured(&pack), "{said}");
+            assert_eq!(written(&format!("{folder}/note"), &[], &pack), note.unwrap_or_default(), "{said}");
         }
     }
-    4
+    cases.len() + 1
 }
 
 /// The program `pack` on models of all kinds, the paper's and both fans among them; and what the others print for its packs.
@@ -129,7 +154,8 @@ fn packs(folder: &str) -> usize {
     let mut n: usize = models.iter().map(|text| packings(folder, &own, &mut rng, text)).sum();
     let pack = format!("{folder}/pack");
     let too_many = texts::lines_of(&[0; 3 * 4_096 + 1]);
-    assert_eq!(ordered(&pack, &own, torus().line().as_bytes(), Some(&too_many)), (b"refused 23\n".to_vec(), OLD_ORDER.into()));
+    let answer = ordered(&pack, &own, torus().line().as_bytes(), Some(&too_many), None);
+    assert_eq!(answer, (b"refused 23\n".to_vec(), OLD_ORDER.into()));
     fs::remove_dir_all(&own).expect("the folder");
     for (text, line) in [
         ("", NO_MODEL),
@@ -172,9 +198,10 @@ fn terminal() -> Option<(File, File)> {
     Some((keyboard, screen))
 }
 
-/// Input that is empty, or a terminal, is answered by a line; that which is closed, or a folder, cannot be read: how many of these.
-fn odd(program: &str, line: &str) -> usize {
-    let answer = (line.to_string(), String::new());
+/// Input that is empty, or a terminal, is answered by a line, on standard output or on standard error; that which is closed, or a folder,
+/// cannot be read: how many of these.
+fn odd(program: &str, out: &str, said: &str) -> usize {
+    let answer = (out.to_string(), said.to_string());
     assert_eq!(printed_from("exec \"$1\"", program, Stdio::null()), answer, "no input");
     for (command, input) in [("exec \"$1\" <&-", Stdio::null()), ("exec \"$1\"", File::open(".").expect("this folder").into())] {
         let (out, said) = printed_from(command, program, input);
@@ -218,9 +245,12 @@ fn main() {
     };
     for (name, expected) in [("unpack", texts::unpacked as fn(&[u8]) -> String), ("volume", texts::measured)] {
         let program = format!("{folder}/{name}");
-        let alike = readings(&program, expected) + named(&program, expected) + odd(&program, "refused 12\n");
+        let alike = readings(|p| printed(&program, p), expected) + named(&program, expected) + odd(&program, "refused 12\n", "");
         println!("program {name}: {alike} inputs alike");
     }
-    let alike = packs(&folder) + odd(&format!("{folder}/pack"), NO_MODEL);
+    let note = format!("{folder}/note");
+    let alike = readings(|p| told(&note, &[], p), texts::noted) + odd(&note, "", "refused 12\n");
+    println!("program note: {alike} inputs alike");
+    let alike = packs(&folder) + odd(&format!("{folder}/pack"), NO_MODEL, "");
     println!("program pack: {alike} inputs alike");
 }

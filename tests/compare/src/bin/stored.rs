@@ -1,7 +1,7 @@
 //! What the stored programs of crates/ are run on, and what they must print: `stored FOLDER` writes stdin, args, data and stdout of
 //! each into FOLDER, from the second program's vectors and answers. The test command holds them against the stored ones.
 
-use compare::expected::{self, contents_of, with_field, Calls};
+use compare::expected::{self, contents_of, with_field, with_note, Calls};
 use compare::texts;
 use cutborder::gen::{self, Model};
 use cutborder::gen02;
@@ -22,6 +22,9 @@ const M2: [u16; 12] = [0, 1, 2, 1, 0, 3, 2, 1, 3, 0, 2, 3];
 const M2_TURNED: [u16; 12] = [1, 0, 2, 0, 1, 3, 1, 2, 3, 2, 0, 3];
 const CORNERS: [i32; 12] = [0, 0, 0, 5, 0, 0, 0, 5, 0, 0, 0, 5];
 
+/// A note: a line that reads like a refusal, and what no text has.
+const NOTE: &[u8] = b"refused 12\n\0\xff\0";
+
 /// A program's input and the output that is expected.
 fn store(folder: &Path, program: &str, input: &[u8], output: &[u8]) {
     let at = folder.join(program);
@@ -37,17 +40,20 @@ fn store_data(folder: &Path, program: &str, name: &str, contents: &[u8]) {
     fs::write(at.join(name), contents).expect("data");
 }
 
-/// Packs with positions: M2's, turned over, and with positions that 23 refuses; a triangle's, which has a rim; spheres of any size.
+/// Packs with positions: M2's, turned over, and with positions that 23 refuses; a triangle's, which has a rim; spheres of any size. Packs
+/// with a note: M2's, without positions and with them, and one that 25 refuses.
 fn whole_packs() -> Vec<Vec<u8>> {
-    let m2 = |list: &[u16]| texts::packed(4, list, Some(&CORNERS)).0;
-    let (two, _) = texts::packed(4, &M2, None);
-    let rim = texts::packed(3, &[0, 1, 2], Some(&CORNERS[..9])).0;
+    let m2 = |list: &[u16]| texts::packed(4, list, Some(&CORNERS), None).0;
+    let (two, _) = texts::packed(4, &M2, None, None);
+    let rim = texts::packed(3, &[0, 1, 2], Some(&CORNERS[..9]), None).0;
     let mut packs = vec![m2(&M2), m2(&M2_TURNED), with_field(&two, &contents_of(&CORNERS[..9])), rim];
     let mut rng = Rng::new(13);
     packs.extend((1..4).map(|f| {
         let sphere = Model::of(&gen::icosphere(f));
         expected::packed(&sphere, Some(&gen02::positions(&mut rng, sphere.v as usize))).expect("a pack")
     }));
+    packs.extend([None, Some(&CORNERS[..])].map(|positions| texts::packed(4, &M2, positions, Some(NOTE)).0));
+    packs.push(with_note(&m2(&M2), &[]));
     packs
 }
 
@@ -75,11 +81,14 @@ fn readings(folder: &Path, program: &str, first: &[u8], printed: fn(&[u8]) -> St
     fs::write(folder.join(program).join("args"), args).expect("args");
 }
 
-/// M2 with positions for the program `pack`.
+/// M2 with positions and a note for the program `pack`, and its pack for the program `note`.
 fn packing(folder: &Path) {
-    store(folder, "pack", M2_TEXT, &texts::packed(4, &M2, Some(&CORNERS)).0);
+    let (pack, _) = texts::packed(4, &M2, Some(&CORNERS), Some(NOTE));
+    store(folder, "pack", M2_TEXT, &pack);
     store_data(folder, "pack", "corners", texts::lines_of(&CORNERS).as_bytes());
-    fs::write(folder.join("pack/args"), "--positions\ncorners\n").expect("args");
+    store_data(folder, "pack", "remark", NOTE);
+    fs::write(folder.join("pack/args"), "--positions\ncorners\n--note\nremark\n").expect("args");
+    store(folder, "note", &pack, &texts::noted(&pack).0);
 }
 
 /// Building calls: the vectors, lines that are no call, and random lists, model after model.
@@ -105,8 +114,8 @@ fn main() {
     let (input, output) = calls();
     store(folder, "build", input.as_bytes(), output.as_bytes());
     packing(folder);
-    let (m2, _) = texts::packed(4, &M2, None);
-    readings(folder, "unpack", &m2, texts::unpacked, &[12, 13, 15, 16, 17, 18, 19, 20, 23]);
-    let (m2, _) = texts::packed(4, &M2, Some(&CORNERS));
-    readings(folder, "volume", &m2, texts::measured, &[12, 13, 15, 16, 17, 18, 19, 20, 23, 24]);
+    let (m2, _) = texts::packed(4, &M2, None, None);
+    readings(folder, "unpack", &m2, texts::unpacked, &[12, 13, 15, 16, 17, 18, 19, 20, 23, 25]);
+    let (m2, _) = texts::packed(4, &M2, Some(&CORNERS), None);
+    readings(folder, "volume", &m2, texts::measured, &[12, 13, 15, 16, 17, 18, 19, 20, 23, 24, 25]);
 }

@@ -1,8 +1,11 @@
 -- `positions::packing::pack_whole_on` meets its contract: by 23.
 -- Assumes nothing.
 use mathlib.Core.Path.{refl, sym, _∙_}
+use native.Mathlib.Omega.{arith}
 use borrow.Author.Needs.{needs}
 use borrow.Author.Tests.{not-true, not-false}
+use Rattle.volume_theory.proofs.Beside.{placed}
+use Rattle.positions_theory.proofs.Packing.{fault-23}
 use Rattle.positions.proofs.packing.pack_whole_on.Statement.{statement}
 use Rattle.positions.proofs.packing.pack_whole_on.Tie as tie
 
@@ -17,9 +20,9 @@ returns c =
     let f = c .before in
     let p = f .before in
     let a = p .before .before .before .before .before .args in
-    c .unfit .ensures (a .positions .now) (sym (p .are-positions .ensures) ∙ not-true _ (f .if1 .taken)) (a .numbering .now)
-    (a .buffer .now)
-    (a .order .now) refl refl
+    c .unfit .ensures (placed (a .positions .now))
+    (fault-23 (a .v) (a .positions .now) (sym (p .are-positions .ensures) ∙ not-true _ (f .if1 .taken))) (omega arith)
+    (a .numbering .now) (a .buffer .now) (a .order .now) refl refl
 
 pack-fitting-requires : tie.Need-pack-fitting-requires
 pack-fitting-requires c κs =

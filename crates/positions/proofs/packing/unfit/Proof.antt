@@ -1,4 +1,4 @@
--- `positions::packing::unfit` meets its contract: the first of 1 to 8, 22 and 23.
+-- `positions::packing::unfit` meets its contract: the first of 1 to 8, 22 and k.
 -- Assumes nothing.
 use mathlib.Core.Path.{refl}
 use borrow.Author.Needs.{needs}
@@ -26,13 +26,13 @@ returns c =
     let a = k .before .before .before .args in
     let e = t .enum-told2 .given .1 in
     unfit-earlier (a .v) (a .list .now) (a .numbering) (a .order) (a .n) _ (k .test-rooms .ensures .right) _ e _
-    (c .refusal-of .ensures _ e)
+    (c .refusal-of .ensures _ e) (a .k)
 
 returns-2 : tie.Need-returns-2
 returns-2 c =
     let k = c .before .before in
     let a = k .before .before .before .args in
-    unfit-last (a .v) (a .list .now) (a .numbering) (a .order) (a .n) _ (k .test-rooms .ensures .right) (c .enum-told .given .1)
+    unfit-last (a .v) (a .list .now) (a .numbering) (a .order) (a .n) _ (k .test-rooms .ensures .right) (c .enum-told .given .1) (a .k)
 
 pub unfit-spec : {M : Type 1} → statement M
 unfit-spec =

@@ -1,6 +1,7 @@
 -- `positions::unpacking::tested` meets its contract.
 -- Assumes nothing.
 use borrow.Author.Needs.{needs}
+use Rattle.positions_theory.specs.Unpacking.{positionsTest}
 use Rattle.positions_theory.proofs.Unpacking.{tested-fits, tested-fails, room-for}
 use Rattle.positions.proofs.unpacking.tested.Statement.{statement}
 use Rattle.positions.proofs.unpacking.tested.Tie as tie
@@ -22,7 +23,8 @@ returns-2 c =
     let f = c .before in
     let q = f .before .before in
     let a = q .before .before .before .before .args in
-    tested-fits (a .field .now) (a .triangles .now) (a .r) (q .r .given .0 .0) (f .is-field .result) (q .r .given .1) (f .is-field .ensures)
+    tested-fits 23 (positionsTest (a .field .now)) (a .triangles .now) (a .r) (q .r .given .0 .0) (f .is-field .result) (q .r .given .1)
+    (f .is-field .ensures)
     (c .if1 .taken)
 
 cast-clear : tie.Need-cast-clear
@@ -36,7 +38,8 @@ clear-requires c κs =
     let f = c .before .before .before in
     let q = f .before .before in
     let s = q .before .before .before .before in
-    room-for (s .args .field .now) (s .args .triangles .now) (s .args .r) (q .r .given .0 .0) (f .is-field .result) (q .r .given .1)
+    room-for 23 (positionsTest (s .args .field .now)) (s .args .triangles .now) (s .args .r) (q .r .given .0 .0) (f .is-field .result)
+    (q .r .given .1)
     (f .is-field .ensures) (s .pre)
 
 same-length : tie.Need-same-length
@@ -49,7 +52,7 @@ returns-3 c =
     let f = e .before in
     let q = f .before .before in
     let a = q .before .before .before .before .args in
-    tested-fails (a .field .now) (a .triangles .now) (a .r) (q .r .given .0 .0) (f .is-field .result) (q .r .given .1)
+    tested-fails 23 (positionsTest (a .field .now)) (a .triangles .now) (a .r) (q .r .given .0 .0) (f .is-field .result) (q .r .given .1)
     (f .is-field .ensures)
     (e .if1 .left) _ (l .clear .ensures)
 

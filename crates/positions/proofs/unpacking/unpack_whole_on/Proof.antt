@@ -4,7 +4,7 @@ use mathlib.Core.Path.{sym}
 use lib.Seq.{length-take-le}
 use borrow.Author.Needs.{needs}
 use Rattle.positions_theory.proofs.Unpacking.{no-parts-on, two-parts-on, three-parts-on, room-on, as-told}
-use Rattle.positions.proofs.Told.{told-neither, told-two, told-three, told-rest}
+use Rattle.wire.proofs.Told.{told-neither, told-two, told-three, told-rest}
 use Rattle.positions.proofs.unpacking.unpack_whole_on.Statement.{statement}
 use Rattle.positions.proofs.unpacking.unpack_whole_on.Tie as tie
 

@@ -1,6 +1,6 @@
 -- `wire::fields::header_of` meets its contract: the bytes are those of `headerOf`, one by one.
 -- Assumes nothing.
-use Rattle.wire.proofs.Copies.{header-made}
+use Rattle.wire.proofs.Header.{header-made}
 use native.Mathlib.Omega.{arith}
 use Rattle.wire.proofs.fields.header_of.Statement.{statement}
 use Rattle.wire.proofs.fields.header_of.Tie as tie

@@ -1,7 +1,7 @@
--- `wire::writer::put_word` meets its contract: the loop's invariant is a copy of the first i bytes (Copies).
+-- `wire::writer::put_word` meets its contract: the loop's invariant is a copy of the first i bytes (wire_theory, Copies).
 -- Assumes nothing.
 use Rattle.wire.proofs.Words.{four-at}
-use Rattle.wire.proofs.Copies.{Copied, copy-none, copy-more, copy-all}
+use Rattle.wire_theory.proofs.Copies.{Copied, copy-none, copy-more, copy-all}
 use Rattle.wire_theory.specs.Buffer.{fourBytes}
 use mathlib.Core.Path.{refl}
 use Prim.Native.Nat.{_-_}

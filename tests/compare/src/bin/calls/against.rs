@@ -2,7 +2,7 @@
 
 use crate::service::Calls;
 use crate::words::Args;
-use compare::expected::{self, LEVEL};
+use compare::expected::{self, with_note, LEVEL};
 use cutborder::calls02::Calls02;
 use cutborder::fields::Fields;
 use cutborder::proto::hex;
@@ -15,28 +15,29 @@ const LINES: &str = include_str!("../../../lines.txt");
 
 /// Lines that the second program answers otherwise or not at all, and our answers.
 const OURS: [(&str, &str); 11] = [
-    ("level 13", "error the service stands at level 14"),
-    ("level 15", "not yet"),
-    ("bench pack=", "not yet"),
+    ("level 14", "error the service stands at level 15"),
+    ("level 16", "not yet"),
+    ("reader pack=", "not yet"),
     ("table", "not yet"),
     ("seat 1 pack=", "not yet"),
     ("as 1 unpack pack=", "not yet"),
-    ("pack v=3 list=0,1,2 note=", "not yet"),
     ("pack v=3 list=0,1,2 codes=", "not yet"),
+    ("pack v=3 list=0,1,2 note=00 codes=", "not yet"),
     ("pack v=3 list=0,1,2 order=99999999999", "error a length over 16777216"),
     ("unpack pack= places=18446744073709551615", "error a length over 16777216"),
     ("begin v=3 t=1 places=3 loops=1 triangles=18446744073709551615", "ok"),
 ];
 
 /// What each call answers at least once among the generated lines, 0 for acceptance.
-const MET: [(&str, &[u8]); 7] = [
+const MET: [(&str, &[u8]); 8] = [
     ("begin", &[0, 13, 14]),
+    ("bench", &[0, 12, 13, 14, 15, 16, 17, 18, 19, 20, 23, 25]),
     ("check", &[0, 1, 2, 3, 4, 5, 6, 7]),
     ("finish", &[0, 15, 19, 20, 21]),
     ("op", &[0, 16, 17, 18, 21]),
-    ("pack", &[0, 1, 2, 3, 4, 5, 6, 7, 8, 9, 10, 11, 22, 23]),
-    ("unpack", &[0, 12, 13, 14, 15, 16, 17, 18, 19, 20, 23]),
-    ("volume", &[0, 12, 13, 14, 15, 16, 17, 18, 19, 20, 23, 24]),
+    ("pack", &[0, 1, 2, 3, 4, 5, 6, 7, 8, 9, 10, 11, 22, 23, 25]),
+    ("unpack", &[0, 12, 13, 14, 15, 16, 17, 18, 19, 20, 23, 25]),
+    ("volume", &[0, 12, 13, 14, 15, 16, 17, 18, 19, 20, 23, 24, 25]),
 ];
 
 /// Both programs, and what was answered: each call's answers, and how often.
@@ -81,8 +82,8 @@ impl Both {
     }
 }
 
-/// What is sent for a generated line: a packing, and sometimes again with another order buffer; a pack by both calls that read one, again
-/// with other positions, and sometimes its building calls.
+/// What is sent for a generated line: a packing, and sometimes again with another order buffer; a pack by all calls that read one, again
+/// with other positions and another note, and sometimes its building calls.
 fn sent(rng: &mut Rng, line: &str) -> Vec<String> {
     let words: Vec<&str> = line.split(' ').collect();
     let args = Args(&words[1..]);
@@ -90,21 +91,22 @@ fn sent(rng: &mut Rng, line: &str) -> Vec<String> {
         "pack" => {
             let t = args.model().map_or(0, |(_, list)| list.len() / 3);
             let positions = args.positions().ok().flatten().map_or(0, |zs| zs.len());
+            let note = args.note().ok().flatten().map_or(0, |note| note.len());
             // Mostly less than 65,536 bytes, which take long, and still ample.
             let short = args.get("room").is_none() && !rng.chance(1, 16);
-            let room = if short { format!(" room={}", 4 * t + 2 * positions + 64) } else { String::new() };
+            let room = if short { format!(" room={}", 4 * t + 2 * positions + note + 64) } else { String::new() };
             let mut out = vec![line.to_owned() + &room];
             if rng.chance(1, 2) {
                 out.push(other_order(rng, &words, t) + &room);
             }
             out
         }
-        "unpack" | "volume" => {
+        "unpack" | "volume" | "bench" => {
             let pack = args.pack().unwrap_or_default();
             let rest = words[2..].join(" ");
             let call = |name: &str, p: &[u8]| format!("{name} pack={} {rest}", hex(p));
-            let mut out = vec![call("unpack", &pack), call("volume", &pack)];
-            out.extend(other_positions(rng, &pack).iter().map(|p| call(words[0], p)));
+            let mut out = ["unpack", "volume", "bench"].map(|name| call(name, &pack)).to_vec();
+            out.extend(other_positions(rng, &pack).iter().chain(&other_note(rng, &pack)).map(|p| call(words[0], p)));
             if rng.chance(1, 6) {
                 out.extend(building(&pack));
             }
@@ -117,12 +119,23 @@ fn sent(rng: &mut Rng, line: &str) -> Vec<String> {
 /// A pack with positions again without them, and now and then with such as 23 refuses.
 fn other_positions(rng: &mut Rng, pack: &[u8]) -> Vec<Vec<u8>> {
     let Some(f) = expected::fields(pack).ok().filter(|f| f.positions.is_some()) else { return Vec::new() };
-    let two = Fields { positions: None, ..f }.bytes();
-    let mut out = vec![two.clone()];
+    let mut out = vec![Fields { positions: None, ..f }.bytes()];
     if rng.chance(1, 4) {
+        let two = Fields { positions: None, note: None, ..f }.bytes();
         out.push(expected::with_unfit_field(rng, &two));
     }
     out
+}
+
+/// Some packs again with another note: none, one that fits, or one that 25 refuses.
+fn other_note(rng: &mut Rng, pack: &[u8]) -> Option<Vec<u8>> {
+    let f = expected::fields(pack).ok().filter(|f| rng.chance(if f.note.is_some() { 3 } else { 1 }, 6))?;
+    let without = Fields { note: None, ..f }.bytes();
+    Some(match rng.below(3) {
+        0 => without,
+        1 => with_note(&without, &expected::random_note(rng)),
+        _ => with_note(&without, &expected::unfit_note(rng)),
+    })
 }
 
 /// The building calls of a pack.

@@ -2,7 +2,7 @@
 
 use crate::words::{ample, hash, hash_places, joined, number, Args, Text};
 use compare::expected::LEVEL;
-use compare::{check, narrow, pack, unpack, volume, Buffers, Building, STATE};
+use compare::{bench, check, narrow, pack_whole, unpack, volume, Buffers, Building, STATE};
 use cutborder::ops::{Counts, Op};
 use cutborder::proto::hex;
 use cutborder::{Answer, Place, Refusal};
@@ -13,8 +13,8 @@ const BYTE: u8 = 0xaa;
 const PLACE: Place = Place { vertex: NUMBER, before: NUMBER, after: NUMBER, open: true };
 
 /// Calls and arguments of requests that have not landed.
-const LATER: [&str; 12] = ["bench", "reader", "totals", "scan", "table", "fans", "sprues", "seat", "turn", "fetch", "window", "as"];
-const LATER_GIVEN: [&str; 2] = ["note", "codes"];
+const LATER: [&str; 11] = ["reader", "totals", "scan", "table", "fans", "sprues", "seat", "turn", "fetch", "window", "as"];
+const LATER_GIVEN: &str = "codes";
 
 /// The builder, with the buffers of the last accepted beginning.
 pub struct Calls {
@@ -41,19 +41,19 @@ impl Calls {
         let args = Args(rest);
         match (*name, rest) {
             ("level", [n]) => self.level(n),
-            ("pack", _) if LATER_GIVEN.iter().any(|key| args.get(key).is_some()) => Ok("not yet".into()),
+            ("pack", _) if args.get(LATER_GIVEN).is_some() => Ok("not yet".into()),
             ("pack", _) => packing(&args),
             ("check", _) => {
                 let (v, list) = args.model()?;
                 Ok(answer(check(v as usize, &list).map(|()| String::new())))
             }
-            ("unpack", _) => in_buffers(&args, |b, triangles, places| {
-                let a = unpack(b, triangles, places)?;
-                Ok(format!("{} triangles={}", six_numbers(&a), joined(&triangles[..3 * a.t as usize])))
-            }),
+            ("unpack", _) => in_buffers(&args, |b, triangles, places| unpacked(unpack(b, triangles, places), triangles)),
             ("volume", _) => in_buffers(&args, |b, triangles, places| {
-                let (a, six) = volume(b, triangles, places)?;
-                Ok(format!("{} six={six}", six_numbers(&a)))
+                answer(volume(b, triangles, places).map(|(a, six)| format!("{} six={six}", six_numbers(&a))))
+            }),
+            ("bench", _) => in_buffers(&args, |b, triangles, places| {
+                let (told, note) = bench(b, triangles, places);
+                format!("{} note={}", unpacked(told, triangles), hex(note))
             }),
             ("begin", _) => self.begin(&args),
             ("op", _) => {
@@ -110,8 +110,8 @@ fn packing(args: &Args) -> Text {
         pack: vec![BYTE; args.length("room", 65_536)?],
         order: vec![NUMBER; args.length("order", t)?],
     };
-    let positions = args.positions()?.map(|zs| narrow(&zs));
-    let head = answer(pack(v as usize, &list, positions.as_deref(), b.lend()).map(|n| {
+    let (positions, note) = (args.positions()?.map(|zs| narrow(&zs)), args.note()?);
+    let head = answer(pack_whole(v as usize, &list, positions.as_deref(), note.as_deref(), b.lend()).map(|n| {
         let (numbering, order) = (joined(&b.numbering[..v as usize]), joined(&b.order[..t]));
         format!("len={n} pack={} numbering={numbering} order={order}", hex(&b.pack[..n]))
     }));
@@ -123,12 +123,17 @@ fn six_numbers(a: &Answer) -> String {
     format!("{} {} {} {} {} {}", a.v, a.t, a.edges, a.rims, a.unions, a.euler)
 }
 
+/// What unpacking answers.
+fn unpacked(told: Result<Answer, Refusal>, triangles: &[u16]) -> String {
+    answer(told.map(|a| format!("{} triangles={}", six_numbers(&a), joined(&triangles[..3 * a.t as usize]))))
+}
+
 /// A call that reads a pack, in the buffers that the line asks for.
-fn in_buffers(args: &Args, call: impl Fn(&[u8], &mut [u16], &mut [Place]) -> Result<String, Refusal>) -> Text {
+fn in_buffers(args: &Args, call: impl Fn(&[u8], &mut [u16], &mut [Place]) -> String) -> Text {
     let bytes = args.pack()?;
     let mut triangles = vec![NUMBER; args.length("triangles", ample(&bytes))?];
     let mut places = vec![PLACE; args.length("places", 1_024)?];
-    let head = answer(call(&bytes, &mut triangles, &mut places));
+    let head = call(&bytes, &mut triangles, &mut places);
     Ok(format!("{head} | rooms triangles={} places={}", hash(&triangles), hash_places(&places)))
 }
 

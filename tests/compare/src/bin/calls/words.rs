@@ -45,8 +45,17 @@ impl<'a> Args<'a> {
         Ok(self.asked(key, ample)?.min(LONGEST_BUFFER) as usize)
     }
 
+    /// Bytes, if they are given.
+    fn bytes(&self, key: &str) -> Result<Option<Vec<u8>>, &'static str> {
+        self.get(key).map(|s| unhex(s).ok_or("not hexadecimal")).transpose()
+    }
+
     pub fn pack(&self) -> Result<Vec<u8>, &'static str> {
-        unhex(self.get("pack").ok_or("no pack")?).ok_or("not hexadecimal")
+        self.bytes("pack")?.ok_or("no pack")
+    }
+
+    pub fn note(&self) -> Result<Option<Vec<u8>>, &'static str> {
+        self.bytes("note")
     }
 
     /// A list, if it is given.

@@ -1,0 +1,10 @@
+pub mod Back
+pub mod Beside
+pub mod Calls
+pub mod Following
+pub mod Forth
+pub mod Lending
+pub mod Measuring
+pub mod Putting
+pub mod Reading
+pub mod Unpacking

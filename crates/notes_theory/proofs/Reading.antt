@@ -1,0 +1,137 @@
+-- Packs with a note, read: what stands before the note decides, and the note is a part of the pack.
+-- Assumes nothing.
+use Prim.Native.Nat.{ℕ, _+_, _≤_}
+use native.Mathlib.Omega.{arith}
+use mathlib.Core.Bool.{Bool, true, false, _&&_}
+use mathlib.Core.List.{List, [], _++_, append-assoc}
+use mathlib.Core.Logic.{_⊎_, inl, inr}
+use mathlib.Core.Path.{_≡_, refl, sym, ap, ap₂, _∙_, subst}
+use lib.Dec.{leb}
+use lib.ListN.{length, take, drop, length-append}
+use lib.Seq.{drop-at, take-length}
+use borrow.Author.Tests.{le-leb, lt-leb, leb-true}
+use Rattle.rules.specs.declared.Model.{Model}
+use Rattle.rules.specs.Limits.{maxNote}
+use Rattle.rules.specs.Answer.{unpacked}
+use Rattle.rules.specs.Buffer.{Buffers}
+use Rattle.rules.specs.Fields.{fieldOf}
+use Rattle.rules.specs.Unpack.{UnpackResult}
+use Rattle.rules.specs.Later.{Given, not-given, given, parts, partsOf}
+use Rattle.rules.specs.Note.{noteTag, noteFits, withNote, NoteTaken, takeNote}
+use Rattle.rules.specs.UnpackWhole.{modelIn, thenTested, unpackWhole}
+use Rattle.rules.specs.Reading.{unpackNoted, VolumeResult, positionsIn, measured, volume, handedBack, handedFrom}
+use Rattle.counting.proofs.Bools.{and-right}
+use Rattle.wire_theory.specs.Shape.{Bytes}
+use Rattle.wire_theory.proofs.Lists.{below-front}
+use Rattle.wire_theory.proofs.Note.{NoteThere, NoNote, note-written, note-found}
+use Rattle.volume_theory.proofs.Whole.{tested-none, unpack-unnoted, volume-unnoted, passes}
+use Rattle.notes_theory.specs.Claims.{NotesMakeNoDifference, PartOf, TheNoteIsAPartOfThePack}
+
+-- a note that fits has a length that two bytes hold
+pub short : (ns : List ℕ) → noteFits (given ns) ≡ true → length ns ≤ maxNote
+short ns h = leb-true (length ns) maxNote (and-right (leb 1 (length ns)) (leb (length ns) maxNote) h)
+
+pub empty-unfit : (ns : List ℕ) → length ns ≡ 0 → false ≡ noteFits (given ns)
+empty-unfit ns e = sym (ap (λ (t : Bool). t && leb (length ns) maxNote) (lt-leb 1 (length ns) (omega (arith, e))))
+
+pub fits-by-most : (ns : List ℕ) → (length ns ≡ 0 → ⊥) → leb (length ns) maxNote ≡ noteFits (given ns)
+fits-by-most ns h = sym (ap (λ (t : Bool). t && leb (length ns) maxNote) (le-leb 1 (length ns) (omega (arith, h))))
+
+-- by what is taken for the note
+abbrev notedBy : NoteTaken → Buffers → UnpackResult
+notedBy d r =
+    let u = unpackWhole (d .before) r in thenTested 25 (λ (m : Model). noteFits (d .note)) r u (modelIn (u .answer))
+
+abbrev measuredBy : NoteTaken → Buffers → UnpackResult → VolumeResult
+measuredBy d r u = measured (positionsIn (partsOf (d .before))) r u (modelIn (u .answer))
+
+-- fields in order, and a sound note or none after them
+module _ (front two : List ℕ) (g : Given (List ℕ)) (fields : partsOf front ≡ parts two g) (r : Buffers) where
+  abbrev u : UnpackResult
+  u = unpackWhole front r
+
+  taken : (ns : List ℕ) → noteFits (given ns) ≡ true → takeNote (withNote (given ns) front) ≡ record { before = front; note = given ns }
+  taken ns h = note-written front two ns g fields (omega (arith, short ns h))
+
+  pub unpack-noted : (n : Given (List ℕ)) → noteFits n ≡ true → unpackNoted (withNote n front) r ≡ unpackWhole front r
+  unpack-noted not-given h = unpack-unnoted front two g r fields
+  unpack-noted (given ns) h =
+      ap (λ (d : NoteTaken). notedBy d r) (taken ns h) ∙ ap (λ (t : Bool). thenTested 25 (λ m. t) r u (modelIn (u .answer))) h
+      ∙ tested-none 25 r u (modelIn (u .answer))
+
+  pub volume-noted : (n : Given (List ℕ)) → noteFits n ≡ true
+      → volume (withNote n front) r ≡ measured (positionsIn (partsOf front)) r (unpackWhole front r) (modelIn (unpackWhole front r .answer))
+  volume-noted not-given h = volume-unnoted front two g r fields
+  volume-noted (given ns) h =
+      ap₂ (λ (d : NoteTaken) (x : UnpackResult). measuredBy d r x) (taken ns h) (unpack-noted (given ns) h)
+
+pub notes-make-no-difference : NotesMakeNoDifference
+notes-make-no-difference bytes bytes′ s = record {
+  unpacking = λ r. same (λ us. unpackNoted us r) (λ n h. unpack-noted (s .front) (s .two) (s .positions) (s .fields) r n h);
+  measuring = λ r. same (λ us. volume us r) (λ n h. volume-noted (s .front) (s .two) (s .positions) (s .fields) r n h);
+}
+  where
+    same : {A : Type 0} {x : A} (f : List ℕ → A) → ((n : Given (List ℕ)) → noteFits n ≡ true → f (withNote n (s .front)) ≡ x)
+        → f bytes ≡ f bytes′
+    same f h = ap f (s .is) ∙ h (s .note) (s .sound) ∙ sym (h (s .note′) (s .sound′)) ∙ sym (ap f (s .is′))
+
+-- the part that is handed back
+empty-part : (bytes : List ℕ) → PartOf bytes 0 []
+empty-part bytes = record { within = omega arith; bytes-there = refl }
+
+pub the-note-is-a-part-of-the-pack : TheNoteIsAPartOfThePack
+the-note-is-a-part-of-the-pack bytes r = by-note (note-found bytes)
+  where
+    Part : NoteTaken → Given Model → Type 0
+    Part d x = PartOf bytes (handedFrom (length (d .before)) (d .note) x) (handedBack (d .note) x)
+
+    none : (x : Given Model) → Part (record { before = bytes; note = not-given }) x
+    none not-given = empty-part bytes
+    none (given m) = empty-part bytes
+
+    there : (t : NoteThere bytes) (x : Given Model) → Part (record { before = t .front; note = given (t .note) }) x
+    there t not-given = empty-part bytes
+    there t (given m) =
+        let l = ap length (t .from) ∙ length-append (t .front) (t .head ++ t .note) in
+        let k = length-append (t .head) (t .note) in
+        let d : drop (length (t .front) + 3) bytes ≡ t .note =
+        ap (drop (length (t .front) + 3)) (t .from ∙ sym (append-assoc (t .front) (t .head) (t .note)))
+        ∙ drop-at (t .front ++ t .head) (t .note) (length (t .front) + 3) (length-append (t .front) (t .head) ∙ omega (arith, t .three)) in
+        record {
+          within = omega (arith, l, k, t .three);
+          bytes-there = ap (take (length (t .note))) d ∙ take-length (t .note);
+        }
+
+    by-note : NoNote bytes ⊎ NoteThere bytes → Part (takeNote bytes) (modelIn (unpackNoted bytes r .answer))
+    by-note (inl e) = subst (λ (d : NoteTaken). Part d (modelIn (unpackNoted bytes r .answer))) (sym e)
+        (none (modelIn (unpackNoted bytes r .answer)))
+    by-note (inr t) = subst (λ (d : NoteTaken). Part d (modelIn (unpackNoted bytes r .answer))) (sym (t .is))
+        (there t (modelIn (unpackNoted bytes r .answer)))
+
+-- a pack that is accepted: its fields before the note are, and the note fits
+pub record AcceptsNoted (bytes : List ℕ) (r : Buffers) (m : Model) : Type 0 where
+  pub accepted : unpackWhole (takeNote bytes .before) r .answer ≡ unpacked m
+  pub fits : noteFits (takeNote bytes .note) ≡ true
+  pub same : unpackNoted bytes r ≡ unpackWhole (takeNote bytes .before) r
+
+pub accepts-noted : (bytes : List ℕ) (r : Buffers) (m : Model) → unpackNoted bytes r .answer ≡ unpacked m → AcceptsNoted bytes r m
+accepts-noted bytes r m e =
+    let d = takeNote bytes in
+    let x = unpackWhole (d .before) r in
+    let p = passes 25 (λ (n : Model). noteFits (d .note)) r x m (modelIn (x .answer)) refl e in
+    record { accepted = p .accepted; fits = p .fit; same = p .same }
+
+-- it was written so
+pub written-noted : (bytes : List ℕ) → Bytes bytes → bytes ≡ withNote (takeNote bytes .note) (takeNote bytes .before)
+written-noted bytes hb = by-note (note-found bytes)
+  where
+    by-note : NoNote bytes ⊎ NoteThere bytes → bytes ≡ withNote (takeNote bytes .note) (takeNote bytes .before)
+    by-note (inl e) = sym (ap (λ (d : NoteTaken). withNote (d .note) (d .before)) e)
+    by-note (inr t) = t .written hb ∙ sym (ap (λ (d : NoteTaken). withNote (d .note) (d .before)) (t .is))
+
+pub bytes-before : (bytes : List ℕ) → Bytes bytes → Bytes (takeNote bytes .before)
+bytes-before bytes hb = go (takeNote bytes .note) (takeNote bytes .before) (written-noted bytes hb)
+  where
+    go : (n : Given (List ℕ)) (front : List ℕ) → bytes ≡ withNote n front → Bytes front
+    go not-given front e = subst Bytes e hb
+    go (given ns) front e = below-front 256 front (fieldOf noteTag ns) (subst Bytes e hb)

@@ -1,0 +1,42 @@
+// Packing a list with what is given besides.
+use crate::grid::POSITIONS;
+use crate::grid::put_positions;
+use notes::packing::pack_note_on;
+use notes::packing::pack_positions_note_on;
+use packer::pack_on;
+use positions::packing::pack_whole_on;
+use rules::Builder;
+use rules::Packed;
+
+// What is given besides the list.
+pub struct Given {
+    pub positions: bool,
+    pub note: bool,
+}
+
+// Packs a list, with the positions that numbers stand for and with the note, each if it is given.
+pub fn pack_list(
+    v: usize,
+    list: &[u16],
+    given: Given,
+    numbers: &[u16],
+    note: &[u8],
+    numbering: &mut [u16],
+    buffer: &mut [u8],
+    order: &mut [u16],
+) -> Packed {
+    let places = Builder::MAX_PLACES;
+    if !given.positions {
+        if !given.note {
+            return pack_on(v, list, numbering, buffer, order, places);
+        }
+        return pack_note_on(v, list, note, numbering, buffer, order, places);
+    }
+    let mut grid = [0i16; POSITIONS];
+    let n = put_positions(numbers, &mut grid);
+    let positions = &grid[..n];
+    if !given.note {
+        return pack_whole_on(v, list, positions, numbering, buffer, order, places);
+    }
+    pack_positions_note_on(v, list, positions, note, numbering, buffer, order, places)
+}
