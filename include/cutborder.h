@@ -119,8 +119,8 @@ uint32_t cutborder_volume(const uint8_t *pack, size_t bytes, uint16_t *triangles
                           size_t records, uint16_t model[5], int32_t *euler, int64_t *six);
 
 /* The bench reader: answers and writes as cutborder_unpack, refusals too, and tells where the note stands in the pack: from pack[start]
- * on, so many bytes. Start and length are always written, both 0 if there is no note or the pack is refused. No other call's answer
- * depends on a note of 1 to 64 bytes or on whether there is one. */
+ * on, length bytes. Start and length are always written, both 0 if there is no note or the pack is refused. No other call's answer, nor
+ * what it writes, depends on a note of 1 to 64 bytes or on whether there is one. */
 uint32_t cutborder_bench(const uint8_t *pack, size_t bytes, uint16_t *triangles, size_t triangle_entries, struct cutborder_place *places,
                          size_t records, uint16_t model[5], int32_t *euler, size_t *start, size_t *length);
 

@@ -1,5 +1,5 @@
-//! The cost of positions: packing and unpacking with them, and the volume, of which our aim is that it costs at most 10 nanoseconds a
-//! triangle more than unpacking the same pack.
+//! The cost of positions and notes: packing and unpacking with them, and the volume, of which our aim is that it costs at most 10
+//! nanoseconds a triangle more than unpacking the same pack.
 
 use crate::{grown, medians, packings, print_ratio, unpackings};
 use compare::expected::{self, LEVEL};

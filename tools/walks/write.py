@@ -1,5 +1,5 @@
 #!/usr/bin/env python3
-"""Writes the walks of the service's calls and of the functions for C and Rust: one line for each.
+"""Writes the walks of the service's calls, all but `bench`, and of the functions for C and Rust: one line for each.
 
 `tools/walks/write.py` writes crates/CRATE/proofs/NAME/Proof.antt of each; then `rt check CRATE`. `tools/walks/write.py --check` says
 which of them is not what it would write, and exits with 1 if there is one."""

@@ -4,8 +4,8 @@
 pub mod alter; // the surgery of a planned operation
 pub mod count; // the counts after an operation
 pub mod finish; // the end of a building
-pub mod touches; // what an operation touched, noted for the write-back to the lent list
 pub mod plan; // what each operation would do
+pub mod touches; // what an operation touched, noted for the write-back to the lent list
 pub mod triangles; // the triangle buffer
 pub mod verdict; // whether an operation is allowed and has room
 

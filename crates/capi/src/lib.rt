@@ -1,8 +1,8 @@
-// The service's calls for C and Rust. Each function goes through the service's call of its name and returns 0 for acceptance or the
-// refusal's number, 1 to 25; a refusal leaves the memory for results as it was, but for where a note stands, which is always written. A
-// slice is a pointer and a count of entries. Place records and builders lie in memory as C lays them out (`repr(C)`): a record is 8
-// bytes, its `open` a bool, so 0 or 1; a builder is 213 numbers of 16 bits. What a caller's numbers cannot mean is refused by a rule:
-// specs/Given.antt says by which. The contracts cite specs/Exported.antt.
+// The service's calls for C and Rust. Each function goes through the service's call of its name, `cutborder_bench` through `bench_at`, and
+// returns 0 for acceptance or the refusal's number, 1 to 25; a refusal leaves the memory for results as it was, but for where a note
+// stands, which is always written. A slice is a pointer and a count of entries. Place records and builders lie in memory as C lays them
+// out (`repr(C)`): a record is 8 bytes, its `open` a bool, so 0 or 1; a builder is 213 numbers of 16 bits. What a caller's numbers cannot
+// mean is refused by a rule: specs/Given.antt says by which. The contracts cite specs/Exported.antt.
 mod answered; // answers as numbers
 mod given; // counts and operations from numbers
 

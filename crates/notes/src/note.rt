@@ -1,5 +1,5 @@
 // A note: 25, and the field that is written of it.
-use rules::NOTE;
+use rules::MOST_NOTE;
 use wire::fields::NOTE_TAG;
 ghost use mathlib.Core.Path.{_≡_};
 ghost use Prim.Native.Nat.{_+_, _≤_};
@@ -7,16 +7,18 @@ ghost use lib.ListN.{length};
 ghost use Rattle.rules.specs.Fields.{fieldOf};
 ghost use Rattle.rules.specs.Later.{given};
 ghost use Rattle.rules.specs.Note.{noteTag, noteFits};
+ghost use Rattle.rules.specs.Limits.{maxNote};
+ghost use Rattle.notes_theory.specs.Claims.{noteLength};
 ghost use Rattle.notes_theory.specs.Packing.{putAt};
 
-// 25.
+// Whether a note has one to 64 bytes: if not, 25.
 pub(crate) fn is_note(note: &[u8]) -> bool
     ensures { λ b. ⌜ b ≡ noteFits (given (now (note .entry))) ⌝ }
 {
     if note.len() == 0 {
         return false;
     }
-    note.len() <= NOTE
+    note.len() <= MOST_NOTE
 }
 
 // Writes some bytes over a buffer, from byte n on.
@@ -33,7 +35,7 @@ fn put_bytes(buffer: &mut [u8], n: usize, bytes: &[u8])
 
 // Writes the field of a note that fits, from byte n on.
 pub(crate) fn put_note(buffer: &mut [u8], n: usize, note: &[u8])
-    requires { ⌜ (length (now note) ≤ 64) × (n + 3 + length (now note) ≤ length (now buffer)) ⌝ }
+    requires { ⌜ (length (now note) ≤ maxNote) × (n + noteLength (now note) ≤ length (now buffer)) ⌝ }
     ensures { λ _. ⌜ now (buffer .exit) ≡ putAt (now (buffer .entry)) n (fieldOf noteTag (now (note .entry))) ⌝ }
 {
     let header = [NOTE_TAG, 0, note.len() as u8];

@@ -4,7 +4,7 @@ use crate::note::is_note;
 use crate::note::put_note;
 use packer::pack_on;
 use positions::packing::clear_after;
-use positions::packing::pack_whole_on;
+use positions::packing::pack_positions_on;
 use positions::packing::room_before;
 use positions::packing::unfit;
 use positions::writing::are_positions;
@@ -76,6 +76,6 @@ pub fn pack_positions_note_on(
         return unfit(v, list, numbering.len(), order.len(), n, k);
     }
     let end = room_before(buffer.len(), 3 + note.len());
-    let r = pack_whole_on(v, list, positions, numbering, &mut buffer[..end], order, n);
+    let r = pack_positions_on(v, list, positions, numbering, &mut buffer[..end], order, n);
     follow(r, note, buffer)
 }

@@ -39,7 +39,7 @@ use Rattle.mesh_theory.proofs.Fans.Checks.{check-accepted, accepted-refused}
 use Rattle.roundtrip.proofs.Results.{not-packed, stored-done, stored-refused}
 use Rattle.volume_theory.specs.Shorter.{besides, mostPack}
 use Rattle.volume_theory.proofs.Positions.{length-field}
-use Rattle.volume_theory.proofs.Beside.{byRooms, byExtras, run, runs, passed}
+use Rattle.volume_theory.proofs.Beside.{byRooms, byExtras, run, runs, passed, Answers, stored-answer}
 use Rattle.volume_theory.proofs.Shorter.{short-pack}
 use Rattle.notes_theory.specs.Claims.{noteLength, NoteFollowed, PassesTo25, NoteFollowsThePack}
 
@@ -324,21 +324,11 @@ note-follows-the-pack v xs g ns r = record {
 
 -- what packing without a note answers
 module _ (v : ℕ) (xs : List ℕ) (g : Given (List ℤ)) (r : PackBuffers) where
-  abbrev pub Answers : PackResult → Type 0
-  Answers p = ((j : ℕ) × (p .answer ≡ refusal j)) ⊎ ((n : ℕ) × (p .answer ≡ packed n))
-
-  stored-answers : (w : PackContents) → Answers (packStored v (trianglesOf xs) w r)
-  stored-answers w = go (leb (length (w .pack)) (length (r .pack)))
-    where
-      go : (t : Bool) → Answers (elim t [ true ↦ packDone w r | false ↦ packRefused 11 v (trianglesOf xs) r ])
-      go true = inr (length (w .pack), refl)
-      go false = inl (11, refl)
-
   chosen-answers : (c : Chosen) → Answers (wholeChosen v (trianglesOf xs) (extras g not-given) r (orderFor most (trianglesOf xs)) c)
   unfolding wholeChosen
   chosen-answers (stopped n) = inl (n, refl)
   chosen-answers (chosen os s) =
-      stored-answers (wholeContentsOf v (trianglesOf xs) (extras g not-given) (orderFor most (trianglesOf xs)) os s)
+      stored-answer v (trianglesOf xs) (wholeContentsOf v (trianglesOf xs) (extras g not-given) (orderFor most (trianglesOf xs)) os s) r
 
   pub whole-answers : Answers (packWhole v xs (extras g not-given) r)
   whole-answers = by-decision (decided v xs g r)

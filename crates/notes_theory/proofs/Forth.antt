@@ -28,7 +28,7 @@ use Rattle.roundtrip.specs.Claims.{LongEnoughFor}
 use Rattle.roundtrip.proofs.Results.{packed-by, not-packed, unpacked-by}
 use Rattle.roundtrip.proofs.Each.{each-once}
 use Rattle.volume_theory.proofs.Beside.{given-neither-packs-the-list}
-use Rattle.volume_theory.proofs.Whole.{Accepts, accepts, packs-of-two-fields-read-as-before}
+use Rattle.volume_theory.proofs.Whole.{Accepts, accepts, two-fields-whole}
 use Rattle.volume_theory.proofs.Forth.{pack-with-positions-unpacks}
 use Rattle.notes_theory.specs.Claims.{noteLength, PassesTo25, ReadBack, PackWithNoteIsReadBack}
 use Rattle.notes_theory.proofs.Beside.{Stopped, decided, unfit, front-long, note-follows-the-pack, whole-answers}
@@ -53,7 +53,7 @@ unpacks v xs not-given r n e r′ long =
     subst (λ (p : PackResult). Unpacks (take n (p .buffers .pack)) r′) (sym q)
     (record {
       model = m;
-      accepted = ap (λ (u : UnpackResult). u .answer) (packs-of-two-fields-read-as-before two (w .counts) (w .ops) (w .found) r′)
+      accepted = ap (λ (u : UnpackResult). u .answer) (two-fields-whole two (w .counts) (w .ops) (w .found) r′)
           ∙ o .accepted;
     })
 unpacks v xs (given zs) r n e r′ long =

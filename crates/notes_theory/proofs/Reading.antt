@@ -19,13 +19,13 @@ use Rattle.rules.specs.Unpack.{UnpackResult}
 use Rattle.rules.specs.Later.{Given, not-given, given, parts, partsOf}
 use Rattle.rules.specs.Note.{noteTag, noteFits, withNote, NoteTaken, takeNote}
 use Rattle.rules.specs.UnpackWhole.{modelIn, thenTested, unpackWhole}
-use Rattle.rules.specs.Reading.{unpackNoted, VolumeResult, positionsIn, measured, volume, handedBack, handedFrom}
+use Rattle.rules.specs.Reading.{unpackNoted, VolumeResult, positionsIn, measured, volume, handedBack, handedFrom, bench}
 use Rattle.counting.proofs.Bools.{and-right}
 use Rattle.wire_theory.specs.Shape.{Bytes}
 use Rattle.wire_theory.proofs.Lists.{below-front}
-use Rattle.wire_theory.proofs.Note.{NoteThere, NoNote, note-written, note-found}
+use Rattle.wire_theory.proofs.Note.{NoteThere, NoNote, no-note, note-written, note-found}
 use Rattle.volume_theory.proofs.Whole.{tested-none, unpack-unnoted, volume-unnoted, passes}
-use Rattle.notes_theory.specs.Claims.{NotesMakeNoDifference, PartOf, TheNoteIsAPartOfThePack}
+use Rattle.notes_theory.specs.Claims.{NotesMakeNoDifference, PartOf, TheNoteIsAPartOfThePack, TheBenchReadsThePack}
 
 -- a note that fits has a length that two bytes hold
 pub short : (ns : List ℕ) → noteFits (given ns) ≡ true → length ns ≤ maxNote
@@ -107,6 +107,44 @@ the-note-is-a-part-of-the-pack bytes r = by-note (note-found bytes)
         (none (modelIn (unpackNoted bytes r .answer)))
     by-note (inr t) = subst (λ (d : NoteTaken). Part d (modelIn (unpackNoted bytes r .answer))) (sym (t .is))
         (there t (modelIn (unpackNoted bytes r .answer)))
+
+-- what the bench reader gives, by the note that is taken
+none-handed : (n : ℕ) (g : Given (List ℕ)) → (handedBack g not-given ≡ []) × (handedFrom n g not-given ≡ 0)
+none-handed n not-given = (refl, refl)
+none-handed n (given ns) = (refl, refl)
+
+not-handed : (n : ℕ) (x : Given Model) → (handedBack not-given x ≡ []) × (handedFrom n not-given x ≡ 0)
+not-handed n not-given = (refl, refl)
+not-handed n (given m) = (refl, refl)
+
+pub the-bench-reads-the-pack : TheBenchReadsThePack
+the-bench-reads-the-pack bytes r = record {
+  answer = refl;
+  buffers = refl;
+  refused = λ k e. by (takeNote bytes) not-given refl (ap modelIn e) (none-handed (length (takeNote bytes .before)) (takeNote bytes .note));
+  none = λ two g e. by (record { before = bytes; note = not-given }) model (no-note bytes two g e) refl (not-handed (length bytes) model);
+  contents =
+      λ front two ns g e h f m a. by-contents front ns m
+      (ap takeNote f ∙ note-written front two ns g e (omega (arith, short ns h))) (ap modelIn a);
+}
+  where
+    model : Given Model
+    model = modelIn (unpackNoted bytes r .answer)
+
+    by : (d : NoteTaken) (x : Given Model) → takeNote bytes ≡ d → modelIn (unpackNoted bytes r .answer) ≡ x
+        → (handedBack (d .note) x ≡ []) × (handedFrom (length (d .before)) (d .note) x ≡ 0)
+        → (bench bytes r .note ≡ []) × (bench bytes r .start ≡ 0)
+    by d x e f h = (
+      ap₂ (λ (y : NoteTaken) (z : Given Model). handedBack (y .note) z) e f ∙ h .0,
+      ap₂ (λ (y : NoteTaken) (z : Given Model). handedFrom (length (y .before)) (y .note) z) e f ∙ h .1,
+    )
+
+    by-contents : (front ns : List ℕ) (m : Model) → takeNote bytes ≡ record { before = front; note = given ns }
+        → modelIn (unpackNoted bytes r .answer) ≡ given m → (bench bytes r .note ≡ ns) × (bench bytes r .start ≡ length front + 3)
+    by-contents front ns m e f = (
+      ap₂ (λ (y : NoteTaken) (z : Given Model). handedBack (y .note) z) e f,
+      ap₂ (λ (y : NoteTaken) (z : Given Model). handedFrom (length (y .before)) (y .note) z) e f,
+    )
 
 -- a pack that is accepted: its fields before the note are, and the note fits
 pub record AcceptsNoted (bytes : List ℕ) (r : Buffers) (m : Model) : Type 0 where

@@ -1,8 +1,9 @@
--- What is claimed of packs with a note, each proved under the same name with hyphens.
+-- What is claimed of packs with a note, and of the volume call on packs with a note and without, each proved under the same name with
+-- hyphens.
 -- Assumes nothing.
 use Prim.Native.Nat.{ℕ, _+_, _*_, _≤_, _<_}
 use mathlib.Core.Bool.{true, false}
-use mathlib.Core.List.{List, _++_}
+use mathlib.Core.List.{List, [], _++_}
 use mathlib.Core.Logic.{_↔_}
 use mathlib.Core.Path.{_≡_}
 use lib.IntN.{ℤ, pos, negℤ, natAbs, _-ℤ_}
@@ -17,7 +18,7 @@ use Rattle.rules.specs.Pack.{PackBuffers, PackResult, turnedDown, packRefused}
 use Rattle.rules.specs.Later.{Given, not-given, given, parts, partsOf}
 use Rattle.rules.specs.Note.{noteTag, noteFits, withNote, takeNote}
 use Rattle.rules.specs.PackWhole.{Extras, extras, givenFit, packWhole}
-use Rattle.rules.specs.Reading.{unpackNoted, volume, bench}
+use Rattle.rules.specs.Reading.{unpackNoted, volume, BenchResult, bench}
 use Rattle.wire_theory.specs.Shape.{Bytes}
 use Rattle.roundtrip.specs.Claims.{LongEnoughFor, listIn}
 use Rattle.volume_theory.specs.Whole.{PassesRooms, positionsOfPack, WholePackOf}
@@ -85,6 +86,25 @@ pub record PartOf (bytes : List ℕ) (start : ℕ) (note : List ℕ) : Type 0 wh
 
 abbrev pub TheNoteIsAPartOfThePack : Type 0
 TheNoteIsAPartOfThePack = (bytes : List ℕ) (r : Buffers) → PartOf bytes (bench bytes r .start) (bench bytes r .note)
+
+abbrev pub NoPart : BenchResult → Type 0
+NoPart b = (b .note ≡ []) × (b .start ≡ 0)
+
+-- what the bench reader gives, of any bytes
+pub record BenchReads (bytes : List ℕ) (r : Buffers) : Type 0 where
+  -- "it answers and writes as unpacking, refusals too"
+  pub answer : bench bytes r .answer ≡ unpackNoted bytes r .answer
+  pub buffers : bench bytes r .buffers ≡ unpackNoted bytes r .buffers
+  -- "an empty part if there is none or unpacking refuses the pack"
+  pub refused : (k : ℕ) → unpackNoted bytes r .answer ≡ refusal k → NoPart (bench bytes r)
+  pub none : (two : List ℕ) (g : Given (List ℕ)) → partsOf bytes ≡ parts two g → NoPart (bench bytes r)
+  -- else the contents of the field, which stand after its tag and length
+  pub contents : (front two ns : List ℕ) (g : Given (List ℕ)) → partsOf front ≡ parts two g → noteFits (given ns) ≡ true
+      → bytes ≡ withNote (given ns) front → (m : Model) → unpackNoted bytes r .answer ≡ unpacked m
+      → (bench bytes r .note ≡ ns) × (bench bytes r .start ≡ length front + 3)
+
+abbrev pub TheBenchReadsThePack : Type 0
+TheBenchReadsThePack = (bytes : List ℕ) (r : Buffers) → BenchReads bytes r
 
 -- a pack with a note is read as that without, and the bench reader hands the note back
 pub record ReadBack (ns bytes front : List ℕ) (r : Buffers) : Type 0 where

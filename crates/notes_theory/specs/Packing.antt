@@ -20,11 +20,15 @@ use Rattle.notes_theory.specs.Claims.{noteLength}
 abbrev pub putAt : List ℕ → ℕ → List ℕ → List ℕ
 putAt bs n ws = take n bs ++ (ws ++ drop (n + length ws) bs)
 
+-- no pack comes near so many bytes
+abbrev pub beyondPacks : ℕ
+beyondPacks = 1000000
+
 -- an accepted packing of all else leaves room for the note after the pack, and the whole length fits
 pub record RoomAfter (k : ℕ) (ns bs : List ℕ) : Type 0 where
   pub few : length ns ≤ maxNote
   pub room : k + noteLength ns ≤ length bs
-  pub short : k < 1000000
+  pub short : k < beyondPacks
 
 abbrev pub NoteRoom : Packed → List ℕ → List ℕ → Type 0
 NoteRoom (P.Length k) ns bs = RoomAfter k ns bs

@@ -14,7 +14,7 @@ mod packing; // packing with what is given besides
 use grid::POSITIONS;
 use grid::read_positions;
 use libc::STDIN_FILENO;
-use note::NOTE_BYTES;
+use note::NOTE_BUFFER;
 use note::read_note;
 use numbers::PART;
 use numbers::Told;
@@ -160,7 +160,7 @@ fn run_noted(order_name: &[u8], positions_name: &[u8], noted: bool, note: &[u8])
 
 // Reads the note, if a file is named for it, then the positions and a model, and packs it.
 fn run(order_name: &[u8], positions_name: &[u8], note_name: &[u8]) -> Output {
-    let mut note = [0u8; NOTE_BYTES];
+    let mut note = [0u8; NOTE_BUFFER];
     let r = read_note(note_name, &mut note);
     let Read::To(n) = r else {
         return Output::fresh();

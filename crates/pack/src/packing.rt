@@ -4,7 +4,7 @@ use crate::grid::put_positions;
 use notes::packing::pack_note_on;
 use notes::packing::pack_positions_note_on;
 use packer::pack_on;
-use positions::packing::pack_whole_on;
+use positions::packing::pack_positions_on;
 use rules::Builder;
 use rules::Packed;
 
@@ -36,7 +36,7 @@ pub fn pack_list(
     let n = put_positions(numbers, &mut grid);
     let positions = &grid[..n];
     if !given.note {
-        return pack_whole_on(v, list, positions, numbering, buffer, order, places);
+        return pack_positions_on(v, list, positions, numbering, buffer, order, places);
     }
     pack_positions_note_on(v, list, positions, note, numbering, buffer, order, places)
 }

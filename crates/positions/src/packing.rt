@@ -83,7 +83,7 @@ fn pack_fitting(
 
 // Packs any list of a model of v vertices, with any positions by old vertex, into any buffers, where n place records were lent. After 1
 // to 8, 22 and 23 nothing has changed.
-pub fn pack_whole_on(
+pub fn pack_positions_on(
     v: usize,
     list: &[u16],
     positions: &[i16],

@@ -23,7 +23,7 @@ use Rattle.mesh_theory.proofs.Chains.Prefix.{length-numbers}
 use Rattle.roundtrip.proofs.Results.{unpacked-by}
 use Rattle.roundtrip.proofs.Back.{triangles-are, list-is}
 use Rattle.volume_theory.proofs.Whole.{tested-none, accepts}
-use Rattle.positions_theory.specs.Unpacking.{UnpackedWholeOn, testedAnswer, testedTriangles, positionsTest, RoomFor}
+use Rattle.positions_theory.specs.Unpacking.{UnpackedWholeOn, testedAnswer, testedTriangles, always, TestTold, positionsTest, RoomFor}
 
 -- the buffer of an accepted unpacking, past its triangles
 beyond : (bytes : List ℕ) (r : Buffers) (m : Model) → unpack bytes r .answer ≡ unpacked m
@@ -117,25 +117,42 @@ room-on bytes ts n (U.Model m) ts′ h l =
     let k = leb-true (3 * u .counts .triangles) (length ts) (and-left _ _ (u .enough)) in
     omega (arith, l, k, ap (λ (x : Model). x .triangles) (u .model))
 
--- a test of an accepted unpacking
-module _ (k : ℕ) (fits : Model → Bool) (ts : List ℕ) (r : Unpacked) (m : Model) (b : Bool) (e : r ≡ U.Model m) (f : b ≡ fits m) where
-  pub tested-fits : b ≡ true → (U.Model m ≡ testedAnswer k fits r) × (ts ≡ testedTriangles fits r ts)
-  tested-fits h =
-      subst (λ (x : Unpacked). (U.Model m ≡ testedAnswer k fits x) × (ts ≡ testedTriangles fits x ts)) (sym e) (
-        sym (ap (λ (t : Bool). elim t as (λ _. Unpacked) [ true ↦ U.Model m | false ↦ U.Refused k ]) (sym f ∙ h)),
-        sym (ap (λ (t : Bool). elim t as (λ _. List ℕ) [ true ↦ ts | false ↦ zeroed (3 * m .triangles) ts ]) (sym f ∙ h)),
+-- a test of an accepted unpacking, with the outcome b
+module _ (k : ℕ) (b : Bool) (ts : List ℕ) (r : Unpacked) (m : Model) (e : r ≡ U.Model m) where
+  pub test-passes : b ≡ true → (U.Model m ≡ testedAnswer k (always b) r) × (ts ≡ testedTriangles (always b) r ts)
+  test-passes h =
+      subst (λ (x : Unpacked). (U.Model m ≡ testedAnswer k (always b) x) × (ts ≡ testedTriangles (always b) x ts)) (sym e) (
+        sym (ap (λ (t : Bool). elim t as (λ _. Unpacked) [ true ↦ U.Model m | false ↦ U.Refused k ]) h),
+        sym (ap (λ (t : Bool). elim t as (λ _. List ℕ) [ true ↦ ts | false ↦ zeroed (3 * m .triangles) ts ]) h),
       )
 
-  pub tested-fails : b ≡ false → (ts′ : List ℕ) → ts′ ≡ zeroed (3 * m .triangles) ts
-      → (U.Refused k ≡ testedAnswer k fits r) × (ts′ ≡ testedTriangles fits r ts)
-  tested-fails h ts′ z =
-      subst (λ (x : Unpacked). (U.Refused k ≡ testedAnswer k fits x) × (ts′ ≡ testedTriangles fits x ts)) (sym e) (
-        sym (ap (λ (t : Bool). elim t as (λ _. Unpacked) [ true ↦ U.Model m | false ↦ U.Refused k ]) (sym f ∙ h)),
-        z ∙ sym (ap (λ (t : Bool). elim t as (λ _. List ℕ) [ true ↦ ts | false ↦ zeroed (3 * m .triangles) ts ]) (sym f ∙ h)),
+  pub test-fails : b ≡ false → (ts′ : List ℕ) → ts′ ≡ zeroed (3 * m .triangles) ts
+      → (U.Refused k ≡ testedAnswer k (always b) r) × (ts′ ≡ testedTriangles (always b) r ts)
+  test-fails h ts′ z =
+      subst (λ (x : Unpacked). (U.Refused k ≡ testedAnswer k (always b) x) × (ts′ ≡ testedTriangles (always b) x ts)) (sym e) (
+        sym (ap (λ (t : Bool). elim t as (λ _. Unpacked) [ true ↦ U.Model m | false ↦ U.Refused k ]) h),
+        z ∙ sym (ap (λ (t : Bool). elim t as (λ _. List ℕ) [ true ↦ ts | false ↦ zeroed (3 * m .triangles) ts ]) h),
       )
 
-  pub room-for : RoomFor r ts → 3 * m .triangles ≤ length ts
-  room-for h = subst (λ (x : Unpacked). RoomFor x ts) e h
+pub room-for : (ts : List ℕ) (r : Unpacked) (m : Model) → r ≡ U.Model m → RoomFor r ts → 3 * m .triangles ≤ length ts
+room-for ts r m e h = subst (λ (x : Unpacked). RoomFor x ts) e h
+
+-- the outcome is that of the test, if there is a model
+module _ (fits : Model → Bool) (b : Bool) where
+  pub told-answer : (k : ℕ) (r : Unpacked) → TestTold fits r b → testedAnswer k (always b) r ≡ testedAnswer k fits r
+  told-answer k (U.Model m) h = ap (λ (t : Bool). elim t as (λ _. Unpacked) [ true ↦ U.Model m | false ↦ U.Refused k ]) (h m refl)
+  told-answer k (U.Refused j) h = refl
+
+  pub told-triangles : (r : Unpacked) (ts : List ℕ) → TestTold fits r b → testedTriangles (always b) r ts ≡ testedTriangles fits r ts
+  told-triangles (U.Model m) ts h =
+      ap (λ (t : Bool). elim t as (λ _. List ℕ) [ true ↦ ts | false ↦ zeroed (3 * m .triangles) ts ]) (h m refl)
+  told-triangles (U.Refused j) ts h = refl
+
+  pub refused-told : (r : Unpacked) (k : ℕ) → r ≡ U.Refused k → TestTold fits r b
+  refused-told r k e m f = let q : U.Refused k ≡ U.Model m = sym e ∙ f in let z : _≡_ {A = ℕ} 0 1 = cc in absurd (omega arith)
+
+  pub model-told : (r : Unpacked) (m : Model) → r ≡ U.Model m → b ≡ fits m → TestTold fits r b
+  model-told r m e h n f = let q : U.Model m ≡ U.Model n = sym e ∙ f in let p : m ≡ n = cc in h ∙ ap fits p
 
 -- what is answered and left is the definition's
 pub as-told : (bytes ts : List ℕ) (n : ℕ) (r s : Unpacked) (us vs : List ℕ) → UnpackedWholeOn bytes ts n s vs → r ≡ s → us ≡ vs

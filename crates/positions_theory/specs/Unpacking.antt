@@ -40,6 +40,14 @@ abbrev pub testedTriangles : (Model → Bool) → Unpacked → List ℕ → List
 testedTriangles fits (U.Model m) ts = elim (fits m) [ true ↦ ts | false ↦ zeroed (3 * m .triangles) ts ]
 testedTriangles fits (U.Refused j) ts = ts
 
+-- a test whose outcome is known
+abbrev pub always : Bool → Model → Bool
+always b m = b
+
+-- b is the outcome of a test of the model of an unpacking that was answered r, if there is one
+abbrev pub TestTold : (Model → Bool) → Unpacked → Bool → Type 0
+TestTold fits r b = (m : Model) → r ≡ U.Model m → b ≡ fits m
+
 -- 23, of the positions bs
 abbrev pub positionsTest : List ℕ → Model → Bool
 positionsTest bs m = fieldFits (m .vertices) (given bs)

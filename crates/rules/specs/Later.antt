@@ -1,4 +1,5 @@
--- The field that may follow the operations of a pack: grid positions. 12 counts it in its place, whole, at most once.
+-- The first field that may follow the operations of a pack: grid positions. 12 counts it in its place, whole, at most once. A note is taken
+-- off before (Note).
 -- Assumes nothing.
 use Prim.Native.Nat.{ℕ, _-_}
 use mathlib.Core.List.{List, [], _∷_}

@@ -151,8 +151,8 @@
 --   "packing answers the pack's length, unpacking V, T .." | Answer: packedAnswer, unpackedAnswer | "M1" to "M5"
 --   C-13: "The volume call unpacks and gives besides six times .." | Reading: VolumeResult, sixOf | "volume of a torus"
 --   C-13: "the exact whole-number sum over .. of the determinant .." | Volume: determinant, sixVolumes | "volume of M2, different numbers"
---   C-13: "A model turned inside out .." | InsideOutOtherSign in crates/volume_theory/specs/Claims | "volume of M2, the same .."
---   C-13: "Moving one of a vertex's three positions .." | MovedByAtMost in crates/volume_theory/specs/Claims | (`moved-by-at-most`)
+--   C-13: "A model turned inside out .." | TheCallInsideOut in crates/notes_theory/specs/Claims | "volume of M2, the same .."
+--   C-13: "Moving one of a vertex's three positions .." | TheCallMovedByAtMost in crates/notes_theory/specs/Claims | (the theorem)
 --   C-15: "The bench reader hands back the note as the very bytes in the pack" | Reading: bench, handedFrom | "field 04 that has fields .."
 --   C-15: ".. an empty part if there is none or unpacking refuses .." | Reading: handedBack | "no field 03, a rim", "25: field 04 of .."
 --   C-15: "Besides, it answers and writes as unpacking, refusals too" | Reading: bench | "field 04 after 02" to "25 before 24: a rim"

@@ -26,11 +26,12 @@ pub record NoteTaken : Type 0 where
   pub before : List ℕ
   pub note : Given (List ℕ)
 
--- the bytes after the field with this tag; all of them, if there is none
+-- the bytes after a field that was taken off bs; all of bs, if there was none
 abbrev pub pastField : List ℕ → Field → List ℕ
 pastField bs no-field = bs
 pastField bs (field cs more) = more
 
+-- the bytes after the field with this tag
 abbrev pub past : ℕ → List ℕ → List ℕ
 past tag bs = pastField bs (takeField tag bs)
 
@@ -40,9 +41,11 @@ lastNote bytes front no-field = record { before = bytes; note = not-given }
 lastNote bytes front (field ns (b ∷ bs)) = record { before = bytes; note = not-given }
 lastNote bytes front (field ns []) = record { before = front; note = given ns }
 
+-- the bytes after the fields of the other tags, as many as are there
 abbrev pub pastOthers : List ℕ → List ℕ
 pastOthers bytes = past positionsTag (past operationsTag (past countsTag bytes))
 
+-- the note, taken off the end of a pack
 unfoldable pub takeNote : List ℕ → NoteTaken
 takeNote bytes =
     let more = pastOthers bytes in lastNote bytes (take (length bytes - length more) bytes) (takeField noteTag more)

@@ -1,4 +1,5 @@
--- Unpacking a pack that may have positions: its first two fields are unpacked (12 to 20), then 23 is tested.
+-- Unpacking a pack that may have positions, or of any pack what stands before its note: its first two fields are unpacked (12 to 20), then
+-- 23 is tested.
 -- Assumes nothing.
 use Prim.Native.Nat.{ℕ, _*_}
 use mathlib.Core.Bool.{Bool, true, false, _&&_}

@@ -11,7 +11,7 @@ pub const TRIANGLES: usize = 8192;
 pub const CORNERS: usize = 3 * TRIANGLES;
 
 // The most bytes of a note.
-pub const NOTE: usize = 64;
+pub const MOST_NOTE: usize = 64;
 
 // A triangle p q r has the directed edges p→q, q→r and r→p.
 pub struct Triangle {

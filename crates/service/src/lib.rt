@@ -1,7 +1,7 @@
-// The service's calls over a lent list of place records. Packing, unpacking, the volume call and a beginning read no record: each calls
-// its core and clears as many as the answer says. An operation and a finish load the records into a plain memory and call the core that
-// works there; of these the operation then links and frees those that it touched, the finish changes nothing. What each call promises
-// stands on one page, promises/specs/Promises.antt.
+// The service's calls over a lent list of place records. Packing, unpacking, the volume call, the bench reader and a beginning read no
+// record: each calls its core and clears as many as the answer says. An operation and a finish load the records into a plain memory and
+// call the core that works there; of these the operation then links and frees those that it touched, the finish changes nothing. What
+// each call promises stands on one page, promises/specs/Promises.antt.
 use places::clear;
 use places::count;
 use places::empty;
@@ -134,7 +134,7 @@ pub fn pack_positions(
         (now (order .exit)) (now (places .exit)) ⌝ }
 {
     let n = count(places.len());
-    let r = positions::packing::pack_whole_on(v, list, positions, numbering, buffer, order, n);
+    let r = positions::packing::pack_positions_on(v, list, positions, numbering, buffer, order, n);
     clear(places, packer::cleared(r));
     r
 }

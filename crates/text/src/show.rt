@@ -10,7 +10,7 @@ pub fn print_refusal(out: Output, n: u8) -> Output {
     out.bytes(b"refused ").number(n as u16, b'\n')
 }
 
-// Writes n bytes from one on, as they are; none if there are not so many.
+// Writes n bytes from byte `from` on, as they are; none if there are not so many.
 pub fn print_part(out: Output, bytes: &[u8], from: usize, n: usize) -> Output {
     if bytes.len() < from {
         return out;

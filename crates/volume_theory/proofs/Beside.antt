@@ -203,11 +203,18 @@ pub given-neither-packs-the-list : GivenNeitherPacksTheList
 given-neither-packs-the-list = neither
 
 -- what is answered
-abbrev Refuses : PackResult → Type 0
+abbrev pub Refuses : PackResult → Type 0
 Refuses p = (k : ℕ) × (p .answer ≡ refusal k)
 
-abbrev Answers : PackResult → Type 0
+abbrev pub Answers : PackResult → Type 0
 Answers p = Refuses p ⊎ ((n : ℕ) × (p .answer ≡ packed n))
+
+pub stored-answer : (v : ℕ) (ts : List Triangle) (w : PackContents) (r : PackBuffers) → Answers (packStored v ts w r)
+stored-answer v ts w r = go (leb (length (w .pack)) (length (r .pack)))
+  where
+    go : (t : Bool) → Answers (elim t [ true ↦ packDone w r | false ↦ packRefused 11 v ts r ])
+    go true = inr (length (w .pack), refl)
+    go false = inl (11, refl)
 
 module _ (v : ℕ) (xs : List ℕ) (zs : List ℤ) (r : PackBuffers) where
   rooms-answer : (A : PackResult → Type 0) → A (turnedDown 8 r) → A (turnedDown 22 r) → (a b : Bool) (p : PackResult) → A p
@@ -216,17 +223,11 @@ module _ (v : ℕ) (xs : List ℕ) (zs : List ℤ) (r : PackBuffers) where
   rooms-answer A x y true false p h = y
   rooms-answer A x y false b p h = x
 
-  stored-answer : (w : PackContents) → Answers (packStored v (trianglesOf xs) w r)
-  stored-answer w = go (leb (length (w .pack)) (length (r .pack)))
-    where
-      go : (t : Bool) → Answers (elim t [ true ↦ packDone w r | false ↦ packRefused 11 v (trianglesOf xs) r ])
-      go true = inr (length (w .pack), refl)
-      go false = inl (11, refl)
-
   chosen-answer : (c : Chosen) → Answers (packChosen v (trianglesOf xs) r (orderFor most (trianglesOf xs)) c)
   unfolding packChosen
   chosen-answer (stopped n) = inl (n, refl)
-  chosen-answer (chosen os s) = stored-answer (contentsOf v (trianglesOf xs) (orderFor most (trianglesOf xs)) os s)
+  chosen-answer (chosen os s) =
+      stored-answer v (trianglesOf xs) (contentsOf v (trianglesOf xs) (orderFor most (trianglesOf xs)) os s) r
 
   pack-answers : (c : Checked) → Answers (packChecked most v (trianglesOf xs) r c)
   unfolding packChecked

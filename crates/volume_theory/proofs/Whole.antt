@@ -9,9 +9,11 @@ use mathlib.Core.Path.{_≡_, refl, sym, ap, ap₂, _∙_, subst}
 use lib.Dec.{eqb}
 use lib.ListN.{length}
 use borrow.Author.Tests.{eqb-true}
+use Rattle.rules.specs.declared.Counts.{Counts}
 use Rattle.rules.specs.declared.Model.{Model}
 use Rattle.rules.specs.Answer.{Answer, refusal, unpacked}
 use Rattle.rules.specs.Buffer.{Buffers}
+use Rattle.rules.specs.Fields.{fields, fieldsOf}
 use Rattle.rules.specs.Unpack.{UnpackResult, unpack}
 use Rattle.rules.specs.Grid.{allInGrid, positionBytes, positionsFrom}
 use Rattle.rules.specs.Later.{Given, not-given, given, Parts, no-parts, parts, partsOf}
@@ -27,7 +29,7 @@ use Rattle.wire_theory.proofs.Positions.{positions-again}
 use Rattle.counting.proofs.Bools.{and-left}
 use Rattle.roundtrip.specs.Claims.{listIn}
 use Rattle.roundtrip.proofs.Back.{no-two-packs-of-one-list}
-use Rattle.volume_theory.specs.Whole.{PacksOfTwoFieldsReadAsBefore, positionsGiven}
+use Rattle.volume_theory.specs.Whole.{PacksOfTwoFieldsReadAsBefore, PacksWithoutANoteReadAsBefore, positionsGiven}
 use Rattle.volume_theory.specs.Whole.{NoTwoPacksOfOneListAndPositions}
 
 -- a test that every model passes
@@ -44,9 +46,10 @@ tested-fits k fits r u m e f =
     ap (λ (a : Answer). thenTested k fits r u (modelIn a)) e
     ∙ ap (λ (t : Bool). elim t as (λ _. UnpackResult) [ true ↦ u | false ↦ record { answer = refusal k; buffers = leftBy20 m r } ]) f
 
-pub packs-of-two-fields-read-as-before : PacksOfTwoFieldsReadAsBefore
+pub two-fields-whole : (bytes : List ℕ) (s : Counts) (ops : List ℕ) → fieldsOf bytes ≡ fields s ops → (r : Buffers)
+    → unpackWhole bytes r ≡ unpack bytes r
 unfolding unpackParts
-packs-of-two-fields-read-as-before bytes s ops e r =
+two-fields-whole bytes s ops e r =
     ap (unpackParts r) (two-parts bytes s ops e) ∙ tested-none 23 r (unpack bytes r) (modelIn (unpack bytes r .answer))
 
 -- a pack without a note
@@ -63,6 +66,13 @@ module _ (bytes two : List ℕ) (g : Given (List ℕ)) (r : Buffers) (found : pa
   volume-unnoted =
       ap₂ (λ (d : NoteTaken) (u : UnpackResult). measured (positionsIn (partsOf (d .before))) r u (modelIn (u .answer)))
       (no-note bytes two g found) unpack-unnoted
+
+pub packs-without-a-note-read-as-before : PacksWithoutANoteReadAsBefore
+packs-without-a-note-read-as-before bytes two g e r = unpack-unnoted bytes two g r e
+
+pub packs-of-two-fields-read-as-before : PacksOfTwoFieldsReadAsBefore
+packs-of-two-fields-read-as-before bytes s ops e r =
+    unpack-unnoted bytes bytes not-given r (two-parts bytes s ops e) ∙ two-fields-whole bytes s ops e r
 
 -- a pack that is accepted
 pub record Accepts (bytes : List ℕ) (r : Buffers) (m : Model) : Type 0 where

@@ -18,10 +18,10 @@ use Rattle.rules.specs.Pack.{PackBuffers, PackResult, turnedDown, packRefused, 
 use Rattle.rules.specs.Unpack.{UnpackResult, unpack}
 use Rattle.rules.specs.Grid.{allInGrid, positionBytes, positionsFrom}
 use Rattle.rules.specs.Volume.{pointAt, sixVolumes}
-use Rattle.rules.specs.Later.{positionsTag, Given, not-given, given, partsOf}
+use Rattle.rules.specs.Later.{positionsTag, Given, not-given, given, parts, partsOf}
 use Rattle.rules.specs.PackWhole.{Extras, extras, positionsFit, packWhole}
 use Rattle.rules.specs.UnpackWhole.{unpackWhole}
-use Rattle.rules.specs.Reading.{VolumeResult, positionsIn, volume}
+use Rattle.rules.specs.Reading.{unpackNoted, VolumeResult, positionsIn, volume}
 use Rattle.wire_theory.specs.Shape.{Bytes}
 use Rattle.roundtrip.specs.Claims.{newNumber, LongEnoughFor, Gives, listIn}
 
@@ -70,7 +70,12 @@ PositionsFollowThePack = (v : ℕ) (xs : List ℕ) (zs : List ℤ) (r : PackBuff
 -- "Packs without the field read as before"
 abbrev pub PacksOfTwoFieldsReadAsBefore : Type 0
 PacksOfTwoFieldsReadAsBefore = (bytes : List ℕ) (s : Counts) (ops : List ℕ) → fieldsOf bytes ≡ fields s ops → (r : Buffers)
-    → unpackWhole bytes r ≡ unpack bytes r
+    → unpackNoted bytes r ≡ unpack bytes r
+
+-- packs without a note read as before there were any, and so does what stands before a note: the claims below are of these
+abbrev pub PacksWithoutANoteReadAsBefore : Type 0
+PacksWithoutANoteReadAsBefore = (bytes two : List ℕ) (g : Given (List ℕ)) → partsOf bytes ≡ parts two g → (r : Buffers)
+    → unpackNoted bytes r ≡ unpackWhole bytes r
 
 -- a pack with positions is unpacked as that without, which is the pack of the list alone; the volume call, on a model with no rim, gives
 -- the volume of the list
@@ -106,7 +111,7 @@ pub record WholePackOf (bytes : List ℕ) (m : Model) (xs : List ℕ) (e : Extra
   pub packs : (r : PackBuffers) → packLongEnough (m .vertices) r ≡ true → orderLongEnough (trianglesOf xs) r ≡ true
       → length bytes ≤ length (r .pack) → Gives bytes (m .vertices) (m .triangles) (packWhole (m .vertices) xs e r)
 
--- every accepted pack without a note is the pack of its list and its positions
+-- every accepted pack without a note is the pack of its list and its positions, and the only one (of all packs: notes_theory)
 abbrev pub EveryAcceptedPackIsThePackOfItsListAndPositions : Type 0
 EveryAcceptedPackIsThePackOfItsListAndPositions = (bytes : List ℕ) → Bytes bytes → (r : Buffers) (m : Model)
     → unpackWhole bytes r .answer ≡ unpacked m

@@ -133,6 +133,18 @@ parts bs at tag a b e = go (takeField tag (drop at bs)) refl e
           within = omega (arith, ap length d, length-append cs ds, length-drop (at + 3) bs, length-drop at bs, p .1);
         }
 
+-- a field that goes to the end of the bytes
+pub taken-to-end : (bs : List ℕ) (at tag a b : ℕ) → fieldAt bs at tag ≡ At a b → b ≡ length bs
+    → takeField tag (drop at bs) ≡ field (drop a bs) []
+taken-to-end bs at tag a b e h =
+    let p : Parts bs at tag a b = parts bs at tag a b e in
+    let d : p .ds ≡ [] = sym (p .after) ∙ drop-of-length-le bs {i = b} (omega arith) in
+    let l : length (p .cs) ≡ length (drop (at + 3) bs) = omega (arith, length-drop (at + 3) bs, p .end, p .within) in
+    let s : p .cs ≡ drop a bs =
+    sym (p .inner) ∙ ap (λ (k : ℕ). take k (drop (at + 3) bs)) l ∙ take-length (drop (at + 3) bs)
+    ∙ ap (λ (k : ℕ). drop k bs) (sym (p .start)) in
+    p .taken ∙ ap₂ field s d
+
 -- the first field has eight bytes, or other
 just-eight : (cs ds : List ℕ) → length cs ≡ 8 → firstField (field cs ds) ≡ lastField cs (takeField 2 ds)
 just-eight cs ds l = rw (firstField, eq-eqb (length cs) 8 l)
@@ -364,15 +376,10 @@ module _ (bs : List ℕ) where
           pub three-fields : c ≡ length bs → ThirdAt bs b z
           three-fields e =
               let p : Parts bs b 3 z c = parts bs b 3 z c third in
-              let d : p .ds ≡ [] = sym (p .after) ∙ drop-of-length-le bs {i = c} (omega arith) in
-              let l : length (p .cs) ≡ length (drop (b + 3) bs) = omega (arith, length-drop (b + 3) bs, p .end, p .within) in
-              let s : p .cs ≡ drop z bs =
-              sym (p .inner) ∙ ap (λ (k : ℕ). take k (drop (b + 3) bs)) l ∙ take-length (drop (b + 3) bs)
-              ∙ ap (λ (k : ℕ). drop k bs) (sym (p .start)) in
+              let w = taken-to-end bs b 3 z c third e in
               record {
                 end = omega (arith, p .end, p .within);
                 start = omega (arith, p .start, p .end, p .within);
                 found =
-                    after-third ∙ ap (lastPart (take b bs)) (p .taken ∙ ap (field (p .cs)) d)
-                    ∙ ap (λ (us : List ℕ). R.parts (take b bs) (given us)) s;
+                    after-third ∙ ap (lastPart (take b bs)) w;
               }

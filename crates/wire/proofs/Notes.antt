@@ -4,7 +4,7 @@ use Prim.Native.Nat.{ℕ, _+_, _-_, _≤_}
 use native.Mathlib.Omega.{arith}
 use mathlib.Core.List.{List, [], _∷_}
 use mathlib.Core.Path.{_≡_, refl, sym, ap, ap₂, _∙_, subst}
-use lib.ListN.{length, take, drop, length-drop, drop-of-length-le}
+use lib.ListN.{length, take, drop, length-drop}
 use lib.Seq.{take-length}
 use Rattle.rules.specs.Fields.{Field, no-field, field, takeField}
 use Rattle.rules.specs.Note.{noteTag, NoteTaken, pastField, past, lastNote, pastOthers, takeNote}
@@ -12,7 +12,7 @@ use Rattle.wire.specs.declared.fields.Contents.the-variants.{At, Nothing
 use Rattle.wire.specs.declared.fields.PackNote.{PackNote}
 use Rattle.wire.specs.declared.fields.PackNote.the-variants as N
 use Rattle.wire.specs.Fields.{contentsFrom, fieldAt, PastAt, NoteAt, NoteTold, FrontAt}
-use Rattle.wire.proofs.Contents.{Parts, parts}
+use Rattle.wire.proofs.Contents.{Parts, parts, taken-to-end}
 
 -- no field at a position
 no-field-at : (bs : List ℕ) (at tag : ℕ) → fieldAt bs at tag ≡ Nothing → takeField tag (drop at bs) ≡ no-field
@@ -70,17 +70,10 @@ module _ (bs : List ℕ) (a b c : ℕ) (p : PastAt bs 0 1 a) (q : PastAt bs a 2 
     pub note-field : t ≡ length bs → NoteTold bs (N.At c s)
     note-field k =
         let x : Parts bs c 4 s t = parts bs c 4 s t e in
-        let d : x .ds ≡ [] = sym (x .after) ∙ drop-of-length-le bs {i = t} (omega arith) in
-        let l : length (x .cs) ≡ length (drop (c + 3) bs) = omega (arith, length-drop (c + 3) bs, x .end, x .within) in
-        let z : x .cs ≡ drop s bs =
-        sym (x .inner) ∙ ap (λ (j : ℕ). take j (drop (c + 3) bs)) l ∙ take-length (drop (c + 3) bs)
-        ∙ ap (λ (j : ℕ). drop j bs) (sym (x .start)) in
         record {
           start = x .start;
           within = omega (arith, x .start, x .end, x .within);
-          found =
-              taken-by (field (x .cs) []) (x .taken ∙ ap (field (x .cs)) d)
-              ∙ ap (λ (us : List ℕ). lastNote bs (take c bs) (field us [])) z;
+          found = taken-by (field (drop s bs) []) (taken-to-end bs c 4 s t e k);
         }
 
 -- what stands before a note, and all of a pack without one

@@ -66,10 +66,10 @@ use Rattle.places.proofs.count as count′
 use Rattle.places.proofs.count.Symbol as count-def
 use Rattle.places.proofs.count.Symbol.{name as #count}
 use Rattle.places.proofs.count.Met as count-thm
-use Rattle.positions.proofs.packing.pack_whole_on as core′
-use Rattle.positions.proofs.packing.pack_whole_on.Symbol as core-def
-use Rattle.positions.proofs.packing.pack_whole_on.Symbol.{name as #core}
-use Rattle.positions.proofs.packing.pack_whole_on.Met as core-thm
+use Rattle.positions.proofs.packing.pack_positions_on as core′
+use Rattle.positions.proofs.packing.pack_positions_on.Symbol as core-def
+use Rattle.positions.proofs.packing.pack_positions_on.Symbol.{name as #core}
+use Rattle.positions.proofs.packing.pack_positions_on.Met as core-thm
 use Rattle.packer.proofs.cleared as cleared′
 use Rattle.packer.proofs.cleared.Symbol as cleared-def
 use Rattle.packer.proofs.cleared.Symbol.{name as #cleared}
@@ -612,7 +612,7 @@ pack-positions-spec 𝓤 H 𝓜 𝓖 𝓡 =
     (tables 𝓤 H 𝓜 𝓡 code.env .C) (tables 𝓤 H 𝓜 𝓡 code.env .Λ) #public code.function (code.unfolded 𝓤 H 𝓜 𝓡)
     (public-meets 𝓤 H (𝓖 .A) (givenOf 𝓤 H 𝓜 𝓖) (𝓜 .mem) (𝓡 .run) (tablesOf 𝓤 H 𝓜 (tables 𝓤 H 𝓜 𝓡 code.env))
     (cited 𝓤 H (Count 𝓤 H (𝓖 .A) (𝓜 .mem) (𝓡 .run)) 𝓜 𝓡 code.env #count count-def.routine code.calls-places·count (count-thm.met 𝓤 H 𝓜 𝓖 𝓡))
-    (cited 𝓤 H (Core 𝓤 H (𝓖 .A) (𝓜 .mem) (𝓡 .run)) 𝓜 𝓡 code.env #core core-def.routine code.calls-positions·packing·pack-whole-on
+    (cited 𝓤 H (Core 𝓤 H (𝓖 .A) (𝓜 .mem) (𝓡 .run)) 𝓜 𝓡 code.env #core core-def.routine code.calls-positions·packing·pack-positions-on
     (core-thm.met 𝓤 H 𝓜 𝓖 𝓡))
     (cited 𝓤 H (Cleared 𝓤 H (𝓖 .A) (𝓜 .mem) (𝓡 .run)) 𝓜 𝓡 code.env #cleared cleared-def.routine code.calls-packer·cleared
     (cleared-thm.met 𝓤 H 𝓜 𝓖 𝓡))

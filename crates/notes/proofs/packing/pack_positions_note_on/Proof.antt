@@ -38,18 +38,18 @@ add-room-before c = search needs
 room-before-requires : tie.Need-room-before-requires
 room-before-requires c κs = search needs
 
-slice-relend-prefix-pack-whole-on : tie.Need-slice-relend-prefix-pack-whole-on
-slice-relend-prefix-pack-whole-on c = search needs
+slice-relend-prefix-pack-positions-on : tie.Need-slice-relend-prefix-pack-positions-on
+slice-relend-prefix-pack-positions-on c = search needs
 
-slice-aggregate-pack-whole-on : tie.Need-slice-aggregate-pack-whole-on
-slice-aggregate-pack-whole-on c =
+slice-aggregate-pack-positions-on : tie.Need-slice-aggregate-pack-positions-on
+slice-aggregate-pack-positions-on c =
     let f = c .before .before in
     let a = f .before .before .before .before .before .before .before .before in
     sym (length-take-le (f .room-before .result) (a .args .buffer .now)
     (within-buffer (a .args .buffer .now) _ _ (f .room-before .ensures)))
 
-pack-whole-on-requires : tie.Need-pack-whole-on-requires
-pack-whole-on-requires c κs = search needs
+pack-positions-on-requires : tie.Need-pack-positions-on-requires
+pack-positions-on-requires c κs = search needs
 
 follow-requires : tie.Need-follow-requires
 follow-requires c κs =
@@ -60,7 +60,7 @@ follow-requires c κs =
     let a = p .before .before .before .before .before .before .args in
     may-follow (a .v) (a .list .now) (given (a .positions .now)) (a .note .now) (a .n) (a .numbering .now) (a .buffer .now) (a .order .now)
     (sym (p .is-note .ensures) ∙ not-false _ (g .if1 .left)) (f .room-before .result) (f .room-before .ensures) _ _ _
-    (k .pack-whole-on .kept .1 .1 .1 .1 .0) (k .pack-whole-on .result) (k .pack-whole-on .ensures)
+    (k .pack-positions-on .kept .1 .1 .1 .1 .0) (k .pack-positions-on .result) (k .pack-positions-on .ensures)
 
 same-length : tie.Need-same-length
 same-length c = search needs
@@ -80,7 +80,8 @@ returns-2 c =
     let a = p .before .before .before .before .before .before .args in
     follows (a .v) (a .list .now) (given (a .positions .now)) (a .note .now) (a .n) (a .numbering .now) (a .buffer .now) (a .order .now)
     (sym (p .is-note .ensures) ∙ not-false _ (g .if1 .left)) (f .room-before .result) (f .room-before .ensures) _ _ _
-    (k .pack-whole-on .kept .1 .1 .1 .1 .0) (k .pack-whole-on .result) (k .pack-whole-on .ensures) _ _ (c .before .before .follow .ensures)
+    (k .pack-positions-on .kept .1 .1 .1 .1 .0) (k .pack-positions-on .result) (k .pack-positions-on .ensures) _ _
+    (c .before .before .follow .ensures)
 
 pub pack-positions-note-on-spec : {M : Type 1} → statement M
 pack-positions-note-on-spec =
@@ -92,9 +93,9 @@ pack-positions-note-on-spec =
     returns
     add-room-before
     room-before-requires
-    slice-relend-prefix-pack-whole-on
-    slice-aggregate-pack-whole-on
-    pack-whole-on-requires
+    slice-relend-prefix-pack-positions-on
+    slice-aggregate-pack-positions-on
+    pack-positions-on-requires
     follow-requires
     same-length
     same-length-2

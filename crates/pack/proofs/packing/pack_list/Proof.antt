@@ -48,8 +48,8 @@ array-share-prefix-grid c = search needs
 slice-aggregate-positions : tie.Need-slice-aggregate-positions
 slice-aggregate-positions c = sym (length-take-le _ _ (c .before .before .put-positions .ensures .0 .room))
 
-pack-whole-on-requires : tie.Need-pack-whole-on-requires
-pack-whole-on-requires c κs = search needs
+pack-positions-on-requires : tie.Need-pack-positions-on-requires
+pack-positions-on-requires c κs = search needs
 
 same-length-7 : tie.Need-same-length-7
 same-length-7 c = search needs
@@ -96,7 +96,7 @@ pack-list-spec =
     put-positions-requires
     array-share-prefix-grid
     slice-aggregate-positions
-    pack-whole-on-requires
+    pack-positions-on-requires
     same-length-7
     same-length-8
     same-length-9

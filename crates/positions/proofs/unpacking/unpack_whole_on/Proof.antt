@@ -1,10 +1,10 @@
 -- `positions::unpacking::unpack_whole_on` meets its contract: by the parts of the pack.
 -- Assumes nothing.
-use mathlib.Core.Path.{sym}
+use mathlib.Core.Path.{sym, _∙_}
 use lib.Seq.{length-take-le}
 use borrow.Author.Needs.{needs}
-use Rattle.positions_theory.proofs.Unpacking.{no-parts-on, two-parts-on, three-parts-on, room-on, as-told}
 use Rattle.wire.proofs.Told.{told-neither, told-two, told-three, told-rest}
+use Rattle.positions_theory.proofs.Unpacking.{no-parts-on, two-parts-on, three-parts-on, room-on, as-told, told-answer, told-triangles}
 use Rattle.positions.proofs.unpacking.unpack_whole_on.Statement.{statement}
 use Rattle.positions.proofs.unpacking.unpack_whole_on.Tie as tie
 
@@ -35,8 +35,8 @@ slice-aggregate-unpack-on c =
 unpack-on-requires-2 : tie.Need-unpack-on-requires-2
 unpack-on-requires-2 c κs = search needs
 
-sub-tested : tie.Need-sub-tested
-sub-tested c =
+sub-fits : tie.Need-sub-fits
+sub-fits c =
     let p = c .before .before .before .before .before .before in
     let k = p .before .before in
     let a = k .before .before .before in
@@ -44,8 +44,8 @@ sub-tested c =
     (p .parts .given .1) in
     t .start
 
-part-tested-start : tie.Need-part-tested-start
-part-tested-start c =
+part-fits-start : tie.Need-part-fits-start
+part-fits-start c =
     let p = c .before .before .before .before .before .before in
     let k = p .before .before in
     let a = k .before .before .before in
@@ -53,12 +53,16 @@ part-tested-start c =
     (p .parts .given .1) in
     t .start
 
-part-tested-end : tie.Need-part-tested-end
-part-tested-end c = search needs
+part-fits-end : tie.Need-part-fits-end
+part-fits-end c = search needs
+
+fits-requires : tie.Need-fits-requires
+fits-requires c κs = search needs
 
 tested-requires : tie.Need-tested-requires
 tested-requires c κs =
-    let u = c .before .before .before .before in
+    let f = c .before in
+    let u = f .before .before .before .before in
     let p = u .before .before .before .before in
     let a = p .before .before .before .before .before in
     room-on _ (a .args .triangles .now) (a .args .n) (u .unpack-on2 .result) _ (u .unpack-on2 .ensures) (u .unpack-on2 .kept .1 .0)
@@ -82,7 +86,8 @@ same-length-2 c = search needs
 returns-3 : tie.Need-returns-3
 returns-3 c =
     let d = c .before .before in
-    let u = d .before .before .before .before .before in
+    let g = d .before .before in
+    let u = g .before .before .before .before in
     let p = u .before .before .before .before in
     let k = p .before .before in
     let a = k .before .before .before in
@@ -90,7 +95,8 @@ returns-3 c =
     told-rest (a .args .pack .now) (k .parts-of .result) (k .parts-of .ensures) (p .parts .given .0 .0) (p .parts .given .0 .1 .0)
     (p .parts .given .1) in
     as-told _ _ _ _ _ _ _ (three-parts-on _ _ _ (a .args .triangles .now) (a .args .n) f (u .unpack-on2 .result) _ (u .unpack-on2 .ensures))
-    (d .tested .ensures .0) (d .tested .ensures .1)
+    (d .tested .ensures .0 ∙ told-answer _ _ 23 (u .unpack-on2 .result) (g .fits2 .ensures))
+    (d .tested .ensures .1 ∙ told-triangles _ _ (u .unpack-on2 .result) _ (g .fits2 .ensures))
 
 pub unpack-whole-on-spec : {M : Type 1} → statement M
 unpack-whole-on-spec =
@@ -103,9 +109,10 @@ unpack-whole-on-spec =
     enum-known-parts
     slice-aggregate-unpack-on
     unpack-on-requires-2
-    sub-tested
-    part-tested-start
-    part-tested-end
+    sub-fits
+    part-fits-start
+    part-fits-end
+    fits-requires
     tested-requires
     returns
     same-length

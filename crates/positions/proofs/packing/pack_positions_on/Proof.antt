@@ -1,4 +1,4 @@
--- `positions::packing::pack_whole_on` meets its contract: by 23.
+-- `positions::packing::pack_positions_on` meets its contract: by 23.
 -- Assumes nothing.
 use mathlib.Core.Path.{refl, sym, _∙_}
 use native.Mathlib.Omega.{arith}
@@ -6,8 +6,8 @@ use borrow.Author.Needs.{needs}
 use borrow.Author.Tests.{not-true, not-false}
 use Rattle.volume_theory.proofs.Beside.{placed}
 use Rattle.positions_theory.proofs.Packing.{fault-23}
-use Rattle.positions.proofs.packing.pack_whole_on.Statement.{statement}
-use Rattle.positions.proofs.packing.pack_whole_on.Tie as tie
+use Rattle.positions.proofs.packing.pack_positions_on.Statement.{statement}
+use Rattle.positions.proofs.packing.pack_positions_on.Tie as tie
 
 are-positions-requires : tie.Need-are-positions-requires
 are-positions-requires c κs = search needs
@@ -41,8 +41,8 @@ same-length-3 c = search needs
 returns-2 : tie.Need-returns-2
 returns-2 c = search needs
 
-pub pack-whole-on-spec : {M : Type 1} → statement M
-pack-whole-on-spec =
+pub pack-positions-on-spec : {M : Type 1} → statement M
+pack-positions-on-spec =
     tie.close
     (tie.spec
     are-positions-requires
