@@ -3,15 +3,15 @@
 use cutborder::book::Book;
 use cutborder::fields::Fields;
 use cutborder::gen::{self, Model};
-use cutborder::ops::{Counts, Op};
+use cutborder::ops::{encode_ops, pack_bytes, BitWriter, Counts, Op};
 use cutborder::plain::{self, Chosen, Given, PackRooms, Trace};
 use cutborder::proto;
 use cutborder::rng::Rng;
-use cutborder::{gen02, note, Answer, Level, Place, Refusal};
+use cutborder::{gen02, note, reader, Answer, Level, Place, Refusal};
 
-/// C-11 to C-15 have landed: packing fills the order buffer, packs may have positions and a note, and loops are shortened; C-12 changes
-/// no answer of a call.
-pub const LEVEL: Level = Level(15);
+/// C-11 to C-16 have landed: packing fills the order buffer, packs may have positions and a note, loops are shortened, and the furnace has
+/// a reader of its own; C-12 changes no answer of a call.
+pub const LEVEL: Level = Level(16);
 
 /// The limits of the rules on places and loops.
 pub const LIMITS: (u32, u32) = (1_024, 100);
@@ -59,6 +59,11 @@ pub fn volume(bytes: &[u8], triangles: &mut [u16], places: &mut [Place]) -> Resu
 /// The bench reader: what unpacking answers, and the note as a part of the pack, empty if there is none or the pack is refused.
 pub fn bench<'a>(bytes: &'a [u8], triangles: &mut [u16], places: &mut [Place]) -> (Result<Answer, Refusal>, &'a [u8]) {
     note::read(LEVEL, bytes, triangles, places)
+}
+
+/// The furnace's own reader: six times the volume.
+pub fn melt(bytes: &[u8]) -> Result<i64, Refusal> {
+    reader::read(LEVEL, bytes)
 }
 
 /// A beginning.
@@ -158,6 +163,95 @@ pub fn random_whole_pack(rng: &mut Rng) -> Vec<u8> {
         Some(two) if rng.chance(1, 3) => with_note(&two, &unfit_note(rng)),
         Some(two) => with_unfit_field(rng, &two),
         None => gen02::pack(LEVEL, rng),
+    }
+}
+
+/// Whether the furnace's reader takes these operations, with so many places and loops, and stops at a union after them that breaks off.
+fn takes(ops: &[Op], places: usize, loops: usize) -> bool {
+    let counts = Counts { v: 4_096, t: 8_192, places: places as u32, loops: loops as u32 };
+    let mut bits = BitWriter::default();
+    ops.iter().for_each(|&o| bits.put_op(o));
+    bits.put(Op::Union(0, 0).code(), 3);
+    melt(&pack_bytes(counts, &bits.bytes)) == Err(15)
+}
+
+/// What operations that the furnace's reader takes come to; 17 refuses lower peaks.
+pub fn free_counts(ops: &[Op]) -> Counts {
+    let new = |o: &Op| if *o == Op::Start { 3 } else { u32::from(*o == Op::New) };
+    let places = (3..=reader::PLACES).find(|&n| takes(ops, n, reader::LOOPS)).expect("operations that are taken");
+    let loops = (1..=reader::LOOPS).find(|&n| takes(ops, reader::PLACES, n)).expect("operations that are taken");
+    let t = ops.iter().filter(|&&o| o != Op::Border).count();
+    Counts { v: ops.iter().map(new).sum(), t: t as u32, places: places as u32, loops: loops as u32 }
+}
+
+/// Random operations of a whole model that the table allows, whether or not the edge rule holds; half of them mark no edge.
+fn free_operations(rng: &mut Rng) -> Vec<Op> {
+    let marks = rng.chance(1, 2);
+    let mut ops = vec![Op::Start];
+    let take = |ops: &mut Vec<Op>, o: Op| {
+        ops.push(o);
+        let taken = takes(ops, reader::PLACES, reader::LOOPS);
+        if !taken {
+            ops.pop();
+        }
+        taken
+    };
+    for _ in 0..rng.range(1, 60) {
+        match gen::random_op(rng) {
+            Op::Border if !marks => false,
+            o => take(&mut ops, o),
+        };
+    }
+    // No loop is live where a start is taken.
+    while !take(&mut ops.clone(), Op::Start) {
+        assert!([Op::Close, Op::Forward, Op::Backward, Op::Border].iter().any(|&o| take(&mut ops, o)), "a loop takes a border");
+    }
+    ops
+}
+
+/// Counts with one of them changed now and then.
+fn miscounted(rng: &mut Rng, mut c: Counts) -> Counts {
+    match rng.below(24) {
+        0 => c.v += 1,
+        1 => c.v -= 1,
+        2 => c.t += 1,
+        3 => c.t -= 1,
+        4 => c.places += 1,
+        5 => c.places -= 1,
+        6 => c.loops += 1,
+        7 => c.loops -= 1,
+        8 => c.places = [200, 201, 256 + c.places, 1_025][rng.below(4)],
+        9 => c.loops = [12, 13, 100, 101][rng.below(4)],
+        _ => {}
+    }
+    c
+}
+
+/// A random pack for the furnace's reader, sound or not, with operations that the edge rule may refuse, most often with positions.
+pub fn random_free_pack(rng: &mut Rng) -> Vec<u8> {
+    let ops = free_operations(rng);
+    let counts = free_counts(&ops);
+    let mut bytes = encode_ops(&ops);
+    match rng.below(16) {
+        0 => bytes.truncate(rng.below(bytes.len())),
+        1 => bytes.push(0),
+        2 => *bytes.last_mut().expect("a byte") |= 1,
+        3 => {
+            let i = rng.below(bytes.len());
+            bytes[i] ^= 1 << rng.below(8);
+        }
+        _ => {}
+    }
+    let two = pack_bytes(miscounted(rng, counts), &bytes);
+    let with_three = match rng.below(12) {
+        0 => two,
+        1 => with_unfit_field(rng, &two),
+        _ => with_field(&two, &contents_of(&gen02::positions(rng, counts.v as usize))),
+    };
+    match rng.below(12) {
+        0 => with_note(&with_three, &unfit_note(rng)),
+        1..=3 => with_note(&with_three, &random_note(rng)),
+        _ => with_three,
     }
 }
 

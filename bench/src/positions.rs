@@ -1,5 +1,5 @@
 //! The cost of positions and notes: packing and unpacking with them, and the volume, of which our aim is that it costs at most 10
-//! nanoseconds a triangle more than unpacking the same pack.
+//! nanoseconds a triangle more than unpacking the same pack; and the furnace's own reader, on the box.
 
 use crate::{grown, medians, packings, print_ratio, unpackings};
 use compare::expected::{self, LEVEL};
@@ -84,6 +84,30 @@ pub fn table(repeats: usize) {
     }
     println!();
     notes(repeats);
+    println!();
+    reader(repeats);
+}
+
+/// The furnace's own reader, beside the second program's small reader, on closed models within its peaks.
+fn reader(repeats: usize) {
+    println!("the furnace's own reader: nanoseconds a triangle, median of {repeats} calls, ours and the second program's, and their ratio");
+    println!("{:<16} {:>6} {:>6}  {:>8} {:>8} {:>6}", "model", "V", "T", "read", "second", "ratio");
+    let mut rng = Rng::new(16);
+    for n in [4, 16, 32] {
+        let m = Model::of(&gen::grid(n, 1_024 / n, true, true, || true));
+        let positions: Vec<i32> = (0..3 * m.v).map(|_| rng.below(4_096) as i32 - 2_048).collect();
+        let pack = expected::packed(&m, Some(&positions)).expect("a pack");
+        if expected::melt(&pack).is_err() {
+            continue;
+        }
+        let t = (m.list.len() / 3) as f64;
+        let mut memory = [0; 1_024];
+        print!("{:<16} {:>6} {:>6}", format!("ring of {n}"), m.v, t);
+        let ours = || _ = black_box(compare::melt(black_box(&pack), &mut memory)).expect("a volume");
+        let theirs = || _ = black_box(expected::melt(black_box(&pack))).expect("a volume");
+        print_ratio(medians(repeats, ours, theirs), t);
+        println!();
+    }
 }
 
 /// What a note of 64 bytes costs beside positions: packing with it and without; the bench reader, and unpacking the same pack.

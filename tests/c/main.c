@@ -1,7 +1,8 @@
 /* The calls from C: M2 of the paper checked, packed, unpacked and built, a cube packed with positions and measured, M2 packed with a note
- * that is read back, a list searched, and calls that are refused. */
+ * that is read back, a list searched, a cube read by the furnace's own reader, and calls that are refused. */
 #include "../../include/cutborder.h"
 #include "../../include/cutborder_search.h"
+#include "../../include/furnace.h"
 #include <stdio.h>
 #include <string.h>
 
@@ -230,6 +231,27 @@ static void searches(void) {
     EXPECT(cutborder_search(thrice, 12, links, 7, 6, found) == 0 && found[0] == 2 && found[1] == 1 && found[2] == 9);
 }
 
+/* The cube's pack, read by the furnace's own reader in a memory that holds anything; refused, `six` is as it was. */
+static void melts(const uint16_t *cube, int64_t expected_six) {
+    static struct {
+        uint8_t before[8], memory[1024], after[8];
+    } lent;
+    int64_t six = 77;
+    memset(&lent, 0xaa, sizeof lent);
+    EXPECT(cube_packed(cube, corners, 24, sizeof cube_pack) == 0);
+    EXPECT(furnace_read(cube_pack, size, lent.memory, &six) == 0 && six == expected_six);
+    six = 77;
+    EXPECT(furnace_read(cube_pack, size - 1, lent.memory, &six) == 12 && six == 77);
+    EXPECT(furnace_read(cube_pack, size - 51, lent.memory, &six) == 24 && six == 77);
+    cube_pack[10] = 13;
+    EXPECT(furnace_read(cube_pack, size, lent.memory, &six) == 26 && six == 77);
+    cube_pack[10] = 2;
+    EXPECT(furnace_read(cube_pack, size, lent.memory, &six) == 19 && six == 77);
+    cube_pack[10] = 0;
+    EXPECT(furnace_read(cube_pack, size, lent.memory, &six) == 13 && six == 77);
+    EXPECT(lent.before[7] == 0xaa && lent.after[0] == 0xaa);
+}
+
 int main(void) {
     EXPECT(sizeof(struct cutborder_place) == 8 && sizeof(struct cutborder_builder) == 426);
     packs();
@@ -237,6 +259,7 @@ int main(void) {
     for (int i = 0; i < 2; i++) {
         packs_positions(cubes[i]);
         measures(i == 0 ? 6000 : -6000);
+        melts(cubes[i], i == 0 ? 6000 : -6000);
     }
     rim();
     notes();

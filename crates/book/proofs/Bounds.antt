@@ -3,6 +3,7 @@
 use Prim.Native.Nat.{_≤_}
 use native.Mathlib.Omega.{arith}
 use mathlib.Core.Bool.{true, _&&_}
+use mathlib.Core.List.{_∷_}
 use mathlib.Core.Path.{_≡_, refl}
 use lib.ListN.{length}
 use lib.Dec.{leb}
@@ -12,7 +13,7 @@ use Rattle.rules.specs.declared.Operation.{Operation}
 use Rattle.rules.specs.Limits.{inRange}
 use Rattle.rules.specs.Count.{num}
 use Rattle.rules.specs.Ring.{places}
-use Rattle.rules.specs.Table.{Side, glued, fresh, Effect, not-allowed, builds, marks, effect}
+use Rattle.rules.specs.Table.{Side, glued, fresh, Building, Marking, Effect, not-allowed, builds, marks, effect}
 use Rattle.rules.specs.Machine.{Machine, freshSides, afterBuild, afterMark, Step, within, done, operation}
 use Rattle.rules.specs.Book.{Book, emptyBook, entered}
 use Rattle.book.specs.Sums.{loopsSum}
@@ -68,16 +69,11 @@ fresh-once : (s : Side) → freshSides s ≤ 1
 fresh-once glued = omega arith
 fresh-once fresh = omega arith
 
-bounded-by : (b : Book) → Bounded b → (e : Effect) → Law (b .machine .used) (b .machine .loops) e
-    → Bounded (entered b (done (b .machine) e))
-unfolding done
-bounded-by b c not-allowed l = c
-bounded-by b c (builds z) l =
-    let m = afterBuild (b .machine) z in
-    test-law (λ (x : Step). Bounded (entered b x)) (within m) _ _ c
-    (λ e. test-law (λ (x : Step). Bounded (entered b x)) _ _ _ c
-    (λ rule.
-    let w = within-each m e in
+-- a triangle that is built, and an edge that is marked, whether or not the edge rule is tested
+pub bounded-built : (b : Book) → Bounded b → (z : Building) → Law (b .machine .used) (b .machine .loops) (builds z)
+    → within (afterBuild (b .machine) z) ≡ true → Bounded (record { machine = afterBuild (b .machine) z; borders = b .borders })
+bounded-built b c z l e =
+    let w = within-each (afterBuild (b .machine) z) e in
     let o = l .sums (λ x y o. num o) in
     record {
       stated = c .stated;
@@ -99,12 +95,13 @@ bounded-by b c (builds z) l =
         fresh-once (z .sides .qr),
         fresh-once (z .sides .rp),
       );
-    }))
-bounded-by b c (marks z) l =
-    let m = afterMark (b .machine) z in
-    test-law (λ (x : Step). Bounded (entered b x)) (within m) _ _ c
-    (λ e.
-    let w = within-each m e in
+    }
+
+pub bounded-marked : (b : Book) → Bounded b → (y : Marking) → Law (b .machine .used) (b .machine .loops) (marks y)
+    → within (afterMark (b .machine) y) ≡ true
+    → Bounded (record { machine = afterMark (b .machine) y; borders = y .edge ∷ b .borders })
+bounded-marked b c y l e =
+    let w = within-each (afterMark (b .machine) y) e in
     let o = l .sums (λ x y o. num o) (λ x y. refl) in
     record {
       stated = c .stated;
@@ -116,7 +113,17 @@ bounded-by b c (marks z) l =
       unions = c .unions;
       rims = omega (arith, c .rims, l .small);
       borders = omega (arith, c .borders, o);
-    })
+    }
+
+bounded-by : (b : Book) → Bounded b → (e : Effect) → Law (b .machine .used) (b .machine .loops) e
+    → Bounded (entered b (done (b .machine) e))
+unfolding done
+bounded-by b c not-allowed l = c
+bounded-by b c (builds z) l =
+    test-law (λ (x : Step). Bounded (entered b x)) (within (afterBuild (b .machine) z)) _ _ c
+    (λ e. test-law (λ (x : Step). Bounded (entered b x)) _ _ _ c (λ rule. bounded-built b c z l e))
+bounded-by b c (marks z) l =
+    test-law (λ (x : Step). Bounded (entered b x)) (within (afterMark (b .machine) z)) _ _ c (λ e. bounded-marked b c z l e)
 
 pub bounded-kept : (b : Book) → Consistent b → Bounded b → (o : Operation) → Bounded (entered b (operation (b .machine) o))
 bounded-kept b c k o = bounded-by b k (effect o (b .machine .used) (b .machine .loops))

@@ -1,2 +1,1 @@
 pub mod Noting
-pub mod Planning

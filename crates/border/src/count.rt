@@ -52,7 +52,7 @@ pub fn count_built(n: usize, s: Front, p: Plan, l: Loops) -> Front
 }
 
 // The counts after an edge is marked: a loop that has ended is a rim.
-pub(crate) fn count_marked(n: usize, s: Front, l: Loops) -> Front
+pub fn count_marked(n: usize, s: Front, l: Loops) -> Front
     requires { ⌜ (n ≤ maxPlaces) × (l .free ≤ n) × (l .live ≤ s .loops .live) × (s .loops .live ≤ l .live + 1) × (s .rims ≤ maxNumbers) ⌝ }
     ensures { λ r. ⌜ r ≡ markedFront n s l ⌝ }
 {

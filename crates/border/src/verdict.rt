@@ -20,7 +20,7 @@ ghost use Rattle.border_theory.specs.Memory.Near.{Near};
 ghost use Rattle.border_theory.specs.Memory.Performs.{Proposable};
 
 // With no live loop only a start is allowed.
-fn propose_rest(u: u16, o: Operation) -> Decided
+pub fn propose_rest(u: u16, o: Operation) -> Decided
     requires { ⌜ u ≤ maxVertices ⌝ }
     ensures { λ r. ⌜ r ≡ restProposed u o ⌝ }
 {

@@ -1,3 +1,4 @@
 pub mod Links
 pub mod Memory
 pub mod Records
+pub mod Ways

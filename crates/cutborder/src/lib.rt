@@ -1,5 +1,5 @@
-// The types of the running state, beside the plain memory: of the cut-border itself, of a packing and of an unpacking. Their meaning
-// stands in the theory crates: border_theory, state_theory, pack_theory and unpack_theory.
+// The types of the running state, beside the plain memory: of the cut-border itself, of a packing, of an unpacking and of the furnace's own
+// reader. Their meaning stands in the theory crates: border_theory, state_theory, pack_theory, unpack_theory and melting_theory.
 use rules::Builder;
 use rules::Counts;
 use rules::Operation;
@@ -148,4 +148,19 @@ pub struct Progress {
     pub at: usize,
     pub left: usize,
     pub stepped: Stepped,
+}
+
+// Whether a reading of the furnace's own reader goes on, has completed its model, or is refused, 15 to 17.
+pub enum Stage {
+    Runs,
+    Completed,
+    Refused(u8),
+}
+
+// Such a reading: the bit position of the next operation, the counts and the loops, and the sum of the triangles' determinants.
+pub struct Melt {
+    pub stage: Stage,
+    pub at: usize,
+    pub front: Front,
+    pub six: i64,
 }

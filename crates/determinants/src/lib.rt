@@ -1,6 +1,7 @@
 // Six times the volume that triangles enclose, as an exact sum of signed determinants. Positions stand as bytes, as a pack's field holds
 // them. The contracts cite rules/specs/Grid.antt and Volume.antt.
 use rules::Point;
+use rules::Triangle;
 use wire::fields::word_at;
 ghost use mathlib.Core.Path.{_≡_};
 ghost use Prim.Native.Nat.{_+_, _*_, _≤_, _<_};
@@ -9,7 +10,7 @@ ghost use lib.ListN.{length, take, getD};
 ghost use Rattle.rules.specs.Grid.{signedOf, positionsFrom};
 ghost use Rattle.rules.specs.Triangle.{trianglesOf};
 ghost use Rattle.rules.specs.Volume.{pointAt, determinant, sixVolumes};
-ghost use Rattle.volume_theory.specs.Near.{Near, largest, limit64, HasPositions, determinantAt, Measurable};
+ghost use Rattle.volume_theory.specs.Near.{Near, largest, limit64, HasCorners, HasPositions, determinantOf, determinantAt, Measurable};
 
 // The product, the sum and the difference of two numbers that are far from the ends of 64 bits.
 fn times(a: i64, b: i64) -> i64
@@ -89,15 +90,36 @@ fn determinant_of(p: Point, q: Point, r: Point) -> i64
     weighed(p, a, b, c)
 }
 
-// The determinant of triangle t.
+// The determinant of a triangle.
+fn of_corners(field: &[u8], t: Triangle) -> i64
+    requires { ⌜ HasCorners t (now field) ⌝ }
+    ensures { λ d. ⌜ (d ≡ determinantOf (positionsFrom (now (field .entry))) t) × (natAbs d ≤ largest) ⌝ }
+{
+    let p = point(field, t.p);
+    let q = point(field, t.q);
+    let r = point(field, t.r);
+    determinant_of(p, q, r)
+}
+
+// A sum with the determinant of one more triangle.
+pub fn weigh(field: &[u8], t: Triangle, six: i64) -> i64
+    requires { ⌜ HasCorners t (now field) × (largest + natAbs six < limit64) ⌝ }
+    ensures { λ r. ⌜ (r ≡ determinantOf (positionsFrom (now (field .entry))) t +ℤ six) × (natAbs r ≤ largest + natAbs six) ⌝ }
+{
+    plus(of_corners(field, t), six)
+}
+
+// The determinant of triangle t of a list.
 fn of_triangle(triangles: &[u16], t: usize, field: &[u8]) -> i64
     requires { ⌜ HasPositions (now triangles) t (now field) ⌝ }
     ensures { λ d. ⌜ (d ≡ determinantAt (positionsFrom (now (field .entry))) (now (triangles .entry)) t) × (natAbs d ≤ largest) ⌝ }
 {
-    let p = point(field, triangles[3 * t]);
-    let q = point(field, triangles[3 * t + 1]);
-    let r = point(field, triangles[3 * t + 2]);
-    determinant_of(p, q, r)
+    let corners = Triangle {
+        p: triangles[3 * t],
+        q: triangles[3 * t + 1],
+        r: triangles[3 * t + 2],
+    };
+    of_corners(field, corners)
 }
 
 // Six times the volume of the first n triangles of a list. The sum begins with the last one.

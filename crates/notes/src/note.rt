@@ -12,7 +12,7 @@ ghost use Rattle.notes_theory.specs.Claims.{noteLength};
 ghost use Rattle.notes_theory.specs.Packing.{putAt};
 
 // Whether a note has one to 64 bytes: if not, 25.
-pub(crate) fn is_note(note: &[u8]) -> bool
+pub fn is_note(note: &[u8]) -> bool
     ensures { λ b. ⌜ b ≡ noteFits (given (now (note .entry))) ⌝ }
 {
     if note.len() == 0 {

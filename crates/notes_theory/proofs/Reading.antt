@@ -11,20 +11,24 @@ use lib.ListN.{length, take, drop, length-append}
 use lib.Seq.{drop-at, take-length}
 use borrow.Author.Tests.{le-leb, lt-leb, leb-true}
 use Rattle.rules.specs.declared.Model.{Model}
-use Rattle.rules.specs.Limits.{maxNote}
+use Rattle.rules.specs.declared.Melted.{Melted}
+use Rattle.rules.specs.declared.Melted.the-variants.{Refused}
+use Rattle.rules.specs.Limits.{maxNote, inRange}
+use Rattle.rules.specs.Machine.{asStated}
 use Rattle.rules.specs.Answer.{unpacked}
 use Rattle.rules.specs.Buffer.{Buffers}
-use Rattle.rules.specs.Fields.{fieldOf}
-use Rattle.rules.specs.Unpack.{UnpackResult}
-use Rattle.rules.specs.Later.{Given, not-given, given, parts, partsOf}
+use Rattle.rules.specs.Fields.{fieldOf, Fields, no-pack, fields, fieldsOf}
+use Rattle.rules.specs.Unpack.{Ran, stopped, completed, restFits, UnpackResult}
+use Rattle.rules.specs.Later.{Given, not-given, given, Parts, no-parts, parts, partsOf}
 use Rattle.rules.specs.Note.{noteTag, noteFits, withNote, NoteTaken, takeNote}
-use Rattle.rules.specs.UnpackWhole.{modelIn, thenTested, unpackWhole}
+use Rattle.rules.specs.UnpackWhole.{fieldFits, modelIn, thenTested, unpackWhole}
 use Rattle.rules.specs.Reading.{unpackNoted, VolumeResult, positionsIn, measured, volume, handedBack, handedFrom, bench}
+use Rattle.rules.specs.Furnace.{peaksFit, runFreelyOf, melted, meltRun, meltFields, meltParts, melt}
 use Rattle.counting.proofs.Bools.{and-right}
 use Rattle.wire_theory.specs.Shape.{Bytes}
 use Rattle.wire_theory.proofs.Lists.{below-front}
 use Rattle.wire_theory.proofs.Note.{NoteThere, NoNote, no-note, note-written, note-found}
-use Rattle.volume_theory.proofs.Whole.{tested-none, unpack-unnoted, volume-unnoted, passes}
+use Rattle.volume_theory.proofs.Whole.{tested-none, passes}
 use Rattle.notes_theory.specs.Claims.{NotesMakeNoDifference, PartOf, TheNoteIsAPartOfThePack, TheBenchReadsThePack}
 
 -- a note that fits has a length that two bytes hold
@@ -45,30 +49,62 @@ notedBy d r =
 abbrev measuredBy : NoteTaken → Buffers → UnpackResult → VolumeResult
 measuredBy d r u = measured (positionsIn (partsOf (d .before))) r u (modelIn (u .answer))
 
+-- the furnace's own reader asks of a note only whether it fits
+module _ (n : Given (List ℕ)) (fits : noteFits n ≡ true) where
+  melt-run : (ps : Given (List ℕ)) (x : Ran) → meltRun ps n x ≡ meltRun ps not-given x
+  unfolding meltRun
+  melt-run ps (stopped k) = refl
+  melt-run ps (completed m xs) =
+      ap (λ (t : Bool). elim (restFits xs && asStated m) as (λ _. Melted) [
+        | true ↦ elim (fieldFits (m .stated .vertices) ps) [
+          | true ↦ elim t [ true ↦ melted ps m | false ↦ Refused 25 ]
+          | false ↦ Refused 23
+        ]
+        | false ↦ Refused 19
+      ]) fits
+
+  melt-parts : (p : Parts) → meltParts n p ≡ meltParts not-given p
+  unfolding meltParts meltFields
+  melt-parts no-parts = refl
+  melt-parts (parts two ps) = go (fieldsOf two)
+    where
+      go : (f : Fields) → meltFields ps n f ≡ meltFields ps not-given f
+      go no-pack = refl
+      go (fields s ops) =
+          ap (λ (x : Melted). elim (inRange s) as (λ _. Melted) [
+            | true ↦ elim (peaksFit s) [ true ↦ x | false ↦ Refused 26 ]
+            | false ↦ Refused 13
+          ]) (melt-run ps (runFreelyOf s ops))
+
 -- fields in order, and a sound note or none after them
-module _ (front two : List ℕ) (g : Given (List ℕ)) (fields : partsOf front ≡ parts two g) (r : Buffers) where
-  abbrev u : UnpackResult
-  u = unpackWhole front r
+module _ (front two : List ℕ) (g : Given (List ℕ)) (found : partsOf front ≡ parts two g) where
+  taken : (n : Given (List ℕ)) → noteFits n ≡ true → takeNote (withNote n front) ≡ record { before = front; note = n }
+  taken not-given h = no-note front two g found
+  taken (given ns) h = note-written front two ns g found (omega (arith, short ns h))
 
-  taken : (ns : List ℕ) → noteFits (given ns) ≡ true → takeNote (withNote (given ns) front) ≡ record { before = front; note = given ns }
-  taken ns h = note-written front two ns g fields (omega (arith, short ns h))
+  melt-noted : (n : Given (List ℕ)) → noteFits n ≡ true → melt (withNote n front) ≡ meltParts not-given (partsOf front)
+  melt-noted n h =
+      ap (λ (d : NoteTaken). meltParts (d .note) (partsOf (d .before))) (taken n h) ∙ melt-parts n h (partsOf front)
 
-  pub unpack-noted : (n : Given (List ℕ)) → noteFits n ≡ true → unpackNoted (withNote n front) r ≡ unpackWhole front r
-  unpack-noted not-given h = unpack-unnoted front two g r fields
-  unpack-noted (given ns) h =
-      ap (λ (d : NoteTaken). notedBy d r) (taken ns h) ∙ ap (λ (t : Bool). thenTested 25 (λ m. t) r u (modelIn (u .answer))) h
-      ∙ tested-none 25 r u (modelIn (u .answer))
+  module _ (r : Buffers) where
+    abbrev u : UnpackResult
+    u = unpackWhole front r
 
-  pub volume-noted : (n : Given (List ℕ)) → noteFits n ≡ true
-      → volume (withNote n front) r ≡ measured (positionsIn (partsOf front)) r (unpackWhole front r) (modelIn (unpackWhole front r .answer))
-  volume-noted not-given h = volume-unnoted front two g r fields
-  volume-noted (given ns) h =
-      ap₂ (λ (d : NoteTaken) (x : UnpackResult). measuredBy d r x) (taken ns h) (unpack-noted (given ns) h)
+    pub unpack-noted : (n : Given (List ℕ)) → noteFits n ≡ true → unpackNoted (withNote n front) r ≡ unpackWhole front r
+    unpack-noted n h =
+        ap (λ (d : NoteTaken). notedBy d r) (taken n h) ∙ ap (λ (t : Bool). thenTested 25 (λ m. t) r u (modelIn (u .answer))) h
+        ∙ tested-none 25 r u (modelIn (u .answer))
+
+    pub volume-noted : (n : Given (List ℕ)) → noteFits n ≡ true
+        → volume (withNote n front) r
+        ≡ measured (positionsIn (partsOf front)) r (unpackWhole front r) (modelIn (unpackWhole front r .answer))
+    volume-noted n h = ap₂ (λ (d : NoteTaken) (x : UnpackResult). measuredBy d r x) (taken n h) (unpack-noted n h)
 
 pub notes-make-no-difference : NotesMakeNoDifference
 notes-make-no-difference bytes bytes′ s = record {
   unpacking = λ r. same (λ us. unpackNoted us r) (λ n h. unpack-noted (s .front) (s .two) (s .positions) (s .fields) r n h);
   measuring = λ r. same (λ us. volume us r) (λ n h. volume-noted (s .front) (s .two) (s .positions) (s .fields) r n h);
+  melting = same melt (λ n h. melt-noted (s .front) (s .two) (s .positions) (s .fields) n h);
 }
   where
     same : {A : Type 0} {x : A} (f : List ℕ → A) → ((n : Given (List ℕ)) → noteFits n ≡ true → f (withNote n (s .front)) ≡ x)

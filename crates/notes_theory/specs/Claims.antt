@@ -19,6 +19,7 @@ use Rattle.rules.specs.Later.{Given, not-given, given, parts, partsOf}
 use Rattle.rules.specs.Note.{noteTag, noteFits, withNote, takeNote}
 use Rattle.rules.specs.PackWhole.{Extras, extras, givenFit, packWhole}
 use Rattle.rules.specs.Reading.{unpackNoted, volume, BenchResult, bench}
+use Rattle.rules.specs.Furnace.{melt}
 use Rattle.wire_theory.specs.Shape.{Bytes}
 use Rattle.roundtrip.specs.Claims.{LongEnoughFor, listIn}
 use Rattle.volume_theory.specs.Whole.{PassesRooms, positionsOfPack, WholePackOf}
@@ -74,6 +75,7 @@ pub record SameButNote (bytes bytes′ : List ℕ) : Type 0 where
 pub record ReadAlike (bytes bytes′ : List ℕ) : Type 0 where
   pub unpacking : (r : Buffers) → unpackNoted bytes r ≡ unpackNoted bytes′ r
   pub measuring : (r : Buffers) → volume bytes r ≡ volume bytes′ r
+  pub melting : melt bytes ≡ melt bytes′
 
 -- "Every other call that reads a pack gives equal answers for any two packs that differ only in .. a sound note"
 abbrev pub NotesMakeNoDifference : Type 0

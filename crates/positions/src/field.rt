@@ -32,7 +32,7 @@ fn is_in_grid(field: &[u8], i: usize) -> bool
 }
 
 // 23, of a pack with v vertices.
-pub(crate) fn is_field(field: &[u8], v: u16) -> bool
+pub fn is_field(field: &[u8], v: u16) -> bool
     ensures { λ b. ⌜ b ≡ fieldFits v (given (now (field .entry))) ⌝ }
 {
     if field.len() != 6 * (v as usize) {

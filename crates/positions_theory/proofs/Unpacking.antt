@@ -167,10 +167,6 @@ whole-beyond bytes ts n m ts′ h =
     ap (drop (3 * m .triangles)) (h .triangles ∙ ap (λ (x : UnpackResult). x .buffers .triangles) (a .same))
     ∙ beyond (a .two) (lent n ts) m (a .accepted)
 
-pub as-model : (bytes ts : List ℕ) (n : ℕ) (r : Unpacked) (m : Model) (ts′ : List ℕ) → UnpackedWholeOn bytes ts n r ts′ → r ≡ U.Model m
-    → UnpackedWholeOn bytes ts n (U.Model m) ts′
-as-model bytes ts n r m ts′ h e = subst (λ (x : Unpacked). UnpackedWholeOn bytes ts n x ts′) e h
-
 -- the buffer holds the triangles of an accepted one
 pub whole-long : (bytes ts : List ℕ) (n : ℕ) (m : Model) (ts′ : List ℕ) → UnpackedWholeOn bytes ts n (U.Model m) ts′
     → 3 * m .triangles ≤ length ts′

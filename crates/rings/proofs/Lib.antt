@@ -1,3 +1,0 @@
-pub mod Stacking
-pub mod Storing
-pub mod Walking

@@ -8,15 +8,16 @@ use lib.ListN.{replicate}
 use lib.Dec.{T}
 use lib.IntN.{pos, negsuc}
 use Rattle.rules.specs.declared.Operation.the-variants.{New, Forward, Backward, Border, Split, Close, Union, Start}
+use Rattle.rules.specs.declared.Melted.the-variants.{Six, Refused}
 use Rattle.rules.specs.Triangle.{tri}
 use Rattle.rules.specs.Answer.{refusal, accepted, triangle, no-triangle, numbers, packed}
 use Rattle.rules.specs.Book.{begin, operate, finish}
 use Rattle.rules.specs.Pack.{most}
 use Rattle.rules.specs.Later.{not-given, given}
-use Rattle.rules.proofs.Rows.{PackRow, UnpackRow, CallRow, FieldsRow, LookRow, WholePackRow, WholeRow}
+use Rattle.rules.proofs.Rows.{PackRow, UnpackRow, CallRow, FieldsRow, LookRow, WholePackRow, WholeRow, MeltRow}
 use Rattle.rules.proofs.Rows.{place, packLent, unpackLent, unpackTold, volumeTold, lengths, counts, totalsOf, modelOf}
-use Rattle.rules.proofs.Rows.{equal, equalPlaces, equalAnswers, packRight, unpackRight, wholePackRight, wholeRight, writtenRing}
-use Rattle.rules.proofs.Rows.{writtenRings, writtenEdges, callsRight, fieldsRight, lookRight, allRight}
+use Rattle.rules.proofs.Rows.{equal, equalPlaces, equalAnswers, packRight, unpackRight, wholePackRight, wholeRight, meltRight}
+use Rattle.rules.proofs.Rows.{writtenRing, writtenRings, writtenEdges, callsRight, fieldsRight, lookRight, allRight}
 use Rattle.rules.specs.Triangle.{trianglesOf, corners, edgesOf}
 use Rattle.rules.specs.Count.{same, hit, occurs, count, different, pairs}
 use Rattle.rules.specs.Fan.{about, leaving, entering, turnOn, turnBack, oneRun, oneFanEach}
@@ -42,6 +43,7 @@ use Rattle.rules.specs.Unpack.{runAll, numbersOf, unpackRun, unpackField
 use Rattle.rules.specs.PackWhole.{positionsOf, wholeChosen, wholeChecked}
 use Rattle.rules.specs.UnpackWhole.{thenTested, unpackParts}
 use Rattle.rules.specs.Reading.{measured}
+use Rattle.rules.specs.Furnace.{doneFreely, runFreely, meltRun, meltFields, meltParts}
 use Rattle.rules.specs.View.{follow, followed, nodes, placesOf, openAmong, loopsOf, placeNodes, placeRings, trianglesBuilt, view}
 use Rattle.rules.specs.Sound.{sizesOf, apart, placesFit, loopsFit, linksFit, soundElse, sound}
 
@@ -5155,17 +5157,782 @@ wholeRows =
     ∷
     []
 
+unfoldable pub meltRows : List MeltRow
+meltRows =
+    -- melt: M2, corners at 0 and at 5 of each axis: six -125
+    record {
+      bytes =
+          (1 ∷ 0 ∷ 8 ∷ 0 ∷ 4 ∷ 0 ∷ 4 ∷ 0 ∷ 4 ∷ 0 ∷ 1 ∷ 2 ∷ 0 ∷ 2 ∷ 224 ∷ 208 ∷ 3 ∷ 0 ∷ 24 ∷ 0 ∷ 0 ∷ 0 ∷ 0 ∷ 0 ∷ 0 ∷ 0 ∷ 5 ∷ 0 ∷ 0 ∷ 0 ∷ 0
+          ∷ 0 ∷ 0 ∷ 0 ∷ 5 ∷ 0 ∷ 0 ∷ 0 ∷ 0 ∷ 0 ∷ 0 ∷ 0 ∷ 5 ∷ []);
+      told = Six (negsuc 124);
+    }
+    ∷
+    -- melt: M2, the same turned inside out: six 125
+    record {
+      bytes =
+          ((1 ∷ 0 ∷ 8 ∷ 0 ∷ 4 ∷ 0 ∷ 4 ∷ 0 ∷ 4 ∷ 0 ∷ 1 ∷ 2 ∷ 0 ∷ 2 ∷ 224 ∷ 208 ∷ 3 ∷ 0 ∷ 24 ∷ 0 ∷ 5 ∷ []) ++ replicate 13 0 ++ (5 ∷ 0 ∷ 0 ∷ 0
+          ∷ 0 ∷ 0 ∷ 0 ∷ 0 ∷ 5 ∷ []));
+      told = Six (pos 125);
+    }
+    ∷
+    -- melt: M2, different numbers: six -605601792
+    record {
+      bytes =
+          (1 ∷ 0 ∷ 8 ∷ 0 ∷ 4 ∷ 0 ∷ 4 ∷ 0 ∷ 4 ∷ 0 ∷ 1 ∷ 2 ∷ 0 ∷ 2 ∷ 224 ∷ 208 ∷ 3 ∷ 0 ∷ 24 ∷ 250 ∷ 136 ∷ 253 ∷ 90 ∷ 0 ∷ 118 ∷ 3 ∷ 220 ∷ 7
+          ∷ 140 ∷ 251 ∷ 134 ∷ 255 ∷ 202 ∷ 4 ∷ 88 ∷ 249 ∷ 48 ∷ 254 ∷ 82 ∷ 3 ∷ 190 ∷ 249 ∷ 116 ∷ []);
+      told = Six (negsuc 605601791);
+    }
+    ∷
+    -- melt: M2, the same and a note: six -605601792
+    record {
+      bytes =
+          (1 ∷ 0 ∷ 8 ∷ 0 ∷ 4 ∷ 0 ∷ 4 ∷ 0 ∷ 4 ∷ 0 ∷ 1 ∷ 2 ∷ 0 ∷ 2 ∷ 224 ∷ 208 ∷ 3 ∷ 0 ∷ 24 ∷ 250 ∷ 136 ∷ 253 ∷ 90 ∷ 0 ∷ 118 ∷ 3 ∷ 220 ∷ 7
+          ∷ 140 ∷ 251 ∷ 134 ∷ 255 ∷ 202 ∷ 4 ∷ 88 ∷ 249 ∷ 48 ∷ 254 ∷ 82 ∷ 3 ∷ 190 ∷ 249 ∷ 116 ∷ 4 ∷ 0 ∷ 1 ∷ 65 ∷ []);
+      told = Six (negsuc 605601791);
+    }
+    ∷
+    -- melt: M2, the same and a note of 64 bytes: six -605601792
+    record {
+      bytes =
+          ((1 ∷ 0 ∷ 8 ∷ 0 ∷ 4 ∷ 0 ∷ 4 ∷ 0 ∷ 4 ∷ 0 ∷ 1 ∷ 2 ∷ 0 ∷ 2 ∷ 224 ∷ 208 ∷ 3 ∷ 0 ∷ 24 ∷ 250 ∷ 136 ∷ 253 ∷ 90 ∷ 0 ∷ 118 ∷ 3 ∷ 220 ∷ 7
+          ∷ 140 ∷ 251 ∷ 134 ∷ 255 ∷ 202 ∷ 4 ∷ 88 ∷ 249 ∷ 48 ∷ 254 ∷ 82 ∷ 3 ∷ 190 ∷ 249 ∷ 116 ∷ 4 ∷ 0 ∷ 64 ∷ []) ++ replicate 64 4);
+      told = Six (negsuc 605601791);
+    }
+    ∷
+    -- melt: M4: six 0
+    record {
+      bytes =
+          (1 ∷ 0 ∷ 8 ∷ 0 ∷ 3 ∷ 0 ∷ 2 ∷ 0 ∷ 3 ∷ 0 ∷ 1 ∷ 2 ∷ 0 ∷ 1 ∷ 244 ∷ 3 ∷ 0 ∷ 18 ∷ 250 ∷ 136 ∷ 253 ∷ 90 ∷ 0 ∷ 118 ∷ 3 ∷ 220 ∷ 7 ∷ 140
+          ∷ 251 ∷ 134 ∷ 255 ∷ 202 ∷ 4 ∷ 88 ∷ 249 ∷ 48 ∷ []);
+      told = Six (pos 0);
+    }
+    ∷
+    -- melt: two pieces: six 4239212544
+    record {
+      bytes =
+          (1 ∷ 0 ∷ 8 ∷ 0 ∷ 8 ∷ 0 ∷ 8 ∷ 0 ∷ 4 ∷ 0 ∷ 1 ∷ 2 ∷ 0 ∷ 3 ∷ 224 ∷ 222 ∷ 13 ∷ 3 ∷ 0 ∷ 48 ∷ 250 ∷ 136 ∷ 253 ∷ 90 ∷ 0 ∷ 118 ∷ 3 ∷ 220
+          ∷ 7 ∷ 140 ∷ 251 ∷ 134 ∷ 255 ∷ 202 ∷ 4 ∷ 88 ∷ 249 ∷ 48 ∷ 254 ∷ 82 ∷ 3 ∷ 190 ∷ 249 ∷ 116 ∷ 255 ∷ 116 ∷ 5 ∷ 190 ∷ 252 ∷ 82 ∷ 3 ∷ 48
+          ∷ 250 ∷ 88 ∷ 1 ∷ 202 ∷ 249 ∷ 134 ∷ 1 ∷ 140 ∷ 249 ∷ 220 ∷ 2 ∷ 118 ∷ 251 ∷ 90 ∷ 4 ∷ 136 ∷ []);
+      told = Six (pos 4239212544);
+    }
+    ∷
+    -- melt: a split: six 3563257856
+    record {
+      bytes =
+          (1 ∷ 0 ∷ 8 ∷ 0 ∷ 6 ∷ 0 ∷ 8 ∷ 0 ∷ 6 ∷ 0 ∷ 2 ∷ 2 ∷ 0 ∷ 5 ∷ 224 ∷ 17 ∷ 0 ∷ 43 ∷ 64 ∷ 3 ∷ 0 ∷ 36 ∷ 255 ∷ 116 ∷ 5 ∷ 190 ∷ 252 ∷ 82
+          ∷ 254 ∷ 82 ∷ 3 ∷ 190 ∷ 249 ∷ 116 ∷ 3 ∷ 48 ∷ 250 ∷ 88 ∷ 1 ∷ 202 ∷ 3 ∷ 220 ∷ 7 ∷ 140 ∷ 251 ∷ 134 ∷ 250 ∷ 136 ∷ 253 ∷ 90 ∷ 0 ∷ 118
+          ∷ 255 ∷ 202 ∷ 4 ∷ 88 ∷ 249 ∷ 48 ∷ []);
+      told = Six (pos 3563257856);
+    }
+    ∷
+    -- melt: a torus, with unions: six -4451893248
+    record {
+      bytes =
+          (1 ∷ 0 ∷ 8 ∷ 0 ∷ 7 ∷ 0 ∷ 14 ∷ 0 ∷ 8 ∷ 0 ∷ 2 ∷ 2 ∷ 0 ∷ 10 ∷ 224 ∷ 0 ∷ 96 ∷ 7 ∷ 128 ∷ 128 ∷ 69 ∷ 64 ∷ 14 ∷ 154 ∷ 3 ∷ 0 ∷ 42 ∷ 250
+          ∷ 136 ∷ 253 ∷ 90 ∷ 0 ∷ 118 ∷ 3 ∷ 220 ∷ 7 ∷ 140 ∷ 251 ∷ 134 ∷ 254 ∷ 82 ∷ 3 ∷ 190 ∷ 249 ∷ 116 ∷ 3 ∷ 48 ∷ 250 ∷ 88 ∷ 1 ∷ 202 ∷ 249
+          ∷ 134 ∷ 1 ∷ 140 ∷ 249 ∷ 220 ∷ 255 ∷ 202 ∷ 4 ∷ 88 ∷ 249 ∷ 48 ∷ 255 ∷ 116 ∷ 5 ∷ 190 ∷ 252 ∷ 82 ∷ []);
+      told = Six (negsuc 4451893247);
+    }
+    ∷
+    -- melt: 12: nothing: refusal 12
+    record { bytes = []; told = Refused 12 }
+    ∷
+    -- melt: 12: 01 has a length of 7: refusal 12
+    record {
+      bytes =
+          (1 ∷ 0 ∷ 7 ∷ 0 ∷ 3 ∷ 0 ∷ 2 ∷ 0 ∷ 3 ∷ 0 ∷ 2 ∷ 0 ∷ 1 ∷ 244 ∷ 3 ∷ 0 ∷ 18 ∷ 250 ∷ 136 ∷ 253 ∷ 90 ∷ 0 ∷ 118 ∷ 3 ∷ 220 ∷ 7 ∷ 140 ∷ 251
+          ∷ 134 ∷ 255 ∷ 202 ∷ 4 ∷ 88 ∷ 249 ∷ 48 ∷ []);
+      told = Refused 12;
+    }
+    ∷
+    -- melt: 12: no 02: refusal 12
+    record {
+      bytes =
+          (1 ∷ 0 ∷ 8 ∷ 0 ∷ 3 ∷ 0 ∷ 2 ∷ 0 ∷ 3 ∷ 0 ∷ 1 ∷ 3 ∷ 0 ∷ 18 ∷ 250 ∷ 136 ∷ 253 ∷ 90 ∷ 0 ∷ 118 ∷ 3 ∷ 220 ∷ 7 ∷ 140 ∷ 251 ∷ 134 ∷ 255
+          ∷ 202 ∷ 4 ∷ 88 ∷ 249 ∷ 48 ∷ []);
+      told = Refused 12;
+    }
+    ∷
+    -- melt: 12: 03 twice: refusal 12
+    record {
+      bytes =
+          (1 ∷ 0 ∷ 8 ∷ 0 ∷ 3 ∷ 0 ∷ 2 ∷ 0 ∷ 3 ∷ 0 ∷ 1 ∷ 2 ∷ 0 ∷ 1 ∷ 244 ∷ 3 ∷ 0 ∷ 18 ∷ 250 ∷ 136 ∷ 253 ∷ 90 ∷ 0 ∷ 118 ∷ 3 ∷ 220 ∷ 7 ∷ 140
+          ∷ 251 ∷ 134 ∷ 255 ∷ 202 ∷ 4 ∷ 88 ∷ 249 ∷ 48 ∷ 3 ∷ 0 ∷ 18 ∷ 250 ∷ 136 ∷ 253 ∷ 90 ∷ 0 ∷ 118 ∷ 3 ∷ 220 ∷ 7 ∷ 140 ∷ 251 ∷ 134 ∷ 255
+          ∷ 202 ∷ 4 ∷ 88 ∷ 249 ∷ 48 ∷ []);
+      told = Refused 12;
+    }
+    ∷
+    -- melt: 12: 03 cut in its contents: refusal 12
+    record {
+      bytes =
+          (1 ∷ 0 ∷ 8 ∷ 0 ∷ 3 ∷ 0 ∷ 2 ∷ 0 ∷ 3 ∷ 0 ∷ 1 ∷ 2 ∷ 0 ∷ 1 ∷ 244 ∷ 3 ∷ 0 ∷ 18 ∷ 250 ∷ 136 ∷ 253 ∷ 90 ∷ 0 ∷ 118 ∷ 3 ∷ 220 ∷ 7 ∷ 140
+          ∷ 251 ∷ 134 ∷ 255 ∷ 202 ∷ 4 ∷ 88 ∷ 249 ∷ []);
+      told = Refused 12;
+    }
+    ∷
+    -- melt: 12: 04 before 03: refusal 12
+    record {
+      bytes =
+          (1 ∷ 0 ∷ 8 ∷ 0 ∷ 3 ∷ 0 ∷ 2 ∷ 0 ∷ 3 ∷ 0 ∷ 1 ∷ 2 ∷ 0 ∷ 1 ∷ 244 ∷ 4 ∷ 0 ∷ 1 ∷ 65 ∷ 3 ∷ 0 ∷ 18 ∷ 250 ∷ 136 ∷ 253 ∷ 90 ∷ 0 ∷ 118 ∷ 3
+          ∷ 220 ∷ 7 ∷ 140 ∷ 251 ∷ 134 ∷ 255 ∷ 202 ∷ 4 ∷ 88 ∷ 249 ∷ 48 ∷ []);
+      told = Refused 12;
+    }
+    ∷
+    -- melt: 12: 04 twice: refusal 12
+    record {
+      bytes =
+          (1 ∷ 0 ∷ 8 ∷ 0 ∷ 3 ∷ 0 ∷ 2 ∷ 0 ∷ 3 ∷ 0 ∷ 1 ∷ 2 ∷ 0 ∷ 1 ∷ 244 ∷ 3 ∷ 0 ∷ 18 ∷ 250 ∷ 136 ∷ 253 ∷ 90 ∷ 0 ∷ 118 ∷ 3 ∷ 220 ∷ 7 ∷ 140
+          ∷ 251 ∷ 134 ∷ 255 ∷ 202 ∷ 4 ∷ 88 ∷ 249 ∷ 48 ∷ 4 ∷ 0 ∷ 1 ∷ 65 ∷ 4 ∷ 0 ∷ 1 ∷ 65 ∷ []);
+      told = Refused 12;
+    }
+    ∷
+    -- melt: 12: a byte after 04: refusal 12
+    record {
+      bytes =
+          (1 ∷ 0 ∷ 8 ∷ 0 ∷ 3 ∷ 0 ∷ 2 ∷ 0 ∷ 3 ∷ 0 ∷ 1 ∷ 2 ∷ 0 ∷ 1 ∷ 244 ∷ 3 ∷ 0 ∷ 18 ∷ 250 ∷ 136 ∷ 253 ∷ 90 ∷ 0 ∷ 118 ∷ 3 ∷ 220 ∷ 7 ∷ 140
+          ∷ 251 ∷ 134 ∷ 255 ∷ 202 ∷ 4 ∷ 88 ∷ 249 ∷ 48 ∷ 4 ∷ 0 ∷ 1 ∷ 65 ∷ 0 ∷ []);
+      told = Refused 12;
+    }
+    ∷
+    -- melt: 12: 05 before 02: refusal 12
+    record {
+      bytes =
+          (1 ∷ 0 ∷ 8 ∷ 0 ∷ 3 ∷ 0 ∷ 2 ∷ 0 ∷ 3 ∷ 0 ∷ 1 ∷ 5 ∷ 0 ∷ 8 ∷ 0 ∷ 1 ∷ 2 ∷ 3 ∷ 4 ∷ 5 ∷ 7 ∷ 6 ∷ 2 ∷ 0 ∷ 1 ∷ 244 ∷ 3 ∷ 0 ∷ 18 ∷ 250 ∷ 136
+          ∷ 253 ∷ 90 ∷ 0 ∷ 118 ∷ 3 ∷ 220 ∷ 7 ∷ 140 ∷ 251 ∷ 134 ∷ 255 ∷ 202 ∷ 4 ∷ 88 ∷ 249 ∷ 48 ∷ []);
+      told = Refused 12;
+    }
+    ∷
+    -- melt: 12 before 13 and 26: refusal 12
+    record {
+      bytes =
+          (1 ∷ 0 ∷ 8 ∷ 0 ∷ 2 ∷ 0 ∷ 2 ∷ 0 ∷ 201 ∷ 0 ∷ 13 ∷ 2 ∷ 0 ∷ 1 ∷ 244 ∷ 3 ∷ 0 ∷ 18 ∷ 250 ∷ 136 ∷ 253 ∷ 90 ∷ 0 ∷ 118 ∷ 3 ∷ 220 ∷ 7 ∷ 140
+          ∷ 251 ∷ 134 ∷ 255 ∷ 202 ∷ 4 ∷ 88 ∷ 249 ∷ 48 ∷ 0 ∷ []);
+      told = Refused 12;
+    }
+    ∷
+    -- melt: 13: V 2: refusal 13
+    record {
+      bytes =
+          (1 ∷ 0 ∷ 8 ∷ 0 ∷ 2 ∷ 0 ∷ 4 ∷ 0 ∷ 4 ∷ 0 ∷ 1 ∷ 2 ∷ 0 ∷ 2 ∷ 224 ∷ 208 ∷ 3 ∷ 0 ∷ 24 ∷ 250 ∷ 136 ∷ 253 ∷ 90 ∷ 0 ∷ 118 ∷ 3 ∷ 220 ∷ 7
+          ∷ 140 ∷ 251 ∷ 134 ∷ 255 ∷ 202 ∷ 4 ∷ 88 ∷ 249 ∷ 48 ∷ 254 ∷ 82 ∷ 3 ∷ 190 ∷ 249 ∷ 116 ∷ []);
+      told = Refused 13;
+    }
+    ∷
+    -- melt: 13: T 0: refusal 13
+    record {
+      bytes =
+          (1 ∷ 0 ∷ 8 ∷ 0 ∷ 4 ∷ 0 ∷ 0 ∷ 0 ∷ 4 ∷ 0 ∷ 1 ∷ 2 ∷ 0 ∷ 2 ∷ 224 ∷ 208 ∷ 3 ∷ 0 ∷ 24 ∷ 250 ∷ 136 ∷ 253 ∷ 90 ∷ 0 ∷ 118 ∷ 3 ∷ 220 ∷ 7
+          ∷ 140 ∷ 251 ∷ 134 ∷ 255 ∷ 202 ∷ 4 ∷ 88 ∷ 249 ∷ 48 ∷ 254 ∷ 82 ∷ 3 ∷ 190 ∷ 249 ∷ 116 ∷ []);
+      told = Refused 13;
+    }
+    ∷
+    -- melt: 13: no loops: refusal 13
+    record {
+      bytes =
+          (1 ∷ 0 ∷ 8 ∷ 0 ∷ 4 ∷ 0 ∷ 4 ∷ 0 ∷ 4 ∷ 0 ∷ 0 ∷ 2 ∷ 0 ∷ 2 ∷ 224 ∷ 208 ∷ 3 ∷ 0 ∷ 24 ∷ 250 ∷ 136 ∷ 253 ∷ 90 ∷ 0 ∷ 118 ∷ 3 ∷ 220 ∷ 7
+          ∷ 140 ∷ 251 ∷ 134 ∷ 255 ∷ 202 ∷ 4 ∷ 88 ∷ 249 ∷ 48 ∷ 254 ∷ 82 ∷ 3 ∷ 190 ∷ 249 ∷ 116 ∷ []);
+      told = Refused 13;
+    }
+    ∷
+    -- melt: 13 before 26: 1,025 places: refusal 13
+    record {
+      bytes =
+          (1 ∷ 0 ∷ 8 ∷ 0 ∷ 4 ∷ 0 ∷ 4 ∷ 4 ∷ 1 ∷ 0 ∷ 1 ∷ 2 ∷ 0 ∷ 2 ∷ 224 ∷ 208 ∷ 3 ∷ 0 ∷ 24 ∷ 250 ∷ 136 ∷ 253 ∷ 90 ∷ 0 ∷ 118 ∷ 3 ∷ 220 ∷ 7
+          ∷ 140 ∷ 251 ∷ 134 ∷ 255 ∷ 202 ∷ 4 ∷ 88 ∷ 249 ∷ 48 ∷ 254 ∷ 82 ∷ 3 ∷ 190 ∷ 249 ∷ 116 ∷ []);
+      told = Refused 13;
+    }
+    ∷
+    -- melt: 13 before 26: 101 loops: refusal 13
+    record {
+      bytes =
+          (1 ∷ 0 ∷ 8 ∷ 0 ∷ 4 ∷ 0 ∷ 4 ∷ 0 ∷ 4 ∷ 0 ∷ 101 ∷ 2 ∷ 0 ∷ 2 ∷ 224 ∷ 208 ∷ 3 ∷ 0 ∷ 24 ∷ 250 ∷ 136 ∷ 253 ∷ 90 ∷ 0 ∷ 118 ∷ 3 ∷ 220 ∷ 7
+          ∷ 140 ∷ 251 ∷ 134 ∷ 255 ∷ 202 ∷ 4 ∷ 88 ∷ 249 ∷ 48 ∷ 254 ∷ 82 ∷ 3 ∷ 190 ∷ 249 ∷ 116 ∷ []);
+      told = Refused 13;
+    }
+    ∷
+    -- melt: 13 before 26: V 4,097 and 201 places: refusal 13
+    record {
+      bytes =
+          (1 ∷ 0 ∷ 8 ∷ 16 ∷ 1 ∷ 0 ∷ 4 ∷ 0 ∷ 201 ∷ 0 ∷ 1 ∷ 2 ∷ 0 ∷ 2 ∷ 224 ∷ 208 ∷ 3 ∷ 0 ∷ 24 ∷ 250 ∷ 136 ∷ 253 ∷ 90 ∷ 0 ∷ 118 ∷ 3 ∷ 220 ∷ 7
+          ∷ 140 ∷ 251 ∷ 134 ∷ 255 ∷ 202 ∷ 4 ∷ 88 ∷ 249 ∷ 48 ∷ 254 ∷ 82 ∷ 3 ∷ 190 ∷ 249 ∷ 116 ∷ []);
+      told = Refused 13;
+    }
+    ∷
+    -- melt: 13 before 26: no loops and 201 places: refusal 13
+    record {
+      bytes =
+          (1 ∷ 0 ∷ 8 ∷ 0 ∷ 4 ∷ 0 ∷ 4 ∷ 0 ∷ 201 ∷ 0 ∷ 0 ∷ 2 ∷ 0 ∷ 2 ∷ 224 ∷ 208 ∷ 3 ∷ 0 ∷ 24 ∷ 250 ∷ 136 ∷ 253 ∷ 90 ∷ 0 ∷ 118 ∷ 3 ∷ 220 ∷ 7
+          ∷ 140 ∷ 251 ∷ 134 ∷ 255 ∷ 202 ∷ 4 ∷ 88 ∷ 249 ∷ 48 ∷ 254 ∷ 82 ∷ 3 ∷ 190 ∷ 249 ∷ 116 ∷ []);
+      told = Refused 13;
+    }
+    ∷
+    -- melt: 26: 201 places and 13 loops: refusal 26
+    record {
+      bytes =
+          (1 ∷ 0 ∷ 8 ∷ 0 ∷ 4 ∷ 0 ∷ 4 ∷ 0 ∷ 201 ∷ 0 ∷ 13 ∷ 2 ∷ 0 ∷ 2 ∷ 224 ∷ 208 ∷ 3 ∷ 0 ∷ 24 ∷ 250 ∷ 136 ∷ 253 ∷ 90 ∷ 0 ∷ 118 ∷ 3 ∷ 220 ∷ 7
+          ∷ 140 ∷ 251 ∷ 134 ∷ 255 ∷ 202 ∷ 4 ∷ 88 ∷ 249 ∷ 48 ∷ 254 ∷ 82 ∷ 3 ∷ 190 ∷ 249 ∷ 116 ∷ []);
+      told = Refused 26;
+    }
+    ∷
+    -- melt: 26: 1,024 places and 100 loops: refusal 26
+    record {
+      bytes =
+          (1 ∷ 0 ∷ 8 ∷ 0 ∷ 4 ∷ 0 ∷ 4 ∷ 4 ∷ 0 ∷ 0 ∷ 100 ∷ 2 ∷ 0 ∷ 2 ∷ 224 ∷ 208 ∷ 3 ∷ 0 ∷ 24 ∷ 250 ∷ 136 ∷ 253 ∷ 90 ∷ 0 ∷ 118 ∷ 3 ∷ 220 ∷ 7
+          ∷ 140 ∷ 251 ∷ 134 ∷ 255 ∷ 202 ∷ 4 ∷ 88 ∷ 249 ∷ 48 ∷ 254 ∷ 82 ∷ 3 ∷ 190 ∷ 249 ∷ 116 ∷ []);
+      told = Refused 26;
+    }
+    ∷
+    -- melt: 26 before 15: 201 places: refusal 26
+    record {
+      bytes =
+          (1 ∷ 0 ∷ 8 ∷ 0 ∷ 4 ∷ 0 ∷ 4 ∷ 0 ∷ 201 ∷ 0 ∷ 1 ∷ 2 ∷ 0 ∷ 0 ∷ 3 ∷ 0 ∷ 24 ∷ 250 ∷ 136 ∷ 253 ∷ 90 ∷ 0 ∷ 118 ∷ 3 ∷ 220 ∷ 7 ∷ 140 ∷ 251
+          ∷ 134 ∷ 255 ∷ 202 ∷ 4 ∷ 88 ∷ 249 ∷ 48 ∷ 254 ∷ 82 ∷ 3 ∷ 190 ∷ 249 ∷ 116 ∷ []);
+      told = Refused 26;
+    }
+    ∷
+    -- melt: 26 before 15: 13 loops: refusal 26
+    record {
+      bytes =
+          (1 ∷ 0 ∷ 8 ∷ 0 ∷ 4 ∷ 0 ∷ 4 ∷ 0 ∷ 4 ∷ 0 ∷ 13 ∷ 2 ∷ 0 ∷ 0 ∷ 3 ∷ 0 ∷ 24 ∷ 250 ∷ 136 ∷ 253 ∷ 90 ∷ 0 ∷ 118 ∷ 3 ∷ 220 ∷ 7 ∷ 140 ∷ 251
+          ∷ 134 ∷ 255 ∷ 202 ∷ 4 ∷ 88 ∷ 249 ∷ 48 ∷ 254 ∷ 82 ∷ 3 ∷ 190 ∷ 249 ∷ 116 ∷ []);
+      told = Refused 26;
+    }
+    ∷
+    -- melt: 26 before 16: refusal 26
+    record {
+      bytes =
+          (1 ∷ 0 ∷ 8 ∷ 0 ∷ 4 ∷ 0 ∷ 4 ∷ 0 ∷ 201 ∷ 0 ∷ 1 ∷ 2 ∷ 0 ∷ 1 ∷ 228 ∷ 3 ∷ 0 ∷ 24 ∷ 250 ∷ 136 ∷ 253 ∷ 90 ∷ 0 ∷ 118 ∷ 3 ∷ 220 ∷ 7 ∷ 140
+          ∷ 251 ∷ 134 ∷ 255 ∷ 202 ∷ 4 ∷ 88 ∷ 249 ∷ 48 ∷ 254 ∷ 82 ∷ 3 ∷ 190 ∷ 249 ∷ 116 ∷ []);
+      told = Refused 26;
+    }
+    ∷
+    -- melt: 26 before 17: refusal 26
+    record {
+      bytes =
+          (1 ∷ 0 ∷ 8 ∷ 0 ∷ 3 ∷ 0 ∷ 4 ∷ 0 ∷ 4 ∷ 0 ∷ 13 ∷ 2 ∷ 0 ∷ 2 ∷ 224 ∷ 208 ∷ 3 ∷ 0 ∷ 24 ∷ 250 ∷ 136 ∷ 253 ∷ 90 ∷ 0 ∷ 118 ∷ 3 ∷ 220 ∷ 7
+          ∷ 140 ∷ 251 ∷ 134 ∷ 255 ∷ 202 ∷ 4 ∷ 88 ∷ 249 ∷ 48 ∷ 254 ∷ 82 ∷ 3 ∷ 190 ∷ 249 ∷ 116 ∷ []);
+      told = Refused 26;
+    }
+    ∷
+    -- melt: 26 before 19: 201 places: refusal 26
+    record {
+      bytes =
+          (1 ∷ 0 ∷ 8 ∷ 0 ∷ 4 ∷ 0 ∷ 4 ∷ 0 ∷ 201 ∷ 0 ∷ 1 ∷ 2 ∷ 0 ∷ 2 ∷ 224 ∷ 208 ∷ 3 ∷ 0 ∷ 24 ∷ 250 ∷ 136 ∷ 253 ∷ 90 ∷ 0 ∷ 118 ∷ 3 ∷ 220 ∷ 7
+          ∷ 140 ∷ 251 ∷ 134 ∷ 255 ∷ 202 ∷ 4 ∷ 88 ∷ 249 ∷ 48 ∷ 254 ∷ 82 ∷ 3 ∷ 190 ∷ 249 ∷ 116 ∷ []);
+      told = Refused 26;
+    }
+    ∷
+    -- melt: 26 before 19: 13 loops: refusal 26
+    record {
+      bytes =
+          (1 ∷ 0 ∷ 8 ∷ 0 ∷ 4 ∷ 0 ∷ 4 ∷ 0 ∷ 4 ∷ 0 ∷ 13 ∷ 2 ∷ 0 ∷ 2 ∷ 224 ∷ 208 ∷ 3 ∷ 0 ∷ 24 ∷ 250 ∷ 136 ∷ 253 ∷ 90 ∷ 0 ∷ 118 ∷ 3 ∷ 220 ∷ 7
+          ∷ 140 ∷ 251 ∷ 134 ∷ 255 ∷ 202 ∷ 4 ∷ 88 ∷ 249 ∷ 48 ∷ 254 ∷ 82 ∷ 3 ∷ 190 ∷ 249 ∷ 116 ∷ []);
+      told = Refused 26;
+    }
+    ∷
+    -- melt: 200 places and 12 loops pass 26: refusal 15
+    record {
+      bytes =
+          (1 ∷ 0 ∷ 8 ∷ 0 ∷ 4 ∷ 0 ∷ 4 ∷ 0 ∷ 200 ∷ 0 ∷ 12 ∷ 2 ∷ 0 ∷ 0 ∷ 3 ∷ 0 ∷ 24 ∷ 250 ∷ 136 ∷ 253 ∷ 90 ∷ 0 ∷ 118 ∷ 3 ∷ 220 ∷ 7 ∷ 140 ∷ 251
+          ∷ 134 ∷ 255 ∷ 202 ∷ 4 ∷ 88 ∷ 249 ∷ 48 ∷ 254 ∷ 82 ∷ 3 ∷ 190 ∷ 249 ∷ 116 ∷ []);
+      told = Refused 15;
+    }
+    ∷
+    -- melt: 200 places pass 26: refusal 19
+    record {
+      bytes =
+          (1 ∷ 0 ∷ 8 ∷ 0 ∷ 4 ∷ 0 ∷ 4 ∷ 0 ∷ 200 ∷ 0 ∷ 1 ∷ 2 ∷ 0 ∷ 2 ∷ 224 ∷ 208 ∷ 3 ∷ 0 ∷ 24 ∷ 250 ∷ 136 ∷ 253 ∷ 90 ∷ 0 ∷ 118 ∷ 3 ∷ 220 ∷ 7
+          ∷ 140 ∷ 251 ∷ 134 ∷ 255 ∷ 202 ∷ 4 ∷ 88 ∷ 249 ∷ 48 ∷ 254 ∷ 82 ∷ 3 ∷ 190 ∷ 249 ∷ 116 ∷ []);
+      told = Refused 19;
+    }
+    ∷
+    -- melt: 12 loops pass 26: refusal 19
+    record {
+      bytes =
+          (1 ∷ 0 ∷ 8 ∷ 0 ∷ 4 ∷ 0 ∷ 4 ∷ 0 ∷ 4 ∷ 0 ∷ 12 ∷ 2 ∷ 0 ∷ 2 ∷ 224 ∷ 208 ∷ 3 ∷ 0 ∷ 24 ∷ 250 ∷ 136 ∷ 253 ∷ 90 ∷ 0 ∷ 118 ∷ 3 ∷ 220 ∷ 7
+          ∷ 140 ∷ 251 ∷ 134 ∷ 255 ∷ 202 ∷ 4 ∷ 88 ∷ 249 ∷ 48 ∷ 254 ∷ 82 ∷ 3 ∷ 190 ∷ 249 ∷ 116 ∷ []);
+      told = Refused 19;
+    }
+    ∷
+    -- melt: 15: no operations: refusal 15
+    record {
+      bytes =
+          (1 ∷ 0 ∷ 8 ∷ 0 ∷ 4 ∷ 0 ∷ 4 ∷ 0 ∷ 4 ∷ 0 ∷ 1 ∷ 2 ∷ 0 ∷ 0 ∷ 3 ∷ 0 ∷ 24 ∷ 250 ∷ 136 ∷ 253 ∷ 90 ∷ 0 ∷ 118 ∷ 3 ∷ 220 ∷ 7 ∷ 140 ∷ 251
+          ∷ 134 ∷ 255 ∷ 202 ∷ 4 ∷ 88 ∷ 249 ∷ 48 ∷ 254 ∷ 82 ∷ 3 ∷ 190 ∷ 249 ∷ 116 ∷ []);
+      told = Refused 15;
+    }
+    ∷
+    -- melt: 15: T triangles and a live loop: refusal 15
+    record {
+      bytes =
+          (1 ∷ 0 ∷ 8 ∷ 0 ∷ 3 ∷ 0 ∷ 1 ∷ 0 ∷ 3 ∷ 0 ∷ 1 ∷ 2 ∷ 0 ∷ 1 ∷ 236 ∷ 3 ∷ 0 ∷ 24 ∷ 250 ∷ 136 ∷ 253 ∷ 90 ∷ 0 ∷ 118 ∷ 3 ∷ 220 ∷ 7 ∷ 140
+          ∷ 251 ∷ 134 ∷ 255 ∷ 202 ∷ 4 ∷ 88 ∷ 249 ∷ 48 ∷ 254 ∷ 82 ∷ 3 ∷ 190 ∷ 249 ∷ 116 ∷ []);
+      told = Refused 15;
+    }
+    ∷
+    -- melt: 15: a split breaks off inside i: refusal 15
+    record {
+      bytes =
+          (1 ∷ 0 ∷ 8 ∷ 0 ∷ 4 ∷ 0 ∷ 4 ∷ 0 ∷ 4 ∷ 0 ∷ 1 ∷ 2 ∷ 0 ∷ 2 ∷ 226 ∷ 0 ∷ 3 ∷ 0 ∷ 24 ∷ 250 ∷ 136 ∷ 253 ∷ 90 ∷ 0 ∷ 118 ∷ 3 ∷ 220 ∷ 7 ∷ 140
+          ∷ 251 ∷ 134 ∷ 255 ∷ 202 ∷ 4 ∷ 88 ∷ 249 ∷ 48 ∷ 254 ∷ 82 ∷ 3 ∷ 190 ∷ 249 ∷ 116 ∷ []);
+      told = Refused 15;
+    }
+    ∷
+    -- melt: 16: new without a live loop: refusal 16
+    record {
+      bytes =
+          (1 ∷ 0 ∷ 8 ∷ 0 ∷ 4 ∷ 0 ∷ 4 ∷ 0 ∷ 4 ∷ 0 ∷ 1 ∷ 2 ∷ 0 ∷ 1 ∷ 0 ∷ 3 ∷ 0 ∷ 24 ∷ 250 ∷ 136 ∷ 253 ∷ 90 ∷ 0 ∷ 118 ∷ 3 ∷ 220 ∷ 7 ∷ 140 ∷ 251
+          ∷ 134 ∷ 255 ∷ 202 ∷ 4 ∷ 88 ∷ 249 ∷ 48 ∷ 254 ∷ 82 ∷ 3 ∷ 190 ∷ 249 ∷ 116 ∷ []);
+      told = Refused 16;
+    }
+    ∷
+    -- melt: 16: start in a live loop: refusal 16
+    record {
+      bytes =
+          (1 ∷ 0 ∷ 8 ∷ 0 ∷ 6 ∷ 0 ∷ 4 ∷ 0 ∷ 6 ∷ 0 ∷ 2 ∷ 2 ∷ 0 ∷ 1 ∷ 252 ∷ 3 ∷ 0 ∷ 24 ∷ 250 ∷ 136 ∷ 253 ∷ 90 ∷ 0 ∷ 118 ∷ 3 ∷ 220 ∷ 7 ∷ 140
+          ∷ 251 ∷ 134 ∷ 255 ∷ 202 ∷ 4 ∷ 88 ∷ 249 ∷ 48 ∷ 254 ∷ 82 ∷ 3 ∷ 190 ∷ 249 ∷ 116 ∷ []);
+      told = Refused 16;
+    }
+    ∷
+    -- melt: 16: forward in a loop of three: refusal 16
+    record {
+      bytes =
+          (1 ∷ 0 ∷ 8 ∷ 0 ∷ 4 ∷ 0 ∷ 4 ∷ 0 ∷ 4 ∷ 0 ∷ 1 ∷ 2 ∷ 0 ∷ 1 ∷ 228 ∷ 3 ∷ 0 ∷ 24 ∷ 250 ∷ 136 ∷ 253 ∷ 90 ∷ 0 ∷ 118 ∷ 3 ∷ 220 ∷ 7 ∷ 140
+          ∷ 251 ∷ 134 ∷ 255 ∷ 202 ∷ 4 ∷ 88 ∷ 249 ∷ 48 ∷ 254 ∷ 82 ∷ 3 ∷ 190 ∷ 249 ∷ 116 ∷ []);
+      told = Refused 16;
+    }
+    ∷
+    -- melt: 16 before 17: forward in a loop of three: refusal 16
+    record {
+      bytes =
+          (1 ∷ 0 ∷ 8 ∷ 0 ∷ 3 ∷ 0 ∷ 1 ∷ 0 ∷ 3 ∷ 0 ∷ 1 ∷ 2 ∷ 0 ∷ 1 ∷ 228 ∷ 3 ∷ 0 ∷ 24 ∷ 250 ∷ 136 ∷ 253 ∷ 90 ∷ 0 ∷ 118 ∷ 3 ∷ 220 ∷ 7 ∷ 140
+          ∷ 251 ∷ 134 ∷ 255 ∷ 202 ∷ 4 ∷ 88 ∷ 249 ∷ 48 ∷ 254 ∷ 82 ∷ 3 ∷ 190 ∷ 249 ∷ 116 ∷ []);
+      told = Refused 16;
+    }
+    ∷
+    -- melt: 17: a vertex too many, then no operation: refusal 17
+    record {
+      bytes =
+          (1 ∷ 0 ∷ 8 ∷ 0 ∷ 3 ∷ 0 ∷ 4 ∷ 0 ∷ 4 ∷ 0 ∷ 1 ∷ 2 ∷ 0 ∷ 1 ∷ 224 ∷ 3 ∷ 0 ∷ 24 ∷ 250 ∷ 136 ∷ 253 ∷ 90 ∷ 0 ∷ 118 ∷ 3 ∷ 220 ∷ 7 ∷ 140
+          ∷ 251 ∷ 134 ∷ 255 ∷ 202 ∷ 4 ∷ 88 ∷ 249 ∷ 48 ∷ 254 ∷ 82 ∷ 3 ∷ 190 ∷ 249 ∷ 116 ∷ []);
+      told = Refused 17;
+    }
+    ∷
+    -- melt: 17: a triangle too many, then no operation: refusal 17
+    record {
+      bytes =
+          (1 ∷ 0 ∷ 8 ∷ 0 ∷ 4 ∷ 0 ∷ 1 ∷ 0 ∷ 4 ∷ 0 ∷ 1 ∷ 2 ∷ 0 ∷ 1 ∷ 224 ∷ 3 ∷ 0 ∷ 24 ∷ 250 ∷ 136 ∷ 253 ∷ 90 ∷ 0 ∷ 118 ∷ 3 ∷ 220 ∷ 7 ∷ 140
+          ∷ 251 ∷ 134 ∷ 255 ∷ 202 ∷ 4 ∷ 88 ∷ 249 ∷ 48 ∷ 254 ∷ 82 ∷ 3 ∷ 190 ∷ 249 ∷ 116 ∷ []);
+      told = Refused 17;
+    }
+    ∷
+    -- melt: 17: a place too many, then no operation: refusal 17
+    record {
+      bytes =
+          (1 ∷ 0 ∷ 8 ∷ 0 ∷ 4 ∷ 0 ∷ 4 ∷ 0 ∷ 3 ∷ 0 ∷ 1 ∷ 2 ∷ 0 ∷ 1 ∷ 224 ∷ 3 ∷ 0 ∷ 24 ∷ 250 ∷ 136 ∷ 253 ∷ 90 ∷ 0 ∷ 118 ∷ 3 ∷ 220 ∷ 7 ∷ 140
+          ∷ 251 ∷ 134 ∷ 255 ∷ 202 ∷ 4 ∷ 88 ∷ 249 ∷ 48 ∷ 254 ∷ 82 ∷ 3 ∷ 190 ∷ 249 ∷ 116 ∷ []);
+      told = Refused 17;
+    }
+    ∷
+    -- melt: 17: a loop too many, then no operation: refusal 17
+    record {
+      bytes =
+          (1 ∷ 0 ∷ 8 ∷ 0 ∷ 5 ∷ 0 ∷ 9 ∷ 0 ∷ 9 ∷ 0 ∷ 1 ∷ 2 ∷ 0 ∷ 3 ∷ 224 ∷ 64 ∷ 8 ∷ 3 ∷ 0 ∷ 24 ∷ 250 ∷ 136 ∷ 253 ∷ 90 ∷ 0 ∷ 118 ∷ 3 ∷ 220 ∷ 7
+          ∷ 140 ∷ 251 ∷ 134 ∷ 255 ∷ 202 ∷ 4 ∷ 88 ∷ 249 ∷ 48 ∷ 254 ∷ 82 ∷ 3 ∷ 190 ∷ 249 ∷ 116 ∷ []);
+      told = Refused 17;
+    }
+    ∷
+    -- melt: 19: V 5: refusal 19
+    record {
+      bytes =
+          (1 ∷ 0 ∷ 8 ∷ 0 ∷ 5 ∷ 0 ∷ 4 ∷ 0 ∷ 4 ∷ 0 ∷ 1 ∷ 2 ∷ 0 ∷ 2 ∷ 224 ∷ 208 ∷ 3 ∷ 0 ∷ 24 ∷ 250 ∷ 136 ∷ 253 ∷ 90 ∷ 0 ∷ 118 ∷ 3 ∷ 220 ∷ 7
+          ∷ 140 ∷ 251 ∷ 134 ∷ 255 ∷ 202 ∷ 4 ∷ 88 ∷ 249 ∷ 48 ∷ 254 ∷ 82 ∷ 3 ∷ 190 ∷ 249 ∷ 116 ∷ []);
+      told = Refused 19;
+    }
+    ∷
+    -- melt: 19: five places: refusal 19
+    record {
+      bytes =
+          (1 ∷ 0 ∷ 8 ∷ 0 ∷ 4 ∷ 0 ∷ 4 ∷ 0 ∷ 5 ∷ 0 ∷ 1 ∷ 2 ∷ 0 ∷ 2 ∷ 224 ∷ 208 ∷ 3 ∷ 0 ∷ 24 ∷ 250 ∷ 136 ∷ 253 ∷ 90 ∷ 0 ∷ 118 ∷ 3 ∷ 220 ∷ 7
+          ∷ 140 ∷ 251 ∷ 134 ∷ 255 ∷ 202 ∷ 4 ∷ 88 ∷ 249 ∷ 48 ∷ 254 ∷ 82 ∷ 3 ∷ 190 ∷ 249 ∷ 116 ∷ []);
+      told = Refused 19;
+    }
+    ∷
+    -- melt: 19: two loops: refusal 19
+    record {
+      bytes =
+          (1 ∷ 0 ∷ 8 ∷ 0 ∷ 4 ∷ 0 ∷ 4 ∷ 0 ∷ 4 ∷ 0 ∷ 2 ∷ 2 ∷ 0 ∷ 2 ∷ 224 ∷ 208 ∷ 3 ∷ 0 ∷ 24 ∷ 250 ∷ 136 ∷ 253 ∷ 90 ∷ 0 ∷ 118 ∷ 3 ∷ 220 ∷ 7
+          ∷ 140 ∷ 251 ∷ 134 ∷ 255 ∷ 202 ∷ 4 ∷ 88 ∷ 249 ∷ 48 ∷ 254 ∷ 82 ∷ 3 ∷ 190 ∷ 249 ∷ 116 ∷ []);
+      told = Refused 19;
+    }
+    ∷
+    -- melt: 19: a byte left over: refusal 19
+    record {
+      bytes =
+          (1 ∷ 0 ∷ 8 ∷ 0 ∷ 4 ∷ 0 ∷ 4 ∷ 0 ∷ 4 ∷ 0 ∷ 1 ∷ 2 ∷ 0 ∷ 3 ∷ 224 ∷ 208 ∷ 0 ∷ 3 ∷ 0 ∷ 24 ∷ 250 ∷ 136 ∷ 253 ∷ 90 ∷ 0 ∷ 118 ∷ 3 ∷ 220 ∷ 7
+          ∷ 140 ∷ 251 ∷ 134 ∷ 255 ∷ 202 ∷ 4 ∷ 88 ∷ 249 ∷ 48 ∷ 254 ∷ 82 ∷ 3 ∷ 190 ∷ 249 ∷ 116 ∷ []);
+      told = Refused 19;
+    }
+    ∷
+    -- melt: 19: the first fill bit: refusal 19
+    record {
+      bytes =
+          (1 ∷ 0 ∷ 8 ∷ 0 ∷ 4 ∷ 0 ∷ 4 ∷ 0 ∷ 4 ∷ 0 ∷ 1 ∷ 2 ∷ 0 ∷ 2 ∷ 224 ∷ 216 ∷ 3 ∷ 0 ∷ 24 ∷ 250 ∷ 136 ∷ 253 ∷ 90 ∷ 0 ∷ 118 ∷ 3 ∷ 220 ∷ 7
+          ∷ 140 ∷ 251 ∷ 134 ∷ 255 ∷ 202 ∷ 4 ∷ 88 ∷ 249 ∷ 48 ∷ 254 ∷ 82 ∷ 3 ∷ 190 ∷ 249 ∷ 116 ∷ []);
+      told = Refused 19;
+    }
+    ∷
+    -- melt: 19: the last fill bit: refusal 19
+    record {
+      bytes =
+          (1 ∷ 0 ∷ 8 ∷ 0 ∷ 4 ∷ 0 ∷ 4 ∷ 0 ∷ 4 ∷ 0 ∷ 1 ∷ 2 ∷ 0 ∷ 2 ∷ 224 ∷ 209 ∷ 3 ∷ 0 ∷ 24 ∷ 250 ∷ 136 ∷ 253 ∷ 90 ∷ 0 ∷ 118 ∷ 3 ∷ 220 ∷ 7
+          ∷ 140 ∷ 251 ∷ 134 ∷ 255 ∷ 202 ∷ 4 ∷ 88 ∷ 249 ∷ 48 ∷ 254 ∷ 82 ∷ 3 ∷ 190 ∷ 249 ∷ 116 ∷ []);
+      told = Refused 19;
+    }
+    ∷
+    -- melt: 23: no byte: refusal 23
+    record { bytes = (1 ∷ 0 ∷ 8 ∷ 0 ∷ 4 ∷ 0 ∷ 4 ∷ 0 ∷ 4 ∷ 0 ∷ 1 ∷ 2 ∷ 0 ∷ 2 ∷ 224 ∷ 208 ∷ 3 ∷ 0 ∷ 0 ∷ []); told = Refused 23 }
+    ∷
+    -- melt: 23: a vertex less: refusal 23
+    record {
+      bytes =
+          (1 ∷ 0 ∷ 8 ∷ 0 ∷ 4 ∷ 0 ∷ 4 ∷ 0 ∷ 4 ∷ 0 ∷ 1 ∷ 2 ∷ 0 ∷ 2 ∷ 224 ∷ 208 ∷ 3 ∷ 0 ∷ 18 ∷ 250 ∷ 136 ∷ 253 ∷ 90 ∷ 0 ∷ 118 ∷ 3 ∷ 220 ∷ 7
+          ∷ 140 ∷ 251 ∷ 134 ∷ 255 ∷ 202 ∷ 4 ∷ 88 ∷ 249 ∷ 48 ∷ []);
+      told = Refused 23;
+    }
+    ∷
+    -- melt: 23: a vertex more: refusal 23
+    record {
+      bytes =
+          (1 ∷ 0 ∷ 8 ∷ 0 ∷ 4 ∷ 0 ∷ 4 ∷ 0 ∷ 4 ∷ 0 ∷ 1 ∷ 2 ∷ 0 ∷ 2 ∷ 224 ∷ 208 ∷ 3 ∷ 0 ∷ 30 ∷ 250 ∷ 136 ∷ 253 ∷ 90 ∷ 0 ∷ 118 ∷ 3 ∷ 220 ∷ 7
+          ∷ 140 ∷ 251 ∷ 134 ∷ 255 ∷ 202 ∷ 4 ∷ 88 ∷ 249 ∷ 48 ∷ 254 ∷ 82 ∷ 3 ∷ 190 ∷ 249 ∷ 116 ∷ 255 ∷ 116 ∷ 5 ∷ 190 ∷ 252 ∷ 82 ∷ []);
+      told = Refused 23;
+    }
+    ∷
+    -- melt: 23: a byte less: refusal 23
+    record {
+      bytes =
+          (1 ∷ 0 ∷ 8 ∷ 0 ∷ 4 ∷ 0 ∷ 4 ∷ 0 ∷ 4 ∷ 0 ∷ 1 ∷ 2 ∷ 0 ∷ 2 ∷ 224 ∷ 208 ∷ 3 ∷ 0 ∷ 23 ∷ 250 ∷ 136 ∷ 253 ∷ 90 ∷ 0 ∷ 118 ∷ 3 ∷ 220 ∷ 7
+          ∷ 140 ∷ 251 ∷ 134 ∷ 255 ∷ 202 ∷ 4 ∷ 88 ∷ 249 ∷ 48 ∷ 254 ∷ 82 ∷ 3 ∷ 190 ∷ 249 ∷ []);
+      told = Refused 23;
+    }
+    ∷
+    -- melt: 23: position 0 is 2,048: refusal 23
+    record {
+      bytes =
+          (1 ∷ 0 ∷ 8 ∷ 0 ∷ 4 ∷ 0 ∷ 4 ∷ 0 ∷ 4 ∷ 0 ∷ 1 ∷ 2 ∷ 0 ∷ 2 ∷ 224 ∷ 208 ∷ 3 ∷ 0 ∷ 24 ∷ 8 ∷ 0 ∷ 253 ∷ 90 ∷ 0 ∷ 118 ∷ 3 ∷ 220 ∷ 7 ∷ 140
+          ∷ 251 ∷ 134 ∷ 255 ∷ 202 ∷ 4 ∷ 88 ∷ 249 ∷ 48 ∷ 254 ∷ 82 ∷ 3 ∷ 190 ∷ 249 ∷ 116 ∷ []);
+      told = Refused 23;
+    }
+    ∷
+    -- melt: 23: position 11 is -2,049: refusal 23
+    record {
+      bytes =
+          (1 ∷ 0 ∷ 8 ∷ 0 ∷ 4 ∷ 0 ∷ 4 ∷ 0 ∷ 4 ∷ 0 ∷ 1 ∷ 2 ∷ 0 ∷ 2 ∷ 224 ∷ 208 ∷ 3 ∷ 0 ∷ 24 ∷ 250 ∷ 136 ∷ 253 ∷ 90 ∷ 0 ∷ 118 ∷ 3 ∷ 220 ∷ 7
+          ∷ 140 ∷ 251 ∷ 134 ∷ 255 ∷ 202 ∷ 4 ∷ 88 ∷ 249 ∷ 48 ∷ 254 ∷ 82 ∷ 3 ∷ 190 ∷ 247 ∷ 255 ∷ []);
+      told = Refused 23;
+    }
+    ∷
+    -- melt: 25: no byte: refusal 25
+    record {
+      bytes =
+          (1 ∷ 0 ∷ 8 ∷ 0 ∷ 4 ∷ 0 ∷ 4 ∷ 0 ∷ 4 ∷ 0 ∷ 1 ∷ 2 ∷ 0 ∷ 2 ∷ 224 ∷ 208 ∷ 3 ∷ 0 ∷ 24 ∷ 250 ∷ 136 ∷ 253 ∷ 90 ∷ 0 ∷ 118 ∷ 3 ∷ 220 ∷ 7
+          ∷ 140 ∷ 251 ∷ 134 ∷ 255 ∷ 202 ∷ 4 ∷ 88 ∷ 249 ∷ 48 ∷ 254 ∷ 82 ∷ 3 ∷ 190 ∷ 249 ∷ 116 ∷ 4 ∷ 0 ∷ 0 ∷ []);
+      told = Refused 25;
+    }
+    ∷
+    -- melt: 25: 65 bytes: refusal 25
+    record {
+      bytes =
+          ((1 ∷ 0 ∷ 8 ∷ 0 ∷ 4 ∷ 0 ∷ 4 ∷ 0 ∷ 4 ∷ 0 ∷ 1 ∷ 2 ∷ 0 ∷ 2 ∷ 224 ∷ 208 ∷ 3 ∷ 0 ∷ 24 ∷ 250 ∷ 136 ∷ 253 ∷ 90 ∷ 0 ∷ 118 ∷ 3 ∷ 220 ∷ 7
+          ∷ 140 ∷ 251 ∷ 134 ∷ 255 ∷ 202 ∷ 4 ∷ 88 ∷ 249 ∷ 48 ∷ 254 ∷ 82 ∷ 3 ∷ 190 ∷ 249 ∷ 116 ∷ 4 ∷ 0 ∷ 65 ∷ []) ++ replicate 65 4);
+      told = Refused 25;
+    }
+    ∷
+    -- melt: 24: no positions: refusal 24
+    record { bytes = (1 ∷ 0 ∷ 8 ∷ 0 ∷ 4 ∷ 0 ∷ 4 ∷ 0 ∷ 4 ∷ 0 ∷ 1 ∷ 2 ∷ 0 ∷ 2 ∷ 224 ∷ 208 ∷ []); told = Refused 24 }
+    ∷
+    -- melt: 24: no positions, a note: refusal 24
+    record { bytes = (1 ∷ 0 ∷ 8 ∷ 0 ∷ 4 ∷ 0 ∷ 4 ∷ 0 ∷ 4 ∷ 0 ∷ 1 ∷ 2 ∷ 0 ∷ 2 ∷ 224 ∷ 208 ∷ 4 ∷ 0 ∷ 1 ∷ 65 ∷ []); told = Refused 24 }
+    ∷
+    -- melt: 24: a rim: refusal 24
+    record {
+      bytes =
+          (1 ∷ 0 ∷ 8 ∷ 0 ∷ 3 ∷ 0 ∷ 1 ∷ 0 ∷ 3 ∷ 0 ∷ 1 ∷ 2 ∷ 0 ∷ 2 ∷ 237 ∷ 176 ∷ 3 ∷ 0 ∷ 18 ∷ 250 ∷ 136 ∷ 253 ∷ 90 ∷ 0 ∷ 118 ∷ 3 ∷ 220 ∷ 7
+          ∷ 140 ∷ 251 ∷ 134 ∷ 255 ∷ 202 ∷ 4 ∷ 88 ∷ 249 ∷ 48 ∷ []);
+      told = Refused 24;
+    }
+    ∷
+    -- melt: 24: a rim, a note: refusal 24
+    record {
+      bytes =
+          (1 ∷ 0 ∷ 8 ∷ 0 ∷ 3 ∷ 0 ∷ 1 ∷ 0 ∷ 3 ∷ 0 ∷ 1 ∷ 2 ∷ 0 ∷ 2 ∷ 237 ∷ 176 ∷ 3 ∷ 0 ∷ 18 ∷ 250 ∷ 136 ∷ 253 ∷ 90 ∷ 0 ∷ 118 ∷ 3 ∷ 220 ∷ 7
+          ∷ 140 ∷ 251 ∷ 134 ∷ 255 ∷ 202 ∷ 4 ∷ 88 ∷ 249 ∷ 48 ∷ 4 ∷ 0 ∷ 1 ∷ 65 ∷ []);
+      told = Refused 24;
+    }
+    ∷
+    -- melt: 24: a rim and no positions: refusal 24
+    record { bytes = (1 ∷ 0 ∷ 8 ∷ 0 ∷ 3 ∷ 0 ∷ 1 ∷ 0 ∷ 3 ∷ 0 ∷ 1 ∷ 2 ∷ 0 ∷ 2 ∷ 237 ∷ 176 ∷ []); told = Refused 24 }
+    ∷
+    -- melt: 24: two rims: refusal 24
+    record {
+      bytes =
+          (1 ∷ 0 ∷ 8 ∷ 0 ∷ 6 ∷ 0 ∷ 2 ∷ 0 ∷ 3 ∷ 0 ∷ 1 ∷ 2 ∷ 0 ∷ 3 ∷ 237 ∷ 190 ∷ 219 ∷ 3 ∷ 0 ∷ 36 ∷ 254 ∷ 82 ∷ 3 ∷ 190 ∷ 249 ∷ 116 ∷ 3 ∷ 48
+          ∷ 250 ∷ 88 ∷ 1 ∷ 202 ∷ 255 ∷ 116 ∷ 5 ∷ 190 ∷ 252 ∷ 82 ∷ 255 ∷ 202 ∷ 4 ∷ 88 ∷ 249 ∷ 48 ∷ 250 ∷ 136 ∷ 253 ∷ 90 ∷ 0 ∷ 118 ∷ 3 ∷ 220
+          ∷ 7 ∷ 140 ∷ 251 ∷ 134 ∷ []);
+      told = Refused 24;
+    }
+    ∷
+    -- melt: 23 before 25: refusal 23
+    record {
+      bytes = (1 ∷ 0 ∷ 8 ∷ 0 ∷ 4 ∷ 0 ∷ 4 ∷ 0 ∷ 4 ∷ 0 ∷ 1 ∷ 2 ∷ 0 ∷ 2 ∷ 224 ∷ 208 ∷ 3 ∷ 0 ∷ 2 ∷ 8 ∷ 0 ∷ 4 ∷ 0 ∷ 0 ∷ []);
+      told = Refused 23;
+    }
+    ∷
+    -- melt: 23 before 24: a rim: refusal 23
+    record { bytes = (1 ∷ 0 ∷ 8 ∷ 0 ∷ 3 ∷ 0 ∷ 1 ∷ 0 ∷ 3 ∷ 0 ∷ 1 ∷ 2 ∷ 0 ∷ 2 ∷ 237 ∷ 176 ∷ 3 ∷ 0 ∷ 2 ∷ 8 ∷ 0 ∷ []); told = Refused 23 }
+    ∷
+    -- melt: 25 before 24: no positions: refusal 25
+    record { bytes = (1 ∷ 0 ∷ 8 ∷ 0 ∷ 4 ∷ 0 ∷ 4 ∷ 0 ∷ 4 ∷ 0 ∷ 1 ∷ 2 ∷ 0 ∷ 2 ∷ 224 ∷ 208 ∷ 4 ∷ 0 ∷ 0 ∷ []); told = Refused 25 }
+    ∷
+    -- melt: 25 before 24: a rim: refusal 25
+    record {
+      bytes =
+          (1 ∷ 0 ∷ 8 ∷ 0 ∷ 3 ∷ 0 ∷ 1 ∷ 0 ∷ 3 ∷ 0 ∷ 1 ∷ 2 ∷ 0 ∷ 2 ∷ 237 ∷ 176 ∷ 3 ∷ 0 ∷ 18 ∷ 250 ∷ 136 ∷ 253 ∷ 90 ∷ 0 ∷ 118 ∷ 3 ∷ 220 ∷ 7
+          ∷ 140 ∷ 251 ∷ 134 ∷ 255 ∷ 202 ∷ 4 ∷ 88 ∷ 249 ∷ 48 ∷ 4 ∷ 0 ∷ 0 ∷ []);
+      told = Refused 25;
+    }
+    ∷
+    -- melt: 13 before 23 and 25: refusal 13
+    record {
+      bytes = (1 ∷ 0 ∷ 8 ∷ 0 ∷ 2 ∷ 0 ∷ 4 ∷ 0 ∷ 4 ∷ 0 ∷ 1 ∷ 2 ∷ 0 ∷ 2 ∷ 224 ∷ 208 ∷ 3 ∷ 0 ∷ 2 ∷ 8 ∷ 0 ∷ 4 ∷ 0 ∷ 0 ∷ []);
+      told = Refused 13;
+    }
+    ∷
+    -- melt: 13 before 24: no positions: refusal 13
+    record { bytes = (1 ∷ 0 ∷ 8 ∷ 0 ∷ 2 ∷ 0 ∷ 4 ∷ 0 ∷ 4 ∷ 0 ∷ 1 ∷ 2 ∷ 0 ∷ 2 ∷ 224 ∷ 208 ∷ []); told = Refused 13 }
+    ∷
+    -- melt: 26 before 23 and 25: refusal 26
+    record {
+      bytes = (1 ∷ 0 ∷ 8 ∷ 0 ∷ 4 ∷ 0 ∷ 4 ∷ 0 ∷ 201 ∷ 0 ∷ 1 ∷ 2 ∷ 0 ∷ 2 ∷ 224 ∷ 208 ∷ 3 ∷ 0 ∷ 2 ∷ 8 ∷ 0 ∷ 4 ∷ 0 ∷ 0 ∷ []);
+      told = Refused 26;
+    }
+    ∷
+    -- melt: 26 before 24: no positions: refusal 26
+    record { bytes = (1 ∷ 0 ∷ 8 ∷ 0 ∷ 4 ∷ 0 ∷ 4 ∷ 0 ∷ 201 ∷ 0 ∷ 1 ∷ 2 ∷ 0 ∷ 2 ∷ 224 ∷ 208 ∷ []); told = Refused 26 }
+    ∷
+    -- melt: 15 before 23 and 25: refusal 15
+    record { bytes = (1 ∷ 0 ∷ 8 ∷ 0 ∷ 5 ∷ 0 ∷ 4 ∷ 0 ∷ 4 ∷ 0 ∷ 1 ∷ 2 ∷ 0 ∷ 1 ∷ 224 ∷ 3 ∷ 0 ∷ 2 ∷ 8 ∷ 0 ∷ 4 ∷ 0 ∷ 0 ∷ []); told = Refused 15 }
+    ∷
+    -- melt: 15 before 24: no positions: refusal 15
+    record { bytes = (1 ∷ 0 ∷ 8 ∷ 0 ∷ 5 ∷ 0 ∷ 4 ∷ 0 ∷ 4 ∷ 0 ∷ 1 ∷ 2 ∷ 0 ∷ 1 ∷ 224 ∷ []); told = Refused 15 }
+    ∷
+    -- melt: 16 before 23 and 25: refusal 16
+    record { bytes = (1 ∷ 0 ∷ 8 ∷ 0 ∷ 5 ∷ 0 ∷ 4 ∷ 0 ∷ 4 ∷ 0 ∷ 1 ∷ 2 ∷ 0 ∷ 1 ∷ 228 ∷ 3 ∷ 0 ∷ 2 ∷ 8 ∷ 0 ∷ 4 ∷ 0 ∷ 0 ∷ []); told = Refused 16 }
+    ∷
+    -- melt: 16 before 24: no positions: refusal 16
+    record { bytes = (1 ∷ 0 ∷ 8 ∷ 0 ∷ 5 ∷ 0 ∷ 4 ∷ 0 ∷ 4 ∷ 0 ∷ 1 ∷ 2 ∷ 0 ∷ 1 ∷ 228 ∷ []); told = Refused 16 }
+    ∷
+    -- melt: 17 before 23 and 25: refusal 17
+    record {
+      bytes = (1 ∷ 0 ∷ 8 ∷ 0 ∷ 5 ∷ 0 ∷ 4 ∷ 0 ∷ 3 ∷ 0 ∷ 1 ∷ 2 ∷ 0 ∷ 2 ∷ 224 ∷ 208 ∷ 3 ∷ 0 ∷ 2 ∷ 8 ∷ 0 ∷ 4 ∷ 0 ∷ 0 ∷ []);
+      told = Refused 17;
+    }
+    ∷
+    -- melt: 17 before 24: no positions: refusal 17
+    record { bytes = (1 ∷ 0 ∷ 8 ∷ 0 ∷ 5 ∷ 0 ∷ 4 ∷ 0 ∷ 3 ∷ 0 ∷ 1 ∷ 2 ∷ 0 ∷ 2 ∷ 224 ∷ 208 ∷ []); told = Refused 17 }
+    ∷
+    -- melt: 19 before 23 and 25: refusal 19
+    record {
+      bytes = (1 ∷ 0 ∷ 8 ∷ 0 ∷ 5 ∷ 0 ∷ 4 ∷ 0 ∷ 4 ∷ 0 ∷ 1 ∷ 2 ∷ 0 ∷ 2 ∷ 224 ∷ 208 ∷ 3 ∷ 0 ∷ 2 ∷ 8 ∷ 0 ∷ 4 ∷ 0 ∷ 0 ∷ []);
+      told = Refused 19;
+    }
+    ∷
+    -- melt: 19 before 24: no positions: refusal 19
+    record { bytes = (1 ∷ 0 ∷ 8 ∷ 0 ∷ 5 ∷ 0 ∷ 4 ∷ 0 ∷ 4 ∷ 0 ∷ 1 ∷ 2 ∷ 0 ∷ 2 ∷ 224 ∷ 208 ∷ []); told = Refused 19 }
+    ∷
+    -- melt: 15 before 24: a rim: refusal 15
+    record {
+      bytes =
+          (1 ∷ 0 ∷ 8 ∷ 0 ∷ 9 ∷ 0 ∷ 9 ∷ 0 ∷ 9 ∷ 0 ∷ 1 ∷ 2 ∷ 0 ∷ 3 ∷ 237 ∷ 190 ∷ 0 ∷ 3 ∷ 0 ∷ 54 ∷ 250 ∷ 136 ∷ 253 ∷ 90 ∷ 0 ∷ 118 ∷ 3 ∷ 220 ∷ 7
+          ∷ 140 ∷ 251 ∷ 134 ∷ 255 ∷ 202 ∷ 4 ∷ 88 ∷ 249 ∷ 48 ∷ 254 ∷ 82 ∷ 3 ∷ 190 ∷ 249 ∷ 116 ∷ 255 ∷ 116 ∷ 5 ∷ 190 ∷ 252 ∷ 82 ∷ 3 ∷ 48 ∷ 250
+          ∷ 88 ∷ 1 ∷ 202 ∷ 249 ∷ 134 ∷ 1 ∷ 140 ∷ 249 ∷ 220 ∷ 2 ∷ 118 ∷ 251 ∷ 90 ∷ 4 ∷ 136 ∷ 254 ∷ 0 ∷ 7 ∷ 194 ∷ 1 ∷ 206 ∷ []);
+      told = Refused 15;
+    }
+    ∷
+    -- melt: 16 before 24: a rim: refusal 16
+    record {
+      bytes =
+          (1 ∷ 0 ∷ 8 ∷ 0 ∷ 9 ∷ 0 ∷ 9 ∷ 0 ∷ 9 ∷ 0 ∷ 1 ∷ 2 ∷ 0 ∷ 3 ∷ 237 ∷ 190 ∷ 64 ∷ 3 ∷ 0 ∷ 54 ∷ 250 ∷ 136 ∷ 253 ∷ 90 ∷ 0 ∷ 118 ∷ 3 ∷ 220
+          ∷ 7 ∷ 140 ∷ 251 ∷ 134 ∷ 255 ∷ 202 ∷ 4 ∷ 88 ∷ 249 ∷ 48 ∷ 254 ∷ 82 ∷ 3 ∷ 190 ∷ 249 ∷ 116 ∷ 255 ∷ 116 ∷ 5 ∷ 190 ∷ 252 ∷ 82 ∷ 3 ∷ 48
+          ∷ 250 ∷ 88 ∷ 1 ∷ 202 ∷ 249 ∷ 134 ∷ 1 ∷ 140 ∷ 249 ∷ 220 ∷ 2 ∷ 118 ∷ 251 ∷ 90 ∷ 4 ∷ 136 ∷ 254 ∷ 0 ∷ 7 ∷ 194 ∷ 1 ∷ 206 ∷ []);
+      told = Refused 16;
+    }
+    ∷
+    -- melt: 17 before 24: a rim: refusal 17
+    record {
+      bytes =
+          (1 ∷ 0 ∷ 8 ∷ 0 ∷ 5 ∷ 0 ∷ 9 ∷ 0 ∷ 9 ∷ 0 ∷ 1 ∷ 2 ∷ 0 ∷ 2 ∷ 237 ∷ 190 ∷ 3 ∷ 0 ∷ 30 ∷ 250 ∷ 136 ∷ 253 ∷ 90 ∷ 0 ∷ 118 ∷ 3 ∷ 220 ∷ 7
+          ∷ 140 ∷ 251 ∷ 134 ∷ 255 ∷ 202 ∷ 4 ∷ 88 ∷ 249 ∷ 48 ∷ 254 ∷ 82 ∷ 3 ∷ 190 ∷ 249 ∷ 116 ∷ 255 ∷ 116 ∷ 5 ∷ 190 ∷ 252 ∷ 82 ∷ []);
+      told = Refused 17;
+    }
+    ∷
+    -- melt: 19 before 24: a rim: refusal 19
+    record {
+      bytes =
+          (1 ∷ 0 ∷ 8 ∷ 0 ∷ 4 ∷ 0 ∷ 1 ∷ 0 ∷ 3 ∷ 0 ∷ 1 ∷ 2 ∷ 0 ∷ 2 ∷ 237 ∷ 176 ∷ 3 ∷ 0 ∷ 24 ∷ 250 ∷ 136 ∷ 253 ∷ 90 ∷ 0 ∷ 118 ∷ 3 ∷ 220 ∷ 7
+          ∷ 140 ∷ 251 ∷ 134 ∷ 255 ∷ 202 ∷ 4 ∷ 88 ∷ 249 ∷ 48 ∷ 254 ∷ 82 ∷ 3 ∷ 190 ∷ 249 ∷ 116 ∷ []);
+      told = Refused 19;
+    }
+    ∷
+    -- melt: beyond 18: c→b is used: six -605601792
+    record {
+      bytes =
+          (1 ∷ 0 ∷ 8 ∷ 0 ∷ 5 ∷ 0 ∷ 6 ∷ 0 ∷ 5 ∷ 0 ∷ 1 ∷ 2 ∷ 0 ∷ 3 ∷ 224 ∷ 35 ∷ 64 ∷ 3 ∷ 0 ∷ 30 ∷ 250 ∷ 136 ∷ 253 ∷ 90 ∷ 0 ∷ 118 ∷ 3 ∷ 220 ∷ 7
+          ∷ 140 ∷ 251 ∷ 134 ∷ 255 ∷ 202 ∷ 4 ∷ 88 ∷ 249 ∷ 48 ∷ 254 ∷ 82 ∷ 3 ∷ 190 ∷ 249 ∷ 116 ∷ 255 ∷ 116 ∷ 5 ∷ 190 ∷ 252 ∷ 82 ∷ []);
+      told = Six (negsuc 605601791);
+    }
+    ∷
+    -- melt: beyond 18: a split to a neighbour of f: six 1816805376
+    record {
+      bytes =
+          (1 ∷ 0 ∷ 8 ∷ 0 ∷ 5 ∷ 0 ∷ 6 ∷ 0 ∷ 6 ∷ 0 ∷ 2 ∷ 2 ∷ 0 ∷ 4 ∷ 224 ∷ 64 ∷ 10 ∷ 208 ∷ 3 ∷ 0 ∷ 30 ∷ 250 ∷ 136 ∷ 253 ∷ 90 ∷ 0 ∷ 118 ∷ 3
+          ∷ 220 ∷ 7 ∷ 140 ∷ 251 ∷ 134 ∷ 255 ∷ 202 ∷ 4 ∷ 88 ∷ 249 ∷ 48 ∷ 254 ∷ 82 ∷ 3 ∷ 190 ∷ 249 ∷ 116 ∷ 255 ∷ 116 ∷ 5 ∷ 190 ∷ 252 ∷ 82
+          ∷ []);
+      told = Six (pos 1816805376);
+    }
+    ∷
+    -- melt: beyond 18: c is a: six 1816805376
+    record {
+      bytes =
+          (1 ∷ 0 ∷ 8 ∷ 0 ∷ 5 ∷ 0 ∷ 10 ∷ 0 ∷ 7 ∷ 0 ∷ 2 ∷ 2 ∷ 0 ∷ 8 ∷ 224 ∷ 64 ∷ 11 ∷ 1 ∷ 0 ∷ 73 ∷ 38 ∷ 128 ∷ 3 ∷ 0 ∷ 30 ∷ 250 ∷ 136 ∷ 253
+          ∷ 90 ∷ 0 ∷ 118 ∷ 3 ∷ 220 ∷ 7 ∷ 140 ∷ 251 ∷ 134 ∷ 255 ∷ 202 ∷ 4 ∷ 88 ∷ 249 ∷ 48 ∷ 254 ∷ 82 ∷ 3 ∷ 190 ∷ 249 ∷ 116 ∷ 255 ∷ 116 ∷ 5
+          ∷ 190 ∷ 252 ∷ 82 ∷ []);
+      told = Six (pos 1816805376);
+    }
+    ∷
+    -- melt: beyond 18: 12 loops: six 23087349760
+    record {
+      bytes =
+          (1 ∷ 0 ∷ 8 ∷ 0 ∷ 25 ∷ 0 ∷ 46 ∷ 0 ∷ 36 ∷ 0 ∷ 12 ∷ 2 ∷ 0 ∷ 31 ∷ 224 ∷ 64 ∷ 8 ∷ 8 ∷ 1 ∷ 1 ∷ 0 ∷ 32 ∷ 32 ∷ 4 ∷ 4 ∷ 0 ∷ 128 ∷ 128 ∷ 16
+          ∷ 16 ∷ 2 ∷ 2 ∷ 0 ∷ 64 ∷ 64 ∷ 8 ∷ 8 ∷ 1 ∷ 1 ∷ 0 ∷ 43 ∷ 109 ∷ 182 ∷ 219 ∷ 109 ∷ 3 ∷ 0 ∷ 150 ∷ 250 ∷ 136 ∷ 253 ∷ 90 ∷ 0 ∷ 118 ∷ 3
+          ∷ 220 ∷ 7 ∷ 140 ∷ 251 ∷ 134 ∷ 255 ∷ 202 ∷ 4 ∷ 88 ∷ 249 ∷ 48 ∷ 254 ∷ 82 ∷ 3 ∷ 190 ∷ 249 ∷ 116 ∷ 255 ∷ 116 ∷ 5 ∷ 190 ∷ 252 ∷ 82 ∷ 3
+          ∷ 48 ∷ 250 ∷ 88 ∷ 1 ∷ 202 ∷ 249 ∷ 134 ∷ 1 ∷ 140 ∷ 249 ∷ 220 ∷ 2 ∷ 118 ∷ 251 ∷ 90 ∷ 4 ∷ 136 ∷ 254 ∷ 0 ∷ 7 ∷ 194 ∷ 1 ∷ 206 ∷ 252
+          ∷ 36 ∷ 6 ∷ 196 ∷ 1 ∷ 174 ∷ 252 ∷ 226 ∷ 248 ∷ 96 ∷ 4 ∷ 40 ∷ 0 ∷ 58 ∷ 252 ∷ 150 ∷ 249 ∷ 60 ∷ 6 ∷ 44 ∷ 3 ∷ 102 ∷ 0 ∷ 234 ∷ 254 ∷ 184
+          ∷ 252 ∷ 208 ∷ 251 ∷ 50 ∷ 249 ∷ 222 ∷ 248 ∷ 212 ∷ 248 ∷ 20 ∷ 7 ∷ 158 ∷ 7 ∷ 114 ∷ 7 ∷ 144 ∷ 7 ∷ 248 ∷ 248 ∷ 170 ∷ 249 ∷ 166 ∷ 250
+          ∷ 236 ∷ 252 ∷ 124 ∷ 254 ∷ 86 ∷ 0 ∷ 122 ∷ 2 ∷ 232 ∷ 5 ∷ 160 ∷ 248 ∷ 162 ∷ 251 ∷ 238 ∷ 255 ∷ 132 ∷ 3 ∷ 100 ∷ 7 ∷ 142 ∷ 252 ∷ 2 ∷ 0
+          ∷ 192 ∷ 5 ∷ 200 ∷ 251 ∷ 26 ∷ 0 ∷ 182 ∷ 6 ∷ 156 ∷ 252 ∷ 204 ∷ 3 ∷ 70 ∷ 250 ∷ 10 ∷ 1 ∷ 24 ∷ 248 ∷ 112 ∷ 0 ∷ 18 ∷ 7 ∷ 254 ∷ []);
+      told = Six (pos 23087349760);
+    }
+    ∷
+    -- melt: beyond 18: 15: refusal 15
+    record {
+      bytes =
+          (1 ∷ 0 ∷ 8 ∷ 0 ∷ 5 ∷ 0 ∷ 6 ∷ 0 ∷ 5 ∷ 0 ∷ 1 ∷ 2 ∷ 0 ∷ 2 ∷ 224 ∷ 34 ∷ 3 ∷ 0 ∷ 30 ∷ 250 ∷ 136 ∷ 253 ∷ 90 ∷ 0 ∷ 118 ∷ 3 ∷ 220 ∷ 7
+          ∷ 140 ∷ 251 ∷ 134 ∷ 255 ∷ 202 ∷ 4 ∷ 88 ∷ 249 ∷ 48 ∷ 254 ∷ 82 ∷ 3 ∷ 190 ∷ 249 ∷ 116 ∷ 255 ∷ 116 ∷ 5 ∷ 190 ∷ 252 ∷ 82 ∷ []);
+      told = Refused 15;
+    }
+    ∷
+    -- melt: beyond 18: 16: refusal 16
+    record {
+      bytes =
+          (1 ∷ 0 ∷ 8 ∷ 0 ∷ 5 ∷ 0 ∷ 6 ∷ 0 ∷ 5 ∷ 0 ∷ 1 ∷ 2 ∷ 0 ∷ 2 ∷ 224 ∷ 42 ∷ 3 ∷ 0 ∷ 30 ∷ 250 ∷ 136 ∷ 253 ∷ 90 ∷ 0 ∷ 118 ∷ 3 ∷ 220 ∷ 7
+          ∷ 140 ∷ 251 ∷ 134 ∷ 255 ∷ 202 ∷ 4 ∷ 88 ∷ 249 ∷ 48 ∷ 254 ∷ 82 ∷ 3 ∷ 190 ∷ 249 ∷ 116 ∷ 255 ∷ 116 ∷ 5 ∷ 190 ∷ 252 ∷ 82 ∷ []);
+      told = Refused 16;
+    }
+    ∷
+    -- melt: beyond 18: 17: a place too many: refusal 17
+    record {
+      bytes =
+          (1 ∷ 0 ∷ 8 ∷ 0 ∷ 9 ∷ 0 ∷ 9 ∷ 0 ∷ 5 ∷ 0 ∷ 1 ∷ 2 ∷ 0 ∷ 3 ∷ 224 ∷ 32 ∷ 0 ∷ 3 ∷ 0 ∷ 30 ∷ 250 ∷ 136 ∷ 253 ∷ 90 ∷ 0 ∷ 118 ∷ 3 ∷ 220 ∷ 7
+          ∷ 140 ∷ 251 ∷ 134 ∷ 255 ∷ 202 ∷ 4 ∷ 88 ∷ 249 ∷ 48 ∷ 254 ∷ 82 ∷ 3 ∷ 190 ∷ 249 ∷ 116 ∷ 255 ∷ 116 ∷ 5 ∷ 190 ∷ 252 ∷ 82 ∷ []);
+      told = Refused 17;
+    }
+    ∷
+    -- melt: beyond 18: 19: six places: refusal 19
+    record {
+      bytes =
+          (1 ∷ 0 ∷ 8 ∷ 0 ∷ 5 ∷ 0 ∷ 6 ∷ 0 ∷ 6 ∷ 0 ∷ 1 ∷ 2 ∷ 0 ∷ 3 ∷ 224 ∷ 35 ∷ 64 ∷ 3 ∷ 0 ∷ 30 ∷ 250 ∷ 136 ∷ 253 ∷ 90 ∷ 0 ∷ 118 ∷ 3 ∷ 220 ∷ 7
+          ∷ 140 ∷ 251 ∷ 134 ∷ 255 ∷ 202 ∷ 4 ∷ 88 ∷ 249 ∷ 48 ∷ 254 ∷ 82 ∷ 3 ∷ 190 ∷ 249 ∷ 116 ∷ 255 ∷ 116 ∷ 5 ∷ 190 ∷ 252 ∷ 82 ∷ []);
+      told = Refused 19;
+    }
+    ∷
+    -- melt: beyond 18: 23: refusal 23
+    record { bytes = (1 ∷ 0 ∷ 8 ∷ 0 ∷ 5 ∷ 0 ∷ 6 ∷ 0 ∷ 5 ∷ 0 ∷ 1 ∷ 2 ∷ 0 ∷ 3 ∷ 224 ∷ 35 ∷ 64 ∷ 3 ∷ 0 ∷ 2 ∷ 8 ∷ 0 ∷ []); told = Refused 23 }
+    ∷
+    -- melt: beyond 18: 25: refusal 25
+    record {
+      bytes =
+          (1 ∷ 0 ∷ 8 ∷ 0 ∷ 5 ∷ 0 ∷ 6 ∷ 0 ∷ 5 ∷ 0 ∷ 1 ∷ 2 ∷ 0 ∷ 3 ∷ 224 ∷ 35 ∷ 64 ∷ 3 ∷ 0 ∷ 30 ∷ 250 ∷ 136 ∷ 253 ∷ 90 ∷ 0 ∷ 118 ∷ 3 ∷ 220 ∷ 7
+          ∷ 140 ∷ 251 ∷ 134 ∷ 255 ∷ 202 ∷ 4 ∷ 88 ∷ 249 ∷ 48 ∷ 254 ∷ 82 ∷ 3 ∷ 190 ∷ 249 ∷ 116 ∷ 255 ∷ 116 ∷ 5 ∷ 190 ∷ 252 ∷ 82 ∷ 4 ∷ 0 ∷ 0
+          ∷ []);
+      told = Refused 25;
+    }
+    ∷
+    -- melt: beyond 18: 24: no positions: refusal 24
+    record { bytes = (1 ∷ 0 ∷ 8 ∷ 0 ∷ 5 ∷ 0 ∷ 6 ∷ 0 ∷ 5 ∷ 0 ∷ 1 ∷ 2 ∷ 0 ∷ 3 ∷ 224 ∷ 35 ∷ 64 ∷ []); told = Refused 24 }
+    ∷
+    -- melt: beyond 18: 24: a rim: refusal 24
+    record {
+      bytes =
+          (1 ∷ 0 ∷ 8 ∷ 0 ∷ 3 ∷ 0 ∷ 2 ∷ 0 ∷ 3 ∷ 0 ∷ 1 ∷ 2 ∷ 0 ∷ 2 ∷ 236 ∷ 176 ∷ 3 ∷ 0 ∷ 18 ∷ 250 ∷ 136 ∷ 253 ∷ 90 ∷ 0 ∷ 118 ∷ 3 ∷ 220 ∷ 7
+          ∷ 140 ∷ 251 ∷ 134 ∷ 255 ∷ 202 ∷ 4 ∷ 88 ∷ 249 ∷ 48 ∷ []);
+      told = Refused 24;
+    }
+    ∷
+    -- melt: beyond 20: 24: a rim: refusal 24
+    record {
+      bytes =
+          (1 ∷ 0 ∷ 8 ∷ 0 ∷ 5 ∷ 0 ∷ 4 ∷ 0 ∷ 5 ∷ 0 ∷ 2 ∷ 2 ∷ 0 ∷ 5 ∷ 224 ∷ 55 ∷ 0 ∷ 38 ∷ 219 ∷ 3 ∷ 0 ∷ 30 ∷ 250 ∷ 136 ∷ 253 ∷ 90 ∷ 0 ∷ 118 ∷ 3
+          ∷ 220 ∷ 7 ∷ 140 ∷ 251 ∷ 134 ∷ 255 ∷ 202 ∷ 4 ∷ 88 ∷ 249 ∷ 48 ∷ 254 ∷ 82 ∷ 3 ∷ 190 ∷ 249 ∷ 116 ∷ 255 ∷ 116 ∷ 5 ∷ 190 ∷ 252 ∷ 82
+          ∷ []);
+      told = Refused 24;
+    }
+    ∷
+    -- melt: beyond 20: 23: refusal 23
+    record {
+      bytes = (1 ∷ 0 ∷ 8 ∷ 0 ∷ 5 ∷ 0 ∷ 4 ∷ 0 ∷ 5 ∷ 0 ∷ 2 ∷ 2 ∷ 0 ∷ 5 ∷ 224 ∷ 55 ∷ 0 ∷ 38 ∷ 219 ∷ 3 ∷ 0 ∷ 2 ∷ 8 ∷ 0 ∷ []);
+      told = Refused 23;
+    }
+    ∷
+    -- melt: beyond 20: 25: refusal 25
+    record {
+      bytes =
+          (1 ∷ 0 ∷ 8 ∷ 0 ∷ 5 ∷ 0 ∷ 4 ∷ 0 ∷ 5 ∷ 0 ∷ 2 ∷ 2 ∷ 0 ∷ 5 ∷ 224 ∷ 55 ∷ 0 ∷ 38 ∷ 219 ∷ 3 ∷ 0 ∷ 30 ∷ 250 ∷ 136 ∷ 253 ∷ 90 ∷ 0 ∷ 118 ∷ 3
+          ∷ 220 ∷ 7 ∷ 140 ∷ 251 ∷ 134 ∷ 255 ∷ 202 ∷ 4 ∷ 88 ∷ 249 ∷ 48 ∷ 254 ∷ 82 ∷ 3 ∷ 190 ∷ 249 ∷ 116 ∷ 255 ∷ 116 ∷ 5 ∷ 190 ∷ 252 ∷ 82 ∷ 4
+          ∷ 0 ∷ 0 ∷ []);
+      told = Refused 25;
+    }
+    ∷
+    -- melt: beyond 20: 24: no positions: refusal 24
+    record { bytes = (1 ∷ 0 ∷ 8 ∷ 0 ∷ 5 ∷ 0 ∷ 4 ∷ 0 ∷ 5 ∷ 0 ∷ 2 ∷ 2 ∷ 0 ∷ 5 ∷ 224 ∷ 55 ∷ 0 ∷ 38 ∷ 219 ∷ []); told = Refused 24 }
+    ∷
+    -- melt: 200 places: six 134754812
+    record {
+      bytes =
+          ((1 ∷ 0 ∷ 8 ∷ 0 ∷ 200 ∷ 1 ∷ 140 ∷ 0 ∷ 200 ∷ 0 ∷ 1 ∷ 2 ∷ 0 ∷ 149 ∷ 224 ∷ []) ++ replicate 73 0 ++ (9 ∷ 36 ∷ 146 ∷ 73 ∷ 36 ∷ 146
+          ∷ 73 ∷ 36 ∷ 146 ∷ 73 ∷ 36 ∷ 146 ∷ 73 ∷ 36 ∷ 146 ∷ 73 ∷ 36 ∷ 146 ∷ 73 ∷ 36 ∷ 146 ∷ 73 ∷ 36 ∷ 146 ∷ 73 ∷ 36 ∷ 146 ∷ 73 ∷ 36 ∷ 146
+          ∷ 73 ∷ 36 ∷ 146 ∷ 73 ∷ 36 ∷ 146 ∷ 73 ∷ 36 ∷ 146 ∷ 73 ∷ 36 ∷ 146 ∷ 73 ∷ 36 ∷ 146 ∷ 73 ∷ 36 ∷ 146 ∷ 73 ∷ 36 ∷ 146 ∷ 73 ∷ 36 ∷ 146
+          ∷ 73 ∷ 36 ∷ 146 ∷ 73 ∷ 36 ∷ 146 ∷ 73 ∷ 36 ∷ 146 ∷ 73 ∷ 36 ∷ 146 ∷ 73 ∷ 36 ∷ 146 ∷ 73 ∷ 36 ∷ 146 ∷ 73 ∷ 36 ∷ 208 ∷ 3 ∷ 4 ∷ 176
+          ∷ 250 ∷ 136 ∷ 253 ∷ 90 ∷ 0 ∷ 118 ∷ 3 ∷ 220 ∷ 7 ∷ 140 ∷ 251 ∷ 134 ∷ 255 ∷ 202 ∷ 4 ∷ 88 ∷ 249 ∷ 48 ∷ 254 ∷ 82 ∷ 3 ∷ 190 ∷ 249 ∷ 116
+          ∷ []) ++ replicate 1171 0 ++ (7 ∷ 255 ∷ 248 ∷ 0 ∷ 9 ∷ []));
+      told = Six (pos 134754812);
+    }
+    ∷
+    []
+
 pub table : T (allRight packRight packRows && allRight unpackRight unpackRows && allRight callsRight callRows
     && allRight fieldsRight fieldsRows && allRight lookRight lookRows && allRight wholePackRight wholePackRows
-    && allRight wholeRight wholeRows)
-unfolding equal equalPlaces equalAnswers packRight unpackRight wholePackRight wholeRight writtenRing writtenRings writtenEdges callsRight
-    fieldsRight lookRight allRight trianglesOf corners edgesOf same hit occurs count different pairs about leaving entering turnOn turnBack
-    oneRun oneFanEach inTriangle across allBelow allDistinct noneTwice allUsed passes checkTriangles check allOpen vertexAt lastOpen
-    lastVertex front onward reached places loopAt without allowed inOrder atEdge atRest effect placesAt ringsAfter cleared test done
-    beginning finishing answers afterAll logAll bits valueOf bitsOfBytes bytesWithin readNumber allZero operationBits operationsBits kindIn
-    readOperation packBytes takeField fieldsOf allInGrid signedOf positionBytes positionsFrom laterPart partsOf takeNote determinant
+    && allRight wholeRight wholeRows && allRight meltRight meltRows)
+unfolding equal equalPlaces equalAnswers packRight unpackRight wholePackRight wholeRight meltRight writtenRing writtenRings writtenEdges
+    callsRight fieldsRight lookRight allRight trianglesOf corners edgesOf same hit occurs count different pairs about leaving entering
+    turnOn turnBack oneRun oneFanEach inTriangle across allBelow allDistinct noneTwice allUsed passes checkTriangles check allOpen vertexAt
+    lastOpen lastVertex front onward reached places loopAt without allowed inOrder atEdge atRest effect placesAt ringsAfter cleared test
+    done beginning finishing answers afterAll logAll bits valueOf bitsOfBytes bytesWithin readNumber allZero operationBits operationsBits
+    kindIn readOperation packBytes takeField fieldsOf allInGrid signedOf positionBytes positionsFrom laterPart partsOf takeNote determinant
     sixVolumes has dropTriangle turnIn turnOut edgeIn spotOf choosePlace limited taking chooseAt chooseIn orderBy chooseAll indexOf
     newNumbers packChosen packChecked runAll numbersOf unpackRun unpackFields positionsOf wholeChosen wholeChecked thenTested unpackParts
-    measured follow followed nodes placesOf openAmong loopsOf placeNodes placeRings trianglesBuilt view sizesOf apart placesFit loopsFit
-    linksFit soundElse sound packRows unpackRows callRows fieldsRows lookRows wholePackRows wholeRows
+    measured doneFreely runFreely meltRun meltFields meltParts follow followed nodes placesOf openAmong loopsOf placeNodes placeRings
+    trianglesBuilt view sizesOf apart placesFit loopsFit linksFit soundElse sound packRows unpackRows callRows fieldsRows lookRows
+    wholePackRows wholeRows meltRows
 table = tt

@@ -12,6 +12,8 @@ use Rattle.rules.specs.declared.Place.{Place}
 use Rattle.rules.specs.declared.Totals.{Totals}
 use Rattle.rules.specs.declared.Across.{Across}
 use Rattle.rules.specs.declared.Across.the-variants.{Found, Nothing}
+use Rattle.rules.specs.declared.Melted.{Melted}
+use Rattle.rules.specs.declared.Melted.the-variants.{Six, Refused}
 use Rattle.rules.specs.Triangle.{Edge, trianglesOf}
 use Rattle.rules.specs.Count.{num}
 use Rattle.rules.specs.Ring.{Ring, vertex, isOpen}
@@ -27,6 +29,7 @@ use Rattle.rules.specs.Unpack.{UnpackResult, numbersOf, unpack}
 use Rattle.rules.specs.Later.{Given, not-given, given}
 use Rattle.rules.specs.PackWhole.{extras, packWholeWithin}
 use Rattle.rules.specs.Reading.{unpackNoted, VolumeResult, volume, BenchResult, bench}
+use Rattle.rules.specs.Furnace.{melt}
 
 unfoldable pub equal : List ℕ → List ℕ → Bool
 equal [] [] = true
@@ -148,6 +151,18 @@ unfoldable pub wholeRight : WholeRow → Bool
 wholeRight x =
     sameUnpacking (unpackNoted (x .bytes) (x .lent)) (x .unpacking .answer) (x .unpacking .buffers)
     && sameVolume (volume (x .bytes) (x .lent)) (x .measuring) && sameBench (bench (x .bytes) (x .lent)) x
+
+-- a pack read by the furnace's own reader
+pub record MeltRow : Type 0 where
+  pub bytes : List ℕ
+  pub told : Melted
+
+abbrev pub writtenMelted : Melted → List ℕ
+writtenMelted (Refused n) = 0 ∷ (n ∷ [])
+writtenMelted (Six z) = 1 ∷ signed z
+
+unfoldable pub meltRight : MeltRow → Bool
+meltRight x = equal (writtenMelted (melt (x .bytes))) (writtenMelted (x .told))
 
 -- a book as numbers
 unfoldable pub writtenRing : Ring → List ℕ

@@ -32,6 +32,7 @@
 --   "The border places are one lent list of records" | Place in src/lib.rt; View: placeAt | states
 --   "A freed place is used again" | Build: Leaves, the line taken | (which free records new places take is free)
 --   "at most 1,024 places, and at most 100 loops are live" | Limits: maxPlaces, maxLoops | bench, "13: V 2, V 4097, .."
+--   C-16: "at most 200 places and 12 loops" | Limits: furnacePlaces, furnaceLoops | "melt: 200 places", "melt: beyond 18: 12 loops"
 --   "The current edge goes from vertex a (place e) to .." | Table: atEdge, effect | all rows of calls
 --   "Every operation but border and start builds .. b a c" | Table: atEdge | "M2"
 --   "All but start need a live loop"; start, "no live loop" | Table: atRest | "16: split in a loop of three; new without a live loop; .."
@@ -124,6 +125,13 @@
 --   C-13: 12 to 20, 23 ("after 20"), 24 ("last") | UnpackWhole: unpackWhole; Reading: volume | "13 before 23" to "23 before 24: a rim"
 --   C-15: 25, "the note's length is 0 or over 64" | Note: noteFits | "25: field 04 of 0 bytes after 03" to "25: field 04 of 257 bytes"
 --   C-15: 12 to 20, 23, 25 ("after 23"), 24 | Reading: unpackNoted, volume | "13 before 25" to "25 before 24: a rim"
+--   C-16: 26, "a stated peak is over 200 places or 12 loops" | Furnace: peaksFit | "melt: 26: 201 places and .." to "melt: 12 loops .."
+--   C-16: "straight after 13" | Furnace: meltFields | "melt: 13 before 26: 1,025 places" to "melt: 26 before 19: 13 loops"
+--   C-16: "Its other refusals are 12, 13, 15 to 17, 19 and 23 to 25" | Furnace: melt | "melt: 12: nothing" to "melt: 24: two rims"
+--   C-16: ".. under the same conditions" | ItsRefusalsAreTheServices in crates/furnace_theory/specs/Claims | "melt: 12: nothing", ..
+--   C-16: 12, 13, 26, 15 to 17, 19, 23, 25, 24 | Furnace: meltFields, meltEnded | "melt: 12 before 13 and 26" to "melt: 19 before 24: .."
+--   C-16: "It tests neither the edge rule" | Furnace: doneFreely | "melt: beyond 18: c→b is used" to "melt: beyond 18: 24: a rim"
+--   C-16: ".. nor the fans" | Furnace: meltEnded | "melt: beyond 20: 24: a rim" to "melt: beyond 20: 24: no positions"
 --   21, "lent rooms shorter than 14 asks, or a state whose .." | Sound: sound, countsFit, sumsFit, linksFit, trianglesFit | states
 --   "The first operation at fault decides between 9 and 10" | Pack: chooseAll | "10 at an operation before that of 9"
 --   ".. and among 15 to 18; .. the lower number" | Unpack: runAll; Machine: done | "16 before 17: forward in a loop of three"
@@ -157,6 +165,9 @@
 --   C-15: ".. an empty part if there is none or unpacking refuses .." | Reading: handedBack | "no field 03, a rim", "25: field 04 of .."
 --   C-15: "Besides, it answers and writes as unpacking, refusals too" | Reading: bench | "field 04 after 02" to "25 before 24: a rim"
 --   C-15: "must take no notice", "Every other call .." | NotesMakeNoDifference in crates/notes_theory/specs/Claims | "field 04, .."
+--   C-16: "no triangle list, and adds up the volume while it builds" | Furnace: melted | "melt: M2, different numbers", "melt: two pieces"
+--   C-16: "The pack stays in the port's own memory and is lent to it" | Furnace: melt, of the bytes alone | (the contract of furnace_read)
+--   C-16: "its volume is the service's" | AcceptedPacksMelt in crates/furnace_theory/specs/Claims | "melt: M2, .." to "melt: a torus, .."
 --   "a building operation the triangle .. also written .." | Build: withTriangle, Leaves | calls
 --   "It changes nothing; a complete model holds no place" | Machine: complete; Finishing in crates/promises/specs/Promises | "M1" to "M5"
 --   "The finish gives edges, rims, unions and the Euler .." | Machine: totals | "M1" to "M5", "torus of seven vertices"
@@ -212,6 +223,7 @@ pub mod Unpack
 pub mod PackWhole
 pub mod UnpackWhole
 pub mod Reading
+pub mod Furnace
 pub mod View
 pub mod Sound
 pub mod Build

@@ -28,6 +28,13 @@ maxPlaces = 1024
 abbrev pub maxLoops : ℕ
 maxLoops = 100
 
+-- the furnace's own reader keeps at most so many places and loops
+abbrev pub furnacePlaces : ℕ
+furnacePlaces = 200
+
+abbrev pub furnaceLoops : ℕ
+furnaceLoops = 12
+
 -- a note has at most so many bytes
 abbrev pub maxNote : ℕ
 maxNote = 64

@@ -13,6 +13,11 @@ pub const CORNERS: usize = 3 * TRIANGLES;
 // The most bytes of a note.
 pub const MOST_NOTE: usize = 64;
 
+// The most places and loops that the furnace's own reader keeps.
+pub const FURNACE_PLACES: usize = 200;
+
+pub const FURNACE_LOOPS: usize = 12;
+
 // A triangle p q r has the directed edges p→q, q→r and r→p.
 pub struct Triangle {
     pub p: u16,
@@ -172,6 +177,12 @@ pub struct Noted<'a> {
 // The volume call gives six times the volume besides.
 pub enum Measured {
     Volume(Model, i64),
+    Refused(u8),
+}
+
+// The furnace's own reader gives six times the volume alone.
+pub enum Melted {
+    Six(i64),
     Refused(u8),
 }
 

@@ -15,25 +15,20 @@ use Rattle.rules.specs.Unpack.{turnedDown, unpackFields}
 use Rattle.border_theory.specs.Records.Lent.{lent}
 use Rattle.wire.specs.declared.fields.PackFields.{PackFields}
 use Rattle.wire.specs.declared.fields.PackFields.the-variants.{Found, Refused}
-use Rattle.wire.specs.Fields.{ranged, tested, packFields, PartFound, Parted}
+use Rattle.wire.specs.Fields.{ranged, tested, packFields}
+use Rattle.wire.proofs.Told.{found-never, refused-same}
 use Rattle.unpack_theory.specs.Lent.{UnpackedOn}
 use Rattle.unpack_theory.proofs.Unpacking.{turned-on}
 use Rattle.unpack_theory.proofs.Lending.{fields-13}
 
-out : (k : ℕ) (s : Counts) (a b : ℕ) → Found s a b ≡ Refused k → ⊥
-out k s a b e = let z : _≡_ {A = ℕ} 0 1 = cc in omega arith
-
-number : (j k : ℕ) → Refused j ≡ Refused k → j ≡ k
-number j k e = cc
-
 by-range : (n k : ℕ) (ts : List ℕ) (s : Counts) (ops : List ℕ) (b : Bool) → inRange s ≡ b → ranged b s ops ≡ Refused k
     → unpackFields (lent n ts) (fields s ops) ≡ turnedDown k (lent n ts)
-by-range n k ts s ops true h e = absurd (out k s 14 (14 + length ops) e)
-by-range n k ts s ops false h e = fields-13 (lent n ts) s ops h ∙ ap (λ (j : ℕ). turnedDown j (lent n ts)) (number 13 k e)
+by-range n k ts s ops true h e = absurd (found-never k s 14 (14 + length ops) e)
+by-range n k ts s ops false h e = fields-13 (lent n ts) s ops h ∙ ap (λ (j : ℕ). turnedDown j (lent n ts)) (refused-same 13 k e)
 
 by-fields : (n k : ℕ) (ts : List ℕ) (f : Fields) → tested f ≡ Refused k → unpackFields (lent n ts) f ≡ turnedDown k (lent n ts)
 unfolding unpackFields
-by-fields n k ts no-pack e = ap (λ (j : ℕ). turnedDown j (lent n ts)) (number 12 k e)
+by-fields n k ts no-pack e = ap (λ (j : ℕ). turnedDown j (lent n ts)) (refused-same 12 k e)
 by-fields n k ts (fields s ops) e = by-range n k ts s ops (inRange s) refl e
 
 pub refused-on : (bytes : List ℕ) (n : ℕ) (ts : List ℕ) (f : PackFields) (k : ℕ) → f ≡ packFields bytes → f ≡ Refused k → (r : Unpacked)
@@ -42,10 +37,6 @@ unfolding packFields
 refused-on bytes n ts f k i e r h =
     subst (λ (x : Unpacked). UnpackedOn bytes ts n x ts) (sym (h k e))
     (turned-on bytes n ts k (by-fields n k ts (fieldsOf bytes) (sym i ∙ e)))
-
--- the part of the pack that holds the operations
-pub part-found : (bytes : List ℕ) (f : PackFields) (s : Counts) (a b : ℕ) → Parted bytes f → f ≡ Found s a b → PartFound bytes s a b
-part-found bytes f s a b p e = p s a b e
 
 pub same-number : (f : PackFields) (j k : ℕ) → f ≡ Refused j → f ≡ Refused k → U.Refused j ≡ U.Refused k
 same-number f j k p q = cc

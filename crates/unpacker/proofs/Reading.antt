@@ -1,15 +1,11 @@
--- What the operation reader answers, in the words of the rules, and the turns with it.
+-- The turns with what the operation reader answers.
 -- Assumes nothing.
-use Prim.Native.Nat.{ℕ, _*_, _-_, _<_}
+use Prim.Native.Nat.{ℕ, _-_, _<_}
 use native.Mathlib.Omega.{arith}
 use mathlib.Core.Bool.{Bool, true, false}
 use mathlib.Core.List.{List}
 use mathlib.Core.Path.{_≡_, refl, sym, ap, _∙_, subst}
-use lib.ListN.{length, drop}
-use borrow.Author.Tests.{le-leb}
 use Rattle.rules.specs.declared.Operation.{Operation}
-use Rattle.rules.specs.Bits.{bitsOfBytes}
-use Rattle.rules.specs.Code.{Read, breaks-off, read, readOperation}
 use Rattle.cutborder.specs.declared.Front.{Front}
 use Rattle.cutborder.specs.declared.Stepped.{Stepped}
 use Rattle.cutborder.specs.declared.Stepped.the-variants.{Going, Refused}
@@ -22,22 +18,7 @@ use Rattle.unpack_theory.proofs.Leading.{going-held, turn-over, turn-complete, 
 use Rattle.unpacker.specs.Turns.{StepRead, TurnOf}
 use Rattle.wire.specs.declared.reader.OperationRead.{OperationRead}
 use Rattle.wire.specs.declared.reader.OperationRead.the-variants.{Found, BreaksOff}
-use Rattle.wire.specs.Reader.{operationIn, operationWithin, operationAt, mostBytes, Ahead}
-
-broken-by : (t : ℕ) (r : Read) → operationIn t r ≡ BreaksOff → r ≡ breaks-off
-broken-by t breaks-off e = refl
-broken-by t (read o ys) e = let z : _≡_ {A = ℕ} 0 1 = cc in absurd (omega arith)
-
-pub read-broken : (ops : List ℕ) (at : ℕ) (r : OperationRead) → length ops < 65536 → r ≡ operationAt ops at → r ≡ BreaksOff
-    → readOperation (drop at (bitsOfBytes ops)) ≡ breaks-off
-unfolding operationAt
-read-broken ops at r l i e =
-    broken-by (8 * length ops) (readOperation (drop at (bitsOfBytes ops)))
-    (sym (ap (λ (b : Bool). operationWithin b ops at) (le-leb (length ops) mostBytes (omega arith))) ∙ sym i ∙ e)
-
-pub read-found : (ops : List ℕ) (at : ℕ) (r : OperationRead) (o : Operation) (next : ℕ) → Ahead ops at r → r ≡ Found o next
-    → readOperation (drop at (bitsOfBytes ops)) ≡ read o (drop next (bitsOfBytes ops))
-read-found ops at r o next h e = h o next e .reads
+use Rattle.wire.proofs.Reading.{read-broken, read-found}
 
 module _ (r : OperationRead) (s : Front) (ts m cs ks : List ℕ) where
   pub broken-step : r ≡ BreaksOff → StepRead r s ts m cs ks (Refused 15) ts m cs ks

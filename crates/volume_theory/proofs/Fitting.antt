@@ -69,6 +69,9 @@ module _ (w : ℕ) (h : w < 65536) where
 abbrev pub held : ℤ → ℤ
 held z = toZ w64 (ofZ w64 z)
 
+pub held-same : (z : ℤ) → natAbs z < limit64 → held z ≡ z
+held-same z h = toZ-ofZ (amount-fits z h)
+
 -- z is a number that an argument or a call's answer holds: it is y, and at most m
 pub record Holds (z y : ℤ) (m : ℕ) : Type 0 where
   pub fits : SFits w64 z

@@ -86,7 +86,7 @@ pub record Accepts (bytes : List ℕ) (r : Buffers) (m : Model) : Type 0 where
 none-or-one : {m : Model} → not-given ≡ given m → ⊥
 none-or-one e = let z : _≡_ {A = ℕ} 0 1 = ap (λ (g : Given Model). elim g [ not-given ↦ 0 | given x ↦ 1 ]) e in omega arith
 
-never : {A : Type 0} (k : ℕ) (m : Model) → refusal k ≡ unpacked m → A
+pub never : {A : Type 0} (k : ℕ) (m : Model) → refusal k ≡ unpacked m → A
 never k m e = absurd (none-or-one (ap modelIn e))
 
 -- a test passes

@@ -5,6 +5,7 @@ use mathlib.Core.List.{List}
 use lib.IntN.{ℤ, natAbs}
 use lib.ListN.{length, getD}
 use Rattle.rules.specs.declared.Point.{Point}
+use Rattle.rules.specs.declared.Triangle.{Triangle}
 use Rattle.rules.specs.Limits.{maxTriangles}
 use Rattle.rules.specs.Volume.{pointAt, determinant}
 
@@ -31,6 +32,16 @@ pub record HasPositions (xs : List ℕ) (t : ℕ) (bs : List ℕ) : Type 0 where
   pub p : 6 * getD xs (3 * t) 0 + 5 < length bs
   pub q : 6 * getD xs (3 * t + 1) 0 + 5 < length bs
   pub r : 6 * getD xs (3 * t + 2) 0 + 5 < length bs
+
+-- the field bs has the positions of the corners of t
+pub record HasCorners (t : Triangle) (bs : List ℕ) : Type 0 where
+  pub p : 6 * t .p + 5 < length bs
+  pub q : 6 * t .q + 5 < length bs
+  pub r : 6 * t .r + 5 < length bs
+
+-- the determinant of a triangle by the positions zs
+abbrev pub determinantOf : List ℤ → Triangle → ℤ
+determinantOf zs t = determinant (pointAt zs (t .p)) (pointAt zs (t .q)) (pointAt zs (t .r))
 
 -- the determinant of triangle t of xs
 abbrev pub determinantAt : List ℤ → List ℕ → ℕ → ℤ

@@ -1,19 +1,22 @@
 -- What the reader reads as an operation is the operation at its position.
 -- Assumes nothing.
-use Prim.Native.Nat.{ℕ}
+use Prim.Native.Nat.{ℕ, _*_, _<_}
+use native.Mathlib.Omega.{arith}
 use mathlib.Core.Bool.{Bool, true, false, not, true≢false}
 use mathlib.Core.List.{List}
 use mathlib.Core.Logic.{inl, inr}
 use mathlib.Core.Path.{_≡_, refl, sym, ap, ap₂, _∙_, subst}
-use borrow.Author.Tests.{ne-eqb}
+use lib.ListN.{length, drop}
+use borrow.Author.Tests.{le-leb, ne-eqb}
 use Rattle.rules.specs.declared.Operation.{Operation}
-use Rattle.rules.specs.Code.{kinds, kindIn}
+use Rattle.rules.specs.Bits.{bitsOfBytes}
+use Rattle.rules.specs.Code.{Read, breaks-off, read, readOperation, kinds, kindIn}
 use Rattle.wire.specs.declared.reader.Number.{Number}
 use Rattle.wire.specs.declared.reader.Number.the-variants.{Value, BrokenOff}
 use Rattle.wire.specs.declared.reader.OperationRead.{OperationRead}
-use Rattle.wire.specs.declared.reader.OperationRead.the-variants.{Found}
+use Rattle.wire.specs.declared.reader.OperationRead.the-variants.{Found, BreaksOff}
 use Rattle.wire.specs.Reader.{numberAt, IndexedIs, PlainIs, plainOf, nextOf, placeAt, splitOf, unionIn, indexedOf, indicesAt}
-use Rattle.wire.specs.Reader.{ReadIs}
+use Rattle.wire.specs.Reader.{mostBytes, operationIn, operationWithin, operationAt, Ahead, ReadIs}
 use Rattle.wire.proofs.Codes.{unionOf, answered, breaks-code, by-split, by-union, by-kind}
 
 -- one law for each way through the functions that the reader calls
@@ -75,3 +78,19 @@ pub indices-by : (bs : List ℕ) (n : Number) (k i : ℕ) (p j : Number) (r : Op
 indices-by bs n k i p j r e-k e-p e-i e-j e-r =
     let f : p ≡ numberAt 7 bs (nextOf n) = e-p ∙ ap (numberAt 7 bs) e-k in
     e-r ∙ ap₂ (indexedOf n) f (e-j ∙ ap (numberAt 10 bs) (e-i ∙ ap (placeAt n) f))
+
+-- ---- what was read, in the words of the rules
+broken-by : (t : ℕ) (r : Read) → operationIn t r ≡ BreaksOff → r ≡ breaks-off
+broken-by t breaks-off e = refl
+broken-by t (read o ys) e = let z : _≡_ {A = ℕ} 0 1 = cc in absurd (omega arith)
+
+pub read-broken : (ops : List ℕ) (at : ℕ) (r : OperationRead) → length ops < 65536 → r ≡ operationAt ops at → r ≡ BreaksOff
+    → readOperation (drop at (bitsOfBytes ops)) ≡ breaks-off
+unfolding operationAt
+read-broken ops at r l i e =
+    broken-by (8 * length ops) (readOperation (drop at (bitsOfBytes ops)))
+    (sym (ap (λ (b : Bool). operationWithin b ops at) (le-leb (length ops) mostBytes (omega arith))) ∙ sym i ∙ e)
+
+pub read-found : (ops : List ℕ) (at : ℕ) (r : OperationRead) (o : Operation) (next : ℕ) → Ahead ops at r → r ≡ Found o next
+    → readOperation (drop at (bitsOfBytes ops)) ≡ read o (drop next (bitsOfBytes ops))
+read-found ops at r o next h e = h o next e .reads

@@ -1,17 +1,21 @@
--- What the parts and the note of a pack are, by each answer.
+-- What the fields, the parts and the note of a pack are, by each answer.
 -- Assumes nothing.
 use Prim.Native.Nat.{ℕ, _-_}
+use native.Mathlib.Omega.{arith}
 use mathlib.Core.List.{List}
 use mathlib.Core.Path.{_≡_, sym, ap, _∙_, subst}
 use lib.ListN.{length, take, drop, length-drop}
 use lib.Seq.{take-length}
+use Rattle.rules.specs.declared.Counts.{Counts}
 use Rattle.rules.specs.Later.{not-given, given, no-parts, parts, partsOf}
 use Rattle.wire.specs.declared.fields.PackParts.{PackParts}
 use Rattle.wire.specs.declared.fields.PackParts.the-variants.{Two, Three, Neither}
 use Rattle.rules.specs.Note.{takeNote}
 use Rattle.wire.specs.declared.fields.PackNote.{PackNote}
 use Rattle.wire.specs.declared.fields.PackNote.the-variants as N
-use Rattle.wire.specs.Fields.{ThirdAt, PartsTold, NoteAt, NoteTold}
+use Rattle.wire.specs.Fields.{PartFound, Parted, ThirdAt, PartsTold, NoteAt, NoteTold}
+use Rattle.wire.specs.declared.fields.PackFields.{PackFields}
+use Rattle.wire.specs.declared.fields.PackFields.the-variants.{Found, Refused}
 
 -- a part of some bytes that goes to their end
 to-end : (bs : List ℕ) (c : ℕ) → drop c bs ≡ take (length bs - c) (drop c bs)
@@ -43,3 +47,14 @@ module _ (bs : List ℕ) (r : PackNote) (h : NoteTold bs r) where
   pub told-contents : (b c : ℕ) → r ≡ N.At b c
       → takeNote bs ≡ record { before = take b bs; note = given (take (length bs - c) (drop c bs)) }
   told-contents b c e = told-note b c e .found ∙ (λ i. record { before = take b bs; note = given (to-end bs c i) })
+
+-- ---- the fields: found, or refused with one number
+pub found-never : (k : ℕ) (s : Counts) (a b : ℕ) → Found s a b ≡ Refused k → ⊥
+found-never k s a b e = let z : _≡_ {A = ℕ} 0 1 = cc in omega arith
+
+pub refused-same : (j k : ℕ) → Refused j ≡ Refused k → j ≡ k
+refused-same j k e = cc
+
+-- the part of the pack that holds the operations
+pub part-found : (bytes : List ℕ) (f : PackFields) (s : Counts) (a b : ℕ) → Parted bytes f → f ≡ Found s a b → PartFound bytes s a b
+part-found bytes f s a b p e = p s a b e

@@ -229,6 +229,19 @@ pub fn read_operation<'a>(r: OperationReader<'a>) -> OperationRead
     read_indices(r, code)
 }
 
+// The operation at a bit position of some bytes, for those who keep no reader.
+pub fn operation_at(bytes: &[u8], at: usize) -> OperationRead
+    ensures { λ s. ⌜ ReadIs (now (bytes .entry)) at s ⌝ }
+{
+    let code = three_at(bytes, at);
+    if is_plain(code) {
+        return plain_of(code);
+    }
+    let p = seven_at(bytes, next_of(code));
+    let j = ten_at(bytes, place_at(code, p));
+    indexed_of(code, p, j)
+}
+
 // Whether fewer than eight bits are left after a bit position, all of them zero: 19's test of the last byte.
 pub fn is_rest_zero(ops: &[u8], at: usize) -> bool
     ensures { λ r. ⌜ r ≡ restFits (drop at (bitsOfBytes (now (ops .entry)))) ⌝ }

@@ -73,7 +73,7 @@ pub record PartsFound (bytes two : List ℕ) (g : Given (List ℕ)) : Type 0 whe
   pub from : bytes ≡ two ++ laterBytes g
   pub fits : LaterFits g
 
-never-parts : {A : Type 0} {two : List ℕ} {g : Given (List ℕ)} → no-parts ≡ parts two g → A
+pub never-parts : {A : Type 0} {two : List ℕ} {g : Given (List ℕ)} → no-parts ≡ parts two g → A
 never-parts e = let z : _≡_ {A = ℕ} 0 1 = cc in absurd (omega arith)
 
 found-by : (bytes old two : List ℕ) (h g : Given (List ℕ)) → bytes ≡ old ++ laterBytes h → LaterFits h → parts old h ≡ parts two g

@@ -17,7 +17,7 @@ use Rattle.rules.specs.Note.{noteTag, withNote, NoteTaken, pastField, past, las
 use Rattle.wire_theory.specs.Shape.{Bytes}
 use Rattle.wire_theory.proofs.Lists.{below-rest}
 use Rattle.wire_theory.proofs.Fields.{take-field, field-found}
-use Rattle.wire_theory.proofs.Later.{front-part}
+use Rattle.wire_theory.proofs.Later.{front-part, never-parts}
 
 -- a field at the front of some bytes: three bytes, its contents cs, and the bytes ds; whatever follows these, it is found
 pub record Here (tag : ℕ) (bs cs ds : List ℕ) : Type 0 where
@@ -73,9 +73,6 @@ past-found tag bs cs ds e = ap (pastField bs) e
 pub record Others (bytes : List ℕ) : Type 0 where
   pub past-all : pastOthers bytes ≡ []
   pub before : (ns : List ℕ) → pastOthers (bytes ++ fieldOf noteTag ns) ≡ fieldOf noteTag ns
-
-never-parts : {A : Type 0} {two : List ℕ} {g : Given (List ℕ)} → no-parts ≡ parts two g → A
-never-parts e = let z : _≡_ {A = ℕ} 0 1 = cc in absurd (omega arith)
 
 no-positions : (ns : List ℕ) → past positionsTag (fieldOf noteTag ns) ≡ fieldOf noteTag ns
 unfolding takeField

@@ -149,7 +149,12 @@ extern "C" {
     // The search alone, of the library `search`.
     fn cutborder_link(v: usize, list: *const u16, len: usize, links: *mut Links) -> u32;
     fn cutborder_search(list: *const u16, len: usize, links: *const Links, p: u16, q: u16, found: *mut [u16; 3]) -> u32;
+    // The furnace's own reader, of the library `furnace`.
+    fn furnace_read(pack: *const u8, len: usize, memory: *mut Memory, six: *mut i64) -> u8;
 }
+
+/// What the furnace's own reader is lent.
+pub type Memory = [u8; 1_024];
 
 /// The links of a list: for each vertex its latest corner, for each corner the one before it.
 pub const LINKS: usize = 4_096 + 24_576;
@@ -189,6 +194,14 @@ pub fn volume(pack: &[u8], triangles: &mut [u16], places: &mut [Place]) -> Resul
     let n = unsafe { cutborder_volume(pack.as_ptr(), pack.len(), ts.0, ts.1, ps.0, ps.1, &mut model, &mut euler, &mut six) };
     verdict(n, model == [BEFORE.0; 5] && (euler, six) == (BEFORE.1, BEFORE.2))?;
     Ok((answer(model, euler), six))
+}
+
+/// The furnace's own reader: six times the volume. The memory may hold anything, before and afterwards.
+pub fn melt(pack: &[u8], memory: &mut Memory) -> Result<i64, Refusal> {
+    let mut six = BEFORE.2;
+    let n = unsafe { furnace_read(pack.as_ptr(), pack.len(), memory, &mut six) };
+    verdict(n.into(), six == BEFORE.2)?;
+    Ok(six)
 }
 
 /// What unpacking answers, and the note as a part of the pack; empty if there is none or the pack is refused.

@@ -1,8 +1,9 @@
-//! The compiled service compared with the second program on random input. `compare SEED SCALE`
+//! The compiled service and the furnace's own reader compared with the second program on random input. `compare SEED SCALE`
 //!
 //! Prints a line for each part; stops at the first difference with the input that shows it.
 
 mod building;
+mod melting;
 mod notes;
 mod packings;
 mod positions;
@@ -164,6 +165,15 @@ fn main() {
     part("packs with notes", || notes::ways(&mut rng, 300 * scale));
     part("several refusals of such packs", || notes::faults_together(&mut rng, 2_000 * scale));
     notes::packed_again(&mut rng, 2_000 * scale);
+    part("models for the furnace", || melting::models(&mut rng, 300 * scale));
+    part("faults of such packs", || melting::stated(&mut rng, 200 * scale));
+    part("two faults of such packs", || melting::faults_together(&mut rng, 30 * scale));
+    part("operations for the furnace", || melting::allowed(&mut rng, 1_000 * scale));
+    part("operations that break off", || melting::broken_off(&mut rng, 1_000 * scale));
+    part("packs without edge rule and fans", || melting::free(&mut rng, 2_000 * scale));
+    part("operations of two bytes", || melting::two_bytes(&mut rng));
+    part("changed bits, and cuts", || melting::changed(&mut rng, 10 * scale));
+    melting::told();
     part("packings", || packings::random(&mut rng, 2_000 * scale));
     part("several refusals at once", || packings::faults_together(&mut rng));
     let t = Instant::now();

@@ -1,6 +1,7 @@
 //! Packs with a note, changed in every way that 12 and 25 refuse, each way named and met. Unpacking and the volume call take no notice of
 //! a note that fits, and the bench reader hands it back.
 
+use crate::melting::comes_to;
 use crate::positions::{arranged, buffers_for, each_way, parts, refused, Arrangement};
 use crate::unpackings::{buffers, read, unpacked, Lent};
 use crate::{count, met, Tally};
@@ -82,8 +83,8 @@ struct Seen {
     tally: Tally,
 }
 
-/// A pack without a note, followed by notes that fit: unpacking and the volume call answer and write as without one, and the bench reader
-/// hands the note back if unpacking accepts.
+/// A pack without a note, followed by notes that fit: unpacking, the volume call and the furnace's reader answer and write as without one,
+/// and the bench reader hands the note back if unpacking accepts.
 fn unnoticed(rng: &mut Rng, fit: &[Way<u8>], b: &[u8], before: &Lent, ways: &mut Kinds, tally: &mut Tally) {
     let without = read(b, before);
     assert!(without.note.is_empty(), "a note of pack {b:02x?}");
@@ -91,7 +92,7 @@ fn unnoticed(rng: &mut Rng, fit: &[Way<u8>], b: &[u8], before: &Lent, ways: &mut
     for (way, note) in each_way(rng, fit, &note) {
         let noted = with_note(b, &note);
         let with = read(&noted, before);
-        assert!(with.unpacked == without.unpacked && with.measured == without.measured, "{way}: pack {noted:02x?}");
+        assert!(with.is_as(&without) && with.melted == without.melted, "{way}: pack {noted:02x?}");
         assert_eq!(with.note, if with.unpacked.0.is_ok() { &note[..] } else { &[] }, "{way}: pack {noted:02x?}");
         kinds::count(ways, way);
         count(tally, &with.unpacked.0);
@@ -168,7 +169,8 @@ fn followed(rng: &mut Rng, tally: &mut Tally) {
     let (without, with) = (read(&b, &before), read(&noted, &before));
     let unpacked = without.unpacked.0;
     assert_eq!(with.unpacked.0.err(), Some(unpacked.err().unwrap_or(25)), "pack {noted:02x?}");
-    assert!(unpacked.is_ok() || with == without, "pack {noted:02x?}");
+    assert!(unpacked.is_ok() || with.is_as(&without) && with.note == without.note, "pack {noted:02x?}");
+    assert_eq!(with.melted, Err(comes_to(25, without.melted)), "pack {noted:02x?}");
     count(tally, &with.unpacked.0);
 }
 

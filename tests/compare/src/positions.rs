@@ -1,5 +1,6 @@
 //! Packs with positions, changed in every way that 12, 23 and 24 refuse, each way named and met; and what 02 says of volumes.
 
+use crate::melting::{comes_to, is_over, melted};
 use crate::unpackings::{buffers, measured, read, unpacked, Lent};
 use crate::{count, met, used_places, Tally};
 use compare::expected::{self, contents_of, stated_triangles, with_field, Way, UNFIT};
@@ -30,7 +31,7 @@ pub fn arranged<const N: usize>(rng: &mut Rng, ways: &[Arrangement<N>], parts: [
 }
 
 /// Ways for 12: field 03 is not in its place, whole, once, or what follows it is no field.
-const MISPLACED: [Arrangement<3>; 15] = [
+const MISPLACED: [Arrangement<3>; 17] = [
     ("12: field 03 twice", |_, [counts, ops, three]| [counts, ops, three, three].concat()),
     ("12: field 03 twice, once before 02", |_, [counts, ops, three]| [counts, three, ops, three].concat()),
     ("12: field 03 before 02", |_, [counts, ops, three]| [counts, three, ops].concat()),
@@ -46,12 +47,18 @@ const MISPLACED: [Arrangement<3>; 15] = [
     ("12: another tag for 03", |rng, [counts, ops, three]| [counts, ops, &[[0, 1, 2, 5, 0x83][rng.below(5)]], &three[1..]].concat()),
     ("12: 02 again after field 03", |_, [counts, ops, three]| [counts, ops, three, ops].concat()),
     ("12: field 01 has seven bytes", |_, [counts, ops, three]| [&[1, 0, 7][..], &counts[3..10], ops, three].concat()),
+    ("12: field 01 has nine bytes", |_, [counts, ops, three]| [&[1, 0, 9][..], &counts[3..], &[0], ops, three].concat()),
+    ("12: field 05 before 02", |_, [counts, ops, three]| [counts, &[5, 0, 8, 0, 1, 2, 3, 4, 5, 7, 6], ops, three].concat()),
 ];
 
-/// Ways to change the contents of a field so that 23 refuses them, beside those of positions.
-const UNFIT_BYTES: [Way<u8>; 3] = [
+/// Ways to change the contents of a field so that 23 refuses them, beside those of positions; one has a length whose low byte would do.
+const UNFIT_BYTES: [Way<u8>; 5] = [
     ("23: a byte less", |_, contents| contents.truncate(contents.len() - 1)),
     ("23: a byte more", |_, contents| contents.push(0)),
+    ("23: 256 bytes more", |_, contents| contents.resize(contents.len() + 256, 0)),
+    ("23: all at the ends of 16 bits", |rng, contents| {
+        contents.chunks_mut(2).for_each(|z| z.copy_from_slice(if rng.chance(1, 2) { &[0x80, 0] } else { &[0x7f, 0xff] }))
+    }),
     ("23: the longest field", |_, contents| contents.resize(65_535, 0)),
 ];
 
@@ -105,7 +112,8 @@ pub fn buffers_for(b: &[u8]) -> Lent {
     Lent { triangles: vec![7; 3 * stated_triangles(b) + 2], places: used_places(1_025) }
 }
 
-/// A pack that all three calls refuse, or if it is 24 the volume call alone, in ample buffers.
+/// A pack that all calls refuse, or if it is 24 the volume call and the furnace's reader, in ample buffers. The way is met if the peaks
+/// are not too large for the reader.
 pub fn refused(way: &'static str, refusal: Refusal, b: &[u8], ways: &mut Kinds, tally: &mut Tally) {
     let before = buffers_for(b);
     let found = read(b, &before);
@@ -114,8 +122,13 @@ pub fn refused(way: &'static str, refusal: Refusal, b: &[u8], ways: &mut Kinds, 
     assert!(leaves(refusal, b, &before, &left), "{way}: buffers of pack {b:02x?}");
     assert_eq!(unpacked.err(), Some(refusal).filter(|&n| n != 24), "{way}, pack {b:02x?}");
     assert!(refusal == 24 || leaves(refusal, b, &before, &left_too), "{way}: buffers of pack {b:02x?}");
-    kinds::count(ways, way);
     count(tally, &Err::<(), _>(refusal));
+    if is_over(b) {
+        assert_eq!(found.melted, Err(26), "{way}, pack {b:02x?}");
+    } else {
+        assert_eq!(found.melted, Err(refusal), "{way}, pack {b:02x?}");
+        kinds::count(ways, way);
+    }
 }
 
 /// A model's packs with and without positions, and each way to change them.
@@ -127,7 +140,7 @@ fn changed(rng: &mut Rng, m: &Model, ways: &mut Kinds, tally: &mut Tally) {
     for (b, given) in [(&two, false), (&whole, true)] {
         match unmeasured(given, rims) {
             Some(way) => refused(way, 24, b, ways, tally),
-            None => count(tally, &measured(b, &buffers_for(b)).0),
+            None => count(tally, &read(b, &buffers_for(b)).measured.0),
         }
     }
     arranged(rng, &MISPLACED, parts(&whole)).iter().for_each(|(way, b)| refused(way, 12, b, ways, tally));
@@ -168,6 +181,7 @@ fn earlier(rng: &mut Rng, tally: &mut Tally) {
     let (unpacked, measured) = (unpacked(&whole, &before), measured(&whole, &before));
     assert_eq!((unpacked.0.err(), measured.0.err()), (Some(n), Some(n)), "pack {whole:02x?}");
     assert!(unpacked.1 == after && measured.1 == after, "buffers of pack {whole:02x?}");
+    assert_eq!(melted(&whole), Err(comes_to(23, melted(&two))), "pack {whole:02x?}");
     count(tally, &Err::<(), _>(n));
 }
 
@@ -188,6 +202,7 @@ fn six(m: &Model, positions: &[i32]) -> Option<i64> {
     let mut lent = Buffers::ample(m.v as usize, m.list.len() / 3);
     let n = pack(m.v as usize, &m.list, Some(&narrow(positions)), lent.lend()).ok()?;
     let mut triangles = vec![0; m.list.len()];
+    let _ = melted(&lent.pack[..n]);
     volume(&lent.pack[..n], &mut triangles, &mut lent.places).ok().map(|(_, six)| six)
 }
 

@@ -1,6 +1,7 @@
 //! The calls that read a pack, unpacking, the volume call and the bench reader, compared with the second program: the answers and both
-//! buffers afterwards.
+//! buffers afterwards. And what the furnace's own reader answers.
 
+use crate::melting::melted;
 use crate::{count, met, models, records, used_places, Tally};
 use compare::expected::{self, LEVEL};
 use compare::kinds::{self, Kinds};
@@ -33,20 +34,27 @@ fn alike<'a, A: Debug + PartialEq>(b: &'a [u8], before: &Lent, ours: Call<'a, A>
     (answer, lent)
 }
 
-/// What unpacking and the volume call answer and leave, and the note.
-#[derive(PartialEq)]
+/// What unpacking and the volume call answer and leave, the note, and what the furnace's reader answers.
 pub struct Read<'a> {
     pub unpacked: (Result<Answer, Refusal>, Lent),
     pub measured: (Result<(Answer, i64), Refusal>, Lent),
     pub note: &'a [u8],
+    pub melted: Result<i64, Refusal>,
 }
 
-/// A pack read by all three calls; the bench reader answers and writes as unpacking.
+impl Read<'_> {
+    /// Whether unpacking and the volume call answer and leave the same.
+    pub fn is_as(&self, other: &Read) -> bool {
+        self.unpacked == other.unpacked && self.measured == other.measured
+    }
+}
+
+/// A pack read by all four calls; the bench reader answers and writes as unpacking.
 pub fn read<'a>(b: &'a [u8], before: &Lent) -> Read<'a> {
     let (unpacked, measured) = (unpacked(b, before), measured(b, before));
     let ((answer, note), after) = alike(b, before, bench, expected::bench);
     assert!(answer == unpacked.0 && after == unpacked.1, "the bench reader and unpacking differ, pack {b:02x?}");
-    Read { unpacked, measured, note }
+    Read { unpacked, measured, note, melted: melted(b) }
 }
 
 pub fn unpacked(b: &[u8], before: &Lent) -> (Result<Answer, Refusal>, Lent) {
@@ -76,7 +84,7 @@ struct Seen {
 /// Some bytes read in buffers of some length.
 fn unpacking(rng: &mut Rng, b: &[u8], fast: &mut Unpacker, seen: &mut Seen) {
     let before = buffers(rng, b);
-    let Read { unpacked: (answer, after), measured, note } = read(b, &before);
+    let Read { unpacked: (answer, after), measured, note, .. } = read(b, &before);
     count(&mut seen.unpacks, &answer);
     count(&mut seen.volumes, &measured.0);
     seen.notes += usize::from(!note.is_empty());

@@ -2,7 +2,7 @@
 
 use crate::expected::LIMITS;
 use crate::lines::record;
-use crate::second::{Building, PackBuffers, Packing, UnpackBuffers, Unpacking, Whole};
+use crate::second::{Building, Melting, PackBuffers, Packing, UnpackBuffers, Unpacking, Whole};
 use cutborder::across::across;
 use cutborder::book::Book;
 use cutborder::ops::{pack_bytes, Counts};
@@ -141,6 +141,12 @@ pub fn whole(x: &Whole) -> String {
         ("note", numbers(&x.note)),
         ("start", x.start.to_string()),
     ])
+}
+
+/// A pack read by the furnace's own reader.
+pub fn melting(x: &Melting) -> String {
+    let told = x.told.map_or_else(|n| format!("Refused {n}"), |six| format!("Six {}", integer(six)));
+    record(&[("bytes", numbers(&x.bytes)), ("told", told)])
 }
 
 fn call(line: &str) -> String {

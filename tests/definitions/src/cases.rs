@@ -1,10 +1,10 @@
-//! Random cases: models, damaged lists, packs, damaged packs, lists of calls, looks across an edge, and models and packs with positions
-//! and a note.
+//! Random cases: models, damaged lists, packs, damaged packs, lists of calls, looks across an edge, models and packs with positions and a
+//! note, and packs for the furnace's reader.
 
 use crate::antt;
 use crate::expected::{self, LIMITS};
 use crate::prelude::{prelude, Home};
-use crate::second::{Building, Extras, PackBuffers, Packing, UnpackBuffers, Unpacking, Whole};
+use crate::second::{Building, Extras, Melting, PackBuffers, Packing, UnpackBuffers, Unpacking, Whole};
 use cutborder::gen::{self, Model};
 use cutborder::rng::Rng;
 use cutborder::{gen02, Place};
@@ -114,6 +114,13 @@ pub fn whole(rng: &mut Rng) -> Whole {
     Whole::new(&bytes, UnpackBuffers { triangles, places })
 }
 
+/// A pack read by the furnace's own reader: one of any kind, or one with operations that the edge rule may refuse.
+pub fn melting(rng: &mut Rng) -> Melting {
+    let any = rng.chance(1, 3);
+    let draw = || if any { expected::random_whole_pack(rng) } else { expected::random_free_pack(rng) };
+    Melting::new(&short(260, draw, |b| b))
+}
+
 pub fn building(rng: &mut Rng, max_t: usize) -> Building {
     Building::new(&short(300, || expected::random_calls(rng, max_t), |c| c))
 }
@@ -136,12 +143,13 @@ pub fn module(seed: u64, count: usize) -> String {
     for i in 0..count {
         let mut r = rng.fork();
         let max_t = [4, 8, 14, 20][r.below(4)];
-        let (kind, right, row) = match i % 6 {
+        let (kind, right, row) = match i % 7 {
             0 => ("PackRow", "packRight", antt::packing(&packing(&mut r, max_t))),
             1 => ("UnpackRow", "unpackRight", antt::unpacking(&unpacking(&mut r, max_t))),
             2 => ("CallRow", "callsRight", antt::building(&building(&mut r, max_t))),
             3 => ("WholePackRow", "wholePackRight", antt::whole_packing(&whole_packing(&mut r, max_t))),
             4 => ("WholeRow", "wholeRight", antt::whole(&whole(&mut r))),
+            5 => ("MeltRow", "meltRight", antt::melting(&melting(&mut r))),
             _ => ("List LookRow", "allRight lookRight", looks(&mut r)),
         };
         out += &format!("\nabbrev row{i} : {kind}\nrow{i} =\n    {row}\n\npub case{i} : T ({right} row{i})\n{unfolding}\ncase{i} = tt\n");

@@ -13,6 +13,7 @@ mod edit;
 #[allow(dead_code)]
 #[path = "../../expected.rs"]
 mod expected;
+mod furnace;
 mod lines;
 mod notes;
 mod positions;

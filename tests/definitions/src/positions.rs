@@ -44,8 +44,8 @@ fn pack_row(name: &str, limits: (u32, u32), line: &str, positions: Option<Vec<i3
 
 pub const TRIANGLE: &str = "3 0 1 2";
 pub const TETRAHEDRON: &str = "4 0 1 2 1 0 3 2 1 3 0 2 3";
-const TURNED: &str = "4 1 0 2 0 1 3 1 2 3 2 0 3";
-const TORUS: &str = "7 0 1 3 1 2 4 2 3 5 3 4 6 4 5 0 5 6 1 6 0 2 1 0 5 2 1 6 3 2 0 4 3 1 5 4 2 6 5 3 0 6 4";
+pub const TURNED: &str = "4 1 0 2 0 1 3 1 2 3 2 0 3";
+pub const TORUS: &str = "7 0 1 3 1 2 4 2 3 5 3 4 6 4 5 0 5 6 1 6 0 2 1 0 5 2 1 6 3 2 0 4 3 1 5 4 2 6 5 3 0 6 4";
 
 /// Models that are packed with positions.
 const PACKED: [(&str, &str); 8] = [
@@ -143,9 +143,11 @@ pub fn packed(line: &str, positions: &[i32]) -> Vec<u8> {
     x.left.pack[..x.answer.expect("a pack")].to_vec()
 }
 
+/// A corner at 0 and one at 5 of each axis.
+pub const FIVE: [i32; 12] = [0, 0, 0, 5, 0, 0, 0, 5, 0, 0, 0, 5];
+
 /// Models without a rim, the first three with a volume that is known by hand, and models with one.
 fn volumes() -> Vec<Row> {
-    let five = [0, 0, 0, 5, 0, 0, 0, 5, 0, 0, 0, 5];
     let cube = "8 0 2 1 1 2 3 4 5 6 5 7 6 0 1 4 1 5 4 2 6 3 3 6 7 0 4 2 2 4 6 1 3 5 3 7 5";
     let corners: Vec<i32> = (0..24).map(|i| if (i / 3) >> (i % 3) & 1 == 0 { -2_048 } else { 2_047 }).collect();
     let row = |name: &str, line: &str, positions: &[i32]| {
@@ -153,8 +155,8 @@ fn volumes() -> Vec<Row> {
         whole_row(name, &packed(line, positions), 3 * t + 3, 1_024)
     };
     vec![
-        row("volume of M2, corners at 0 and at 5 of each axis: only 2 1 3 is away from 0, rows 0 5 0, 5 0 0, 0 0 5", TETRAHEDRON, &five),
-        row("volume of M2, the same turned inside out", TURNED, &five),
+        row("volume of M2, corners at 0 and at 5 of each axis: only 2 1 3 is away from 0, rows 0 5 0, 5 0 0, 0 0 5", TETRAHEDRON, &FIVE),
+        row("volume of M2, the same turned inside out", TURNED, &FIVE),
         row("volume of the largest cube, six times 4,095 x 4,095 x 4,095", cube, &corners),
         row("volume of M2, different numbers", TETRAHEDRON, &different(4)),
         row("volume of M4", "3 0 1 2 1 0 2", &different(3)),

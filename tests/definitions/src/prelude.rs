@@ -45,12 +45,13 @@ use lib.ListN.{{replicate}}
 use lib.Dec.{{T}}
 use lib.IntN.{{pos, negsuc}}
 use {specs}.declared.Operation.the-variants.{{New, Forward, Backward, Border, Split, Close, Union, Start}}
+use {specs}.declared.Melted.the-variants.{{Six, Refused}}
 use {specs}.Triangle.{{tri}}
 use {specs}.Answer.{{refusal, accepted, triangle, no-triangle, numbers, packed}}
 use {specs}.Book.{{begin, operate, finish}}
 use {specs}.Pack.{{most}}
 use {specs}.Later.{{not-given, given}}
-use {proofs}.Rows.{{PackRow, UnpackRow, CallRow, FieldsRow, LookRow, WholePackRow, WholeRow}}
+use {proofs}.Rows.{{PackRow, UnpackRow, CallRow, FieldsRow, LookRow, WholePackRow, WholeRow, MeltRow}}
 use {proofs}.Rows.{{place, packLent, unpackLent, unpackTold, volumeTold, lengths, counts, totalsOf, modelOf}}
 "
     );

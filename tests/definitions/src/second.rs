@@ -160,6 +160,18 @@ impl Whole {
     }
 }
 
+/// A pack read by the furnace's own reader.
+pub struct Melting {
+    pub bytes: Vec<u8>,
+    pub told: Result<i64, Refusal>,
+}
+
+impl Melting {
+    pub fn new(bytes: &[u8]) -> Melting {
+        Melting { bytes: bytes.to_vec(), told: expected::melt(bytes) }
+    }
+}
+
 /// A list of calls in the second program's words; every beginning has the same buffer lengths.
 pub struct Building {
     pub lengths: (usize, usize),

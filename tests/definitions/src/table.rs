@@ -2,6 +2,7 @@
 
 use crate::antt;
 use crate::expected::{self, LIMITS};
+use crate::furnace;
 use crate::lines;
 use crate::notes;
 use crate::positions;
@@ -327,6 +328,7 @@ pub fn module() -> String {
         ("lookRows", "LookRow", "lookRight", looks()),
         ("wholePackRows", "WholePackRow", "wholePackRight", [positions::packings(), notes::packings()].concat()),
         ("wholeRows", "WholeRow", "wholeRight", [positions::packs(), notes::packs()].concat()),
+        ("meltRows", "MeltRow", "meltRight", furnace::packs()),
     ];
     let (uses, unfolding) = prelude(&Home::Rules, &sections.each_ref().map(|s| s.0));
     let mut out = String::from(

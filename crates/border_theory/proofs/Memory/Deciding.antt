@@ -12,8 +12,9 @@ use Rattle.rules.specs.declared.Counts.{Counts}
 use Rattle.rules.specs.declared.Operation.{Operation}
 use Rattle.rules.specs.Triangle.{Edge}
 use Rattle.rules.specs.Ring.{Ring, places}
-use Rattle.rules.specs.Table.{Side, glued, fresh, Effect, not-allowed, builds, marks, effect, edgeRule}
+use Rattle.rules.specs.Table.{Side, glued, fresh, Building, Effect, not-allowed, builds, marks, effect, edgeRule}
 use Rattle.rules.specs.Machine.{Machine, freshSides, afterBuild, afterMark, built, declared, test, within, done, operation}
+use Rattle.rules.specs.Furnace.{doneFreely}
 use Rattle.book.proofs.Parts.{buildingOf, markingOf}
 use Rattle.book.specs.Consistent.{AllCurrent, Ranges}
 use Rattle.book.proofs.Effects as effects
@@ -29,7 +30,7 @@ use Rattle.border_theory.specs.Memory.Stands.{ringsIn, loopsIn, StandsAt
 use Rattle.border_theory.specs.Memory.Moves.{Held, markedHeld}
 use Rattle.border_theory.specs.Memory.Decision.{proposed, newEdges, roomFor, roomBy, decidedBy, decided, sideOf, heldAfter}
 use Rattle.border_theory.specs.Memory.Decision.{builtFront, markedFront}
-use Rattle.border_theory.specs.Memory.Keeps.{Keeps, Decides}
+use Rattle.border_theory.specs.Memory.Keeps.{Keeps, Decides, DecidesFreely}
 use Rattle.rules.specs.Places.{ringsAfter}
 use Rattle.border_theory.specs.Memory.Touched.{takenBy, Rearranged}
 use Rattle.border_theory.proofs.Memory.Standing.{rings-read}
@@ -215,13 +216,69 @@ module _ (n : ℕ) (s : Front) (m : List ℕ) (M : Machine) (k : Keeps n s m M) 
         places = rearranged o (markedHeld n (s .loops) m) (marks y) (p .moves);
       })
 
+  -- the same with no edge rule
+  by-room-freely : (o : Operation) (g : Building) → effect o (M .used) (M .loops) ≡ builds g → (p : Plan)
+      → PlanIs p (g .triangle) (g .sides .pq) (g .sides .qr) (g .sides .rp) (g .added .vertices) (g .added .starts) (g .added .unions)
+      → (places (g .loops) ≤ n → 5 * n + 2 * length (g .loops) ≤ length m
+      → Moved n (s .loops) m (heldAfter n s m o p) (next o) (builds g)) → (r : Bool)
+      → within (afterBuild M g) ≡ r → DecidesFreely n s m M o (roomBy r p)
+  unfolding doneFreely test
+  by-room-freely o g e p i moves true w =
+      let c = within-each (afterBuild M g) w in
+      let d =
+      moves (omega (arith, c .places, ap (λ (r : Counts). r .places) (k .stated), k .roomy .enough))
+      (omega (arith, c .loops, ap (λ (r : Counts). r .loops) (k .stated), k .roomy .long)) in
+      record {
+        building = g;
+        effects = e;
+        triangle = sym (i .triangle);
+        fits = w;
+        keeps = keeps-built (g .loops) (g .triangle) (g .sides .pq) (g .sides .qr) (g .sides .rp) (g .added .vertices) (g .added .starts)
+            (g .added .unions) p (heldAfter n s m o p) i (next o) d;
+      }
+  by-room-freely o g e p i moves false w =
+      ap (doneFreely M) e ∙ ap (λ (r : Bool). test r 17 (built (g .triangle) (afterBuild M g))) w
+
+  decides-freely-by : (o : Operation) (E : Effect) (d : Decided) → effect o (M .used) (M .loops) ≡ E → within M ≡ true
+      → effects.Law (s .used) (M .loops) E → Proposes n s m o (next o) d E → DecidesFreely n s m M o (decidedBy n s d)
+  unfolding doneFreely
+  decides-freely-by o not-allowed d e w l p = rw p (ap (doneFreely M) e)
+  decides-freely-by o (builds g) d e w l p =
+      let i = p .is in
+      rw (
+        i,
+        room-same (g .loops) (g .triangle) (g .sides .pq) (g .sides .qr) (g .sides .rp) (g .added .vertices) (g .added .starts)
+            (g .added .unions) (p .plan) (p .same) l,
+      )
+      (by-room-freely o g e (p .plan) (p .same) (p .moves) (within (afterBuild M g)) refl)
+  decides-freely-by o (marks y) d e w l p =
+      let i = p .is in
+      rw i
+      (record {
+        marking = y;
+        effects = e;
+        fits = mark-within (y .loops) (y .edge) (y .rims) l w;
+        keeps = keeps-marked (y .loops) (y .edge) (y .rims) (markedHeld n (s .loops) m) l (next o) (p .moves);
+      })
+
+  -- the current edge of each of the machine's loops is open
+  pub keeps-current : AllCurrent (M .loops)
+  keeps-current = rw (k .loops) (current-names (verticesOf n m) (ringsIn n (s .loops) m) (k .stands .sound))
+
+  proposal : (o : Operation) → Proposes n s m o (next o) (proposed n s m o) (effect o (s .used) (M .loops))
+  proposal o =
+      subst (λ (ls : List Ring). Proposes n s m o (next o) (proposed n s m o) (effect o (s .used) ls)) (sym (k .loops))
+      (proposes n s m o (ringsIn n (s .loops) m) (k .stands))
+
   -- the theorem
   pub decides : (o : Operation) → Ranges M → Decides n s m M o (decided n s m o)
   unfolding decided
   decides o r =
-      let E : Effect = effect o (s .used) (M .loops) in
-      let current : AllCurrent (M .loops) = rw (k .loops) (current-names (verticesOf n m) (ringsIn n (s .loops) m) (k .stands .sound)) in
-      decides-by o E (proposed n s m o) (ap (λ (u : ℕ). done M (effect o u (M .loops))) (k .used)) (r .counts)
-      (effects.effect-law o (s .used) (M .loops) current)
-      (subst (λ (ls : List Ring). Proposes n s m o (next o) (proposed n s m o) (effect o (s .used) ls)) (sym (k .loops))
-      (proposes n s m o (ringsIn n (s .loops) m) (k .stands)))
+      decides-by o (effect o (s .used) (M .loops)) (proposed n s m o) (ap (λ (u : ℕ). done M (effect o u (M .loops))) (k .used))
+      (r .counts) (effects.effect-law o (s .used) (M .loops) keeps-current) (proposal o)
+
+  pub decides-freely : (o : Operation) → within M ≡ true → DecidesFreely n s m M o (decided n s m o)
+  unfolding decided
+  decides-freely o w =
+      decides-freely-by o (effect o (s .used) (M .loops)) (proposed n s m o) (ap (λ (u : ℕ). effect o u (M .loops)) (k .used))
+      w (effects.effect-law o (s .used) (M .loops) keeps-current) (proposal o)

@@ -1,13 +1,15 @@
 -- A state and a memory that keep a machine.
 -- Assumes nothing.
 use Prim.Native.Nat.{ℕ, _+_, _*_, _≤_}
+use mathlib.Core.Bool.{true}
 use mathlib.Core.List.{List}
 use mathlib.Core.Path.{_≡_}
 use lib.ListN.{length}
 use Rattle.rules.specs.declared.Operation.{Operation}
 use Rattle.rules.specs.Triangle.{edge}
-use Rattle.rules.specs.Table.{edgeRule}
-use Rattle.rules.specs.Machine.{Machine, refused, built, declared, test, operation}
+use Rattle.rules.specs.Table.{Building, Marking, builds, marks, effect, edgeRule}
+use Rattle.rules.specs.Machine.{Machine, afterBuild, afterMark, refused, built, declared, test, within, operation}
+use Rattle.rules.specs.Furnace.{operationFreely}
 use Rattle.rules.specs.Limits.{maxLoops, maxNumbers, maxPlaces, maxTriangles, maxVertices}
 use Rattle.cutborder.specs.declared.Front.{Front}
 use Rattle.cutborder.specs.declared.Plan.{Plan}
@@ -80,3 +82,22 @@ abbrev pub Decides : ℕ → Front → List ℕ → Machine → Operation → De
 Decides n s m M o (Refused k) = operation M o ≡ refused k
 Decides n s m M o (Builds p) = BuildsIt n s m M o p
 Decides n s m M o (Marks x y) = MarksIt n s m M o x y
+
+-- the same of the machine without the edge rule: what the operation does, and that it has room
+pub record BuildsFreely (n : ℕ) (s : Front) (m : List ℕ) (M : Machine) (o : Operation) (p : Plan) : Type 0 where
+  pub building : Building
+  pub effects : effect o (M .used) (M .loops) ≡ builds building
+  pub triangle : building .triangle ≡ p .triangle
+  pub fits : within (afterBuild M building) ≡ true
+  pub keeps : Keeps n (builtFront n s p (heldAfter n s m o p .loops)) (heldAfter n s m o p .memory) (afterBuild M building)
+
+pub record MarksFreely (n : ℕ) (s : Front) (m : List ℕ) (M : Machine) (o : Operation) : Type 0 where
+  pub marking : Marking
+  pub effects : effect o (M .used) (M .loops) ≡ marks marking
+  pub fits : within (afterMark M marking) ≡ true
+  pub keeps : Keeps n (markedFront n s (markedHeld n (s .loops) m .loops)) (markedHeld n (s .loops) m .memory) (afterMark M marking)
+
+abbrev pub DecidesFreely : ℕ → Front → List ℕ → Machine → Operation → Decided → Type 0
+DecidesFreely n s m M o (Refused k) = operationFreely M o ≡ refused k
+DecidesFreely n s m M o (Builds p) = BuildsFreely n s m M o p
+DecidesFreely n s m M o (Marks x y) = MarksFreely n s m M o

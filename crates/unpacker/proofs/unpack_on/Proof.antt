@@ -8,7 +8,8 @@ use borrow.Author.Needs.{needs}
 use borrow.Author.Tests.{not-true, not-false}
 use Rattle.unpack_theory.proofs.Lending.{long-list}
 use Rattle.unpack_theory.proofs.Unpacking.{short-on, run-on}
-use Rattle.unpacker.proofs.Fielding.{refused-on, part-found}
+use Rattle.unpacker.proofs.Fielding.{refused-on}
+use Rattle.wire.proofs.Told.{part-found}
 use Rattle.unpacker.proofs.unpack_on.Statement.{statement}
 use Rattle.unpacker.proofs.unpack_on.Tie as tie
 

@@ -2,7 +2,7 @@
 -- Assumes nothing.
 use native.Mathlib.Omega.{arith}
 use Rattle.border_theory.proofs.Memory.Near.{near-e}
-use Rattle.border.proofs.Planning.{plan-near, backward-small, backward-marked, backward-three, backward-builds}
+use Rattle.border_theory.proofs.Ways.Planning.{plan-near, backward-small, backward-marked, backward-three, backward-builds}
 use borrow.Author.Needs.{needs}
 use Rattle.border.proofs.plan.backward_plan.Statement.{statement}
 use Rattle.border.proofs.plan.backward_plan.Tie as tie

@@ -2,7 +2,7 @@
 -- Assumes nothing.
 use native.Mathlib.Omega.{arith}
 use Rattle.border_theory.proofs.Memory.Near.{near-e, near-f}
-use Rattle.border.proofs.Planning.{border-marks}
+use Rattle.border_theory.proofs.Ways.Planning.{border-marks}
 use Rattle.border.proofs.plan.border_plan.Statement.{statement}
 use Rattle.border.proofs.plan.border_plan.Tie as tie
 

@@ -2,7 +2,7 @@
 -- Assumes nothing.
 use native.Mathlib.Omega.{arith}
 use Rattle.border_theory.proofs.Memory.Near.{near-e, near-f, near-next}
-use Rattle.border.proofs.Planning.{plan-near, close-other, close-first, close-second, close-builds}
+use Rattle.border_theory.proofs.Ways.Planning.{plan-near, close-other, close-first, close-second, close-builds}
 use Rattle.border.proofs.plan.close_plan.Statement.{statement}
 use Rattle.border.proofs.plan.close_plan.Tie as tie
 

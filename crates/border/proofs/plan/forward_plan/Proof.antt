@@ -2,7 +2,7 @@
 -- Assumes nothing.
 use native.Mathlib.Omega.{arith}
 use Rattle.border_theory.proofs.Memory.Near.{near-e, near-f, near-next}
-use Rattle.border.proofs.Planning.{plan-near, forward-small, forward-marked, forward-three, forward-builds}
+use Rattle.border_theory.proofs.Ways.Planning.{plan-near, forward-small, forward-marked, forward-three, forward-builds}
 use Rattle.border.proofs.plan.forward_plan.Statement.{statement}
 use Rattle.border.proofs.plan.forward_plan.Tie as tie
 

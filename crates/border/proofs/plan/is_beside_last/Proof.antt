@@ -2,7 +2,7 @@
 -- Assumes nothing.
 use native.Mathlib.Omega.{arith}
 use Rattle.border_theory.proofs.Memory.Near.{near-e}
-use Rattle.border.proofs.Planning.{beside-last-other, beside-last-is}
+use Rattle.border_theory.proofs.Ways.Planning.{beside-last-other, beside-last-is}
 use borrow.Author.Needs.{needs}
 use Rattle.border.proofs.plan.is_beside_last.Statement.{statement}
 use Rattle.border.proofs.plan.is_beside_last.Tie as tie

@@ -2,7 +2,7 @@
 -- Assumes nothing.
 use native.Mathlib.Omega.{arith}
 use Rattle.border_theory.proofs.Memory.Near.{near-e, near-f}
-use Rattle.border.proofs.Planning.{beside-next-other, beside-next-is}
+use Rattle.border_theory.proofs.Ways.Planning.{beside-next-other, beside-next-is}
 use Rattle.border.proofs.plan.is_beside_next.Statement.{statement}
 use Rattle.border.proofs.plan.is_beside_next.Tie as tie
 

@@ -2,7 +2,7 @@
 -- Assumes nothing.
 use native.Mathlib.Omega.{arith}
 use Rattle.border_theory.proofs.Memory.Near.{near-e, near-f, near-next}
-use Rattle.border.proofs.Planning.{three-other, three-first, three-is}
+use Rattle.border_theory.proofs.Ways.Planning.{three-other, three-first, three-is}
 use Rattle.border.proofs.plan.is_three.Statement.{statement}
 use Rattle.border.proofs.plan.is_three.Tie as tie
 

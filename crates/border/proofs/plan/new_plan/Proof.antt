@@ -1,6 +1,6 @@
 -- `border::plan::new_plan` meets its contract.
 -- Assumes nothing.
-use Rattle.border.proofs.Planning.{plan-near, new-builds}
+use Rattle.border_theory.proofs.Ways.Planning.{plan-near, new-builds}
 use Rattle.border.proofs.plan.new_plan.Statement.{statement}
 use Rattle.border.proofs.plan.new_plan.Tie as tie
 

@@ -1,6 +1,6 @@
 -- `border::plan::plan_at` meets its contract.
 -- Assumes nothing.
-use Rattle.border.proofs.Planning.{plan-is}
+use Rattle.border_theory.proofs.Ways.Planning.{plan-is}
 use borrow.Author.Needs.{needs}
 use Rattle.border.proofs.plan.plan_at.Statement.{statement}
 use Rattle.border.proofs.plan.plan_at.Tie as tie

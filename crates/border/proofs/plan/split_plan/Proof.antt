@@ -2,7 +2,8 @@
 -- Assumes nothing.
 use native.Mathlib.Omega.{arith}
 use Rattle.border_theory.proofs.Memory.Near.{near-e}
-use Rattle.border.proofs.Planning.{plan-near, split-near, split-place, split-low, split-high, split-next, split-last, split-builds}
+use Rattle.border_theory.proofs.Ways.Planning.{plan-near, split-near, split-place, split-low, split-high, split-next, split-last}
+use Rattle.border_theory.proofs.Ways.Planning.{split-builds}
 use borrow.Author.Needs.{needs}
 use Rattle.border.proofs.plan.split_plan.Statement.{statement}
 use Rattle.border.proofs.plan.split_plan.Tie as tie

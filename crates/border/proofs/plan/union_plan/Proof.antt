@@ -1,6 +1,6 @@
 -- `border::plan::union_plan` meets its contract.
 -- Assumes nothing.
-use Rattle.border.proofs.Planning.{plan-near, union-near, union-place, union-low, union-high, union-far, union-builds}
+use Rattle.border_theory.proofs.Ways.Planning.{plan-near, union-near, union-place, union-low, union-high, union-far, union-builds}
 use borrow.Author.Needs.{needs}
 use Rattle.border.proofs.plan.union_plan.Statement.{statement}
 use Rattle.border.proofs.plan.union_plan.Tie as tie

@@ -1,7 +1,7 @@
 -- `rings::stack::free_all` meets its contract.
 -- Assumes nothing.
 use Prim.Native.Nat.{_-_}
-use Rattle.rings.proofs.Stacking.{Frees, frees-start, frees-more, frees-done}
+use Rattle.border_theory.proofs.Ways.Stacking.{Frees, frees-start, frees-more, frees-done}
 use borrow.Author.Needs.{needs}
 use Rattle.rings.proofs.stack.free_all.Statement.{statement}
 use Rattle.rings.proofs.stack.free_all.Tie as tie

@@ -1,6 +1,6 @@
 -- `rings::stack::move_down` meets its contract.
 -- Assumes nothing.
-use Rattle.rings.proofs.Stacking.{Moves, moves-start, moves-more, moves-done}
+use Rattle.border_theory.proofs.Ways.Stacking.{Moves, moves-start, moves-more, moves-done}
 use borrow.Author.Needs.{needs}
 use Rattle.rings.proofs.stack.move_down.Statement.{statement}
 use Rattle.rings.proofs.stack.move_down.Tie as tie

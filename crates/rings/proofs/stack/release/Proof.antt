@@ -1,7 +1,7 @@
 -- `rings::stack::release` meets its contract.
 -- Assumes nothing.
 use native.Mathlib.Omega.{arith}
-use Rattle.rings.proofs.Stacking.{Releases, releases-start, releases-here, releases-more, releases-done}
+use Rattle.border_theory.proofs.Ways.Stacking.{Releases, releases-start, releases-here, releases-more, releases-done}
 use borrow.Author.Needs.{needs}
 use Rattle.rings.proofs.stack.release.Statement.{statement}
 use Rattle.rings.proofs.stack.release.Tie as tie

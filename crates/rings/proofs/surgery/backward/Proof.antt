@@ -2,7 +2,7 @@
 -- Assumes nothing.
 use native.Mathlib.Omega.{arith}
 use Rattle.border_theory.proofs.Memory.Near.{near-e, near-f}
-use Rattle.rings.proofs.Storing.{backward-memory, backward-loops}
+use Rattle.border_theory.proofs.Ways.Storing.{backward-memory, backward-loops}
 use borrow.Author.Needs.{needs}
 use Rattle.rings.proofs.surgery.backward.Statement.{statement}
 use Rattle.rings.proofs.surgery.backward.Tie as tie

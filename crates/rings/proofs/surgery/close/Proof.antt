@@ -1,7 +1,7 @@
 -- `rings::surgery::close` meets its contract.
 -- Assumes nothing.
 use native.Mathlib.Omega.{arith}
-use Rattle.rings.proofs.Storing.{ended-last, ended-more}
+use Rattle.border_theory.proofs.Ways.Storing.{ended-last, ended-more}
 use borrow.Author.Needs.{needs}
 use Rattle.rings.proofs.surgery.close.Statement.{statement}
 use Rattle.rings.proofs.surgery.close.Tie as tie

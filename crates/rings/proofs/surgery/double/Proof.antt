@@ -2,7 +2,7 @@
 -- Assumes nothing.
 use native.Mathlib.Omega.{arith}
 use Rattle.border_theory.proofs.Memory.Near.{near-e, near-f}
-use Rattle.rings.proofs.Storing.{doubled-memory}
+use Rattle.border_theory.proofs.Ways.Storing.{doubled-memory}
 use borrow.Author.Needs.{needs}
 use Rattle.rings.proofs.surgery.double.Statement.{statement}
 use Rattle.rings.proofs.surgery.double.Tie as tie

@@ -2,7 +2,7 @@
 -- Assumes nothing.
 use native.Mathlib.Omega.{arith}
 use Rattle.border_theory.proofs.Memory.Near.{near-e, near-f, near-next}
-use Rattle.rings.proofs.Storing.{forward-memory, forward-loops}
+use Rattle.border_theory.proofs.Ways.Storing.{forward-memory, forward-loops}
 use borrow.Author.Needs.{needs}
 use Rattle.rings.proofs.surgery.forward.Statement.{statement}
 use Rattle.rings.proofs.surgery.forward.Tie as tie

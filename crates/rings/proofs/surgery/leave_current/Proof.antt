@@ -2,7 +2,7 @@
 -- Assumes nothing.
 use native.Mathlib.Omega.{arith}
 use Rattle.border_theory.proofs.Memory.Near.{near-e}
-use Rattle.rings.proofs.Storing.{last-leaves, last-stays}
+use Rattle.border_theory.proofs.Ways.Storing.{last-leaves, last-stays}
 use borrow.Author.Needs.{needs}
 use Rattle.rings.proofs.surgery.leave_current.Statement.{statement}
 use Rattle.rings.proofs.surgery.leave_current.Tie as tie

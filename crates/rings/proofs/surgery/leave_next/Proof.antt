@@ -2,7 +2,7 @@
 -- Assumes nothing.
 use native.Mathlib.Omega.{arith}
 use Rattle.border_theory.proofs.Memory.Near.{near-e, near-f}
-use Rattle.rings.proofs.Storing.{next-leaves, next-stays}
+use Rattle.border_theory.proofs.Ways.Storing.{next-leaves, next-stays}
 use borrow.Author.Needs.{needs}
 use Rattle.rings.proofs.surgery.leave_next.Statement.{statement}
 use Rattle.rings.proofs.surgery.leave_next.Tie as tie

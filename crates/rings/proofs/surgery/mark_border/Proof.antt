@@ -1,6 +1,6 @@
 -- `rings::surgery::mark_border` meets its contract.
 -- Assumes nothing.
-use Rattle.rings.proofs.Storing.{border-next, border-last, border-done}
+use Rattle.border_theory.proofs.Ways.Storing.{border-next, border-last, border-done}
 use borrow.Author.Needs.{needs}
 use Rattle.rings.proofs.surgery.mark_border.Statement.{statement}
 use Rattle.rings.proofs.surgery.mark_border.Tie as tie

@@ -2,7 +2,7 @@
 -- Assumes nothing.
 use native.Mathlib.Omega.{arith}
 use Rattle.border_theory.proofs.Memory.Near.{near-e, near-f}
-use Rattle.rings.proofs.Storing.{mark-near, mark-next, mark-ended, mark-on}
+use Rattle.border_theory.proofs.Ways.Storing.{mark-near, mark-next, mark-ended, mark-on}
 use borrow.Author.Needs.{needs}
 use Rattle.rings.proofs.surgery.mark_edge.Statement.{statement}
 use Rattle.rings.proofs.surgery.mark_edge.Tie as tie

@@ -2,7 +2,7 @@
 -- Assumes nothing.
 use native.Mathlib.Omega.{arith}
 use Rattle.border_theory.proofs.Memory.Near.{near-e, near-f}
-use Rattle.rings.proofs.Storing.{new-memory, new-loops}
+use Rattle.border_theory.proofs.Ways.Storing.{new-memory, new-loops}
 use borrow.Author.Needs.{needs}
 use Rattle.rings.proofs.surgery.new_vertex.Statement.{statement}
 use Rattle.rings.proofs.surgery.new_vertex.Tie as tie

@@ -1,6 +1,6 @@
 -- `rings::surgery::split` meets its contract.
 -- Assumes nothing.
-use Rattle.rings.proofs.Storing.{split-first, split-second}
+use Rattle.border_theory.proofs.Ways.Storing.{split-first, split-second}
 use borrow.Author.Needs.{needs}
 use Rattle.rings.proofs.surgery.split.Statement.{statement}
 use Rattle.rings.proofs.surgery.split.Tie as tie

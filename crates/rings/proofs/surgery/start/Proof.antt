@@ -2,7 +2,7 @@
 -- Assumes nothing.
 use native.Mathlib.Omega.{arith}
 use mathlib.Core.Path.{_∙_}
-use Rattle.rings.proofs.Storing.{ends-near, start-done}
+use Rattle.border_theory.proofs.Ways.Storing.{ends-near, start-done}
 use borrow.Author.Needs.{needs}
 use Rattle.rings.proofs.surgery.start.Statement.{statement}
 use Rattle.rings.proofs.surgery.start.Tie as tie

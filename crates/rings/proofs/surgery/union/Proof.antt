@@ -1,7 +1,7 @@
 -- `rings::surgery::union` meets its contract.
 -- Assumes nothing.
 use native.Mathlib.Omega.{arith}
-use Rattle.rings.proofs.Storing.{join-fits, join-done}
+use Rattle.border_theory.proofs.Ways.Storing.{join-fits, join-done}
 use borrow.Author.Needs.{needs}
 use Rattle.rings.proofs.surgery.union.Statement.{statement}
 use Rattle.rings.proofs.surgery.union.Tie as tie

@@ -14,10 +14,9 @@ use std::collections::BTreeMap;
 const LINES: &str = include_str!("../../../lines.txt");
 
 /// Lines that the second program answers otherwise or not at all, and our answers.
-const OURS: [(&str, &str); 11] = [
-    ("level 14", "error the service stands at level 15"),
-    ("level 16", "not yet"),
-    ("reader pack=", "not yet"),
+const OURS: [(&str, &str); 10] = [
+    ("level 15", "error the service stands at level 16"),
+    ("level 17", "not yet"),
     ("table", "not yet"),
     ("seat 1 pack=", "not yet"),
     ("as 1 unpack pack=", "not yet"),
@@ -29,13 +28,14 @@ const OURS: [(&str, &str); 11] = [
 ];
 
 /// What each call answers at least once among the generated lines, 0 for acceptance.
-const MET: [(&str, &[u8]); 8] = [
+const MET: [(&str, &[u8]); 9] = [
     ("begin", &[0, 13, 14]),
     ("bench", &[0, 12, 13, 14, 15, 16, 17, 18, 19, 20, 23, 25]),
     ("check", &[0, 1, 2, 3, 4, 5, 6, 7]),
     ("finish", &[0, 15, 19, 20, 21]),
     ("op", &[0, 16, 17, 18, 21]),
     ("pack", &[0, 1, 2, 3, 4, 5, 6, 7, 8, 9, 10, 11, 22, 23, 25]),
+    ("reader", &[0, 12, 13, 15, 16, 17, 19, 23, 24, 25, 26]),
     ("unpack", &[0, 12, 13, 14, 15, 16, 17, 18, 19, 20, 23, 25]),
     ("volume", &[0, 12, 13, 14, 15, 16, 17, 18, 19, 20, 23, 24, 25]),
 ];
@@ -106,6 +106,7 @@ fn sent(rng: &mut Rng, line: &str) -> Vec<String> {
             let rest = words[2..].join(" ");
             let call = |name: &str, p: &[u8]| format!("{name} pack={} {rest}", hex(p));
             let mut out = ["unpack", "volume", "bench"].map(|name| call(name, &pack)).to_vec();
+            out.push(format!("reader pack={}", hex(&pack)));
             out.extend(other_positions(rng, &pack).iter().chain(&other_note(rng, &pack)).map(|p| call(words[0], p)));
             if rng.chance(1, 6) {
                 out.extend(building(&pack));

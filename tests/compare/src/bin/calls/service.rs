@@ -2,7 +2,7 @@
 
 use crate::words::{ample, hash, hash_places, joined, number, Args, Text};
 use compare::expected::LEVEL;
-use compare::{bench, check, narrow, pack_whole, unpack, volume, Buffers, Building, STATE};
+use compare::{bench, check, melt, narrow, pack_whole, unpack, volume, Buffers, Building, STATE};
 use cutborder::ops::{Counts, Op};
 use cutborder::proto::hex;
 use cutborder::{Answer, Place, Refusal};
@@ -13,7 +13,7 @@ const BYTE: u8 = 0xaa;
 const PLACE: Place = Place { vertex: NUMBER, before: NUMBER, after: NUMBER, open: true };
 
 /// Calls and arguments of requests that have not landed.
-const LATER: [&str; 11] = ["reader", "totals", "scan", "table", "fans", "sprues", "seat", "turn", "fetch", "window", "as"];
+const LATER: [&str; 10] = ["totals", "scan", "table", "fans", "sprues", "seat", "turn", "fetch", "window", "as"];
 const LATER_GIVEN: &str = "codes";
 
 /// The builder, with the buffers of the last accepted beginning.
@@ -55,6 +55,7 @@ impl Calls {
                 let (told, note) = bench(b, triangles, places);
                 format!("{} note={}", unpacked(told, triangles), hex(note))
             }),
+            ("reader", _) => Ok(answer(melt(&args.pack()?, &mut [BYTE; 1_024]).map(|six| format!("six={six}")))),
             ("begin", _) => self.begin(&args),
             ("op", _) => {
                 let built = self.builder.operate(operation(rest).ok_or("no such operation")?);

@@ -1,0 +1,29 @@
+-- `cells::stack::free_at` meets its contract.
+-- Assumes nothing.
+use native.Mathlib.Omega.{arith}
+use Rattle.cells_theory.proofs.Cells.{past-told}
+use borrow.Author.Needs.{needs}
+use Rattle.cells.proofs.stack.free_at.Statement.{statement}
+use Rattle.cells.proofs.stack.free_at.Tie as tie
+
+sub-top : tie.Need-sub-top
+sub-top c = search needs
+
+cast-wide : tie.Need-cast-wide
+cast-wide c = search needs
+
+add-wide : tie.Need-add-wide
+add-wide c = search needs
+
+shared-slice-read-wide : tie.Need-shared-slice-read-wide
+shared-slice-read-wide c = search needs
+
+wide-requires : tie.Need-wide-requires
+wide-requires c κs = search needs
+
+returns : tie.Need-returns
+returns c = past-told _ (c .before .before .before .pre .3) _ _ (omega arith) (c .wide .ensures .0)
+
+pub free-at-spec : {M : Type 1} → statement M
+free-at-spec =
+    tie.close (tie.spec sub-top cast-wide add-wide shared-slice-read-wide wide-requires returns)

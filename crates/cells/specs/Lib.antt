@@ -1,0 +1,2 @@
+-- Nothing beside cells_theory.
+-- Assumes nothing.

@@ -1,0 +1,2 @@
+-- Nothing beside melting_theory.
+-- Assumes nothing.

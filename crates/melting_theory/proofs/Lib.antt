@@ -1,0 +1,4 @@
+pub mod Concluding
+pub mod Runs
+pub mod Stepping
+pub mod Weighing
