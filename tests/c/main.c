@@ -245,7 +245,7 @@ static void melts(const uint16_t *cube, int64_t expected_six) {
     EXPECT(furnace_read(cube_pack, size - 51, lent.memory, &six) == 24 && six == 77);
     cube_pack[10] = 13;
     EXPECT(furnace_read(cube_pack, size, lent.memory, &six) == 26 && six == 77);
-    cube_pack[10] = 2;
+    cube_pack[10] = 12;
     EXPECT(furnace_read(cube_pack, size, lent.memory, &six) == 19 && six == 77);
     cube_pack[10] = 0;
     EXPECT(furnace_read(cube_pack, size, lent.memory, &six) == 13 && six == 77);

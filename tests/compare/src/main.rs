@@ -145,6 +145,19 @@ fn part(name: &str, run: impl FnOnce() -> (usize, Tally)) {
     println!("{name}: {n} alike, answers {tally:?}, {:.1} s", t.elapsed().as_secs_f64());
 }
 
+/// The packs that tell the furnace's own reader from the other calls, and what it answered for all packs before.
+fn furnace(rng: &mut Rng, scale: usize) {
+    part("models for the furnace", || melting::models(rng, 300 * scale));
+    part("faults of such packs", || melting::stated(rng, 200 * scale));
+    part("two faults of such packs", || melting::faults_together(rng, 30 * scale));
+    part("operations for the furnace", || melting::allowed(rng, 1_000 * scale));
+    part("operations that break off", || melting::broken_off(rng, 1_000 * scale));
+    part("packs without edge rule and fans", || melting::free(rng, 2_000 * scale));
+    part("operations of two bytes", || melting::two_bytes(rng));
+    part("changed bits, and cuts", || melting::changed(rng, 10 * scale));
+    melting::told();
+}
+
 fn main() {
     let args: Vec<u64> = std::env::args().skip(1).filter_map(|a| a.parse().ok()).collect();
     let [seed, scale] = args[..] else {
@@ -165,15 +178,7 @@ fn main() {
     part("packs with notes", || notes::ways(&mut rng, 300 * scale));
     part("several refusals of such packs", || notes::faults_together(&mut rng, 2_000 * scale));
     notes::packed_again(&mut rng, 2_000 * scale);
-    part("models for the furnace", || melting::models(&mut rng, 300 * scale));
-    part("faults of such packs", || melting::stated(&mut rng, 200 * scale));
-    part("two faults of such packs", || melting::faults_together(&mut rng, 30 * scale));
-    part("operations for the furnace", || melting::allowed(&mut rng, 1_000 * scale));
-    part("operations that break off", || melting::broken_off(&mut rng, 1_000 * scale));
-    part("packs without edge rule and fans", || melting::free(&mut rng, 2_000 * scale));
-    part("operations of two bytes", || melting::two_bytes(&mut rng));
-    part("changed bits, and cuts", || melting::changed(&mut rng, 10 * scale));
-    melting::told();
+    furnace(&mut rng, scale);
     part("packings", || packings::random(&mut rng, 2_000 * scale));
     part("several refusals at once", || packings::faults_together(&mut rng));
     let t = Instant::now();

@@ -134,8 +134,7 @@ pub fn is_over(b: &[u8]) -> bool {
     expected::fields(b).is_ok_and(|f| f.counts.places as usize > PLACES || f.counts.loops as usize > LOOPS)
 }
 
-/// What the reader answers for a pack that has more than one fault by a field that the other calls test after 20: an unfit field comes to
-/// light where the pack would have a volume, or lack only that.
+/// What the reader answers where a field that 23 or 25 refuses takes the place of a sound one or of none: that, if it came so far before.
 pub fn comes_to(unfit: Refusal, without: Result<i64, Refusal>) -> Refusal {
     match without {
         Ok(_) | Err(24) => unfit,
