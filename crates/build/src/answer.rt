@@ -18,6 +18,7 @@ use rules::Totals;
 use rules::Triangle;
 use text::show::print_refusal;
 use text::streams::Output;
+use text::streams::say;
 use text::words::is_same;
 use text::words::word_end;
 use text::words::word_start;
@@ -77,6 +78,15 @@ fn told(s: Session, line: &[u8]) -> Session
 {
     let out = s.out;
     answered(s, print(out, line))
+}
+
+// A line that is no call: the answer is `error` and why, which is said too.
+fn no_call(s: Session, why: &[u8]) -> Session
+    ensures { λ r. ⌜ (r .entries ≡ s .entries) × (r .records ≡ s .records) ⌝ }
+{
+    say(b"build", why);
+    let out = s.out;
+    answered(s, print(out.bytes(b"error "), why))
 }
 
 // The smaller of a length and the most that there is.
@@ -166,10 +176,10 @@ fn begin_line(n: Numbers, s: Session, triangles: &mut [u16], m: &mut Memory) -> 
     ensures { λ r. ⌜ (r .entries ≤ length (now (triangles .entry))) × (r .records ≤ maxPlaces) ⌝ }
 {
     if n.count != 6 {
-        return told(s, b"error no such call");
+        return no_call(s, b"no such call");
     }
     if !n.valid {
-        return told(s, b"error not a number");
+        return no_call(s, b"not a number");
     }
     begin(n, s, triangles, m)
 }
@@ -201,8 +211,8 @@ fn operation_line(o: Named, s: Session, triangles: &mut [u16], m: &mut Memory) -
 {
     match o {
         Named::Found(o) => operate(o, s, triangles, m),
-        Named::NoNumber => told(s, b"error not a number"),
-        Named::Nothing => told(s, b"error no such operation"),
+        Named::NoNumber => no_call(s, b"not a number"),
+        Named::Nothing => no_call(s, b"no such operation"),
     }
 }
 
@@ -212,7 +222,7 @@ fn finish_line(n: Numbers, s: Session, triangles: &[u16], m: &mut Memory) -> Ses
     ensures { λ r. ⌜ (r .entries ≡ s .entries) × (r .records ≡ s .records) ⌝ }
 {
     if n.count != 0 {
-        return told(s, b"error no such call");
+        return no_call(s, b"no such call");
     }
     let entries = s.entries;
     let records = s.records;
@@ -237,7 +247,7 @@ pub(crate) fn answer_line(line: &[u8], s: Session, triangles: &mut [u16], m: &mu
         Call::Begin => begin_line(numbers_from(line, end), s, triangles, m),
         Call::Op => operation_line(operation_from(line, end), s, triangles, m),
         Call::Finish => finish_line(numbers_from(line, end), s, triangles, m),
-        Call::Nothing => told(s, b"error no such call"),
+        Call::Nothing => no_call(s, b"no such call"),
     }
 }
 

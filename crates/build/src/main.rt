@@ -1,9 +1,11 @@
-// Reads building calls from standard input, a line for each, and prints the answers, a line for each:
+// Reads building calls from standard input, or from the file that an argument names, a line for each, and prints the answers, a line for
+// each:
 //     begin V T PLACES LOOPS ENTRIES RECORDS     a beginning with these counts, in buffers of these lengths
 //     op NAME [NUMBERS]                          an operation
 //     finish
-// A line that starts with # is its own answer. A line is answered as soon as it is read. One that is too long is not run: it gets a
-// line on standard error, and so does a read or a write that fails; each of these ends the program.
+// A line that starts with # is its own answer, one that is no call is answered by `error`, and gets a line on standard error too. A line is
+// answered as soon as it is read. One that is too long is not run: it gets a line on standard error, and so does a read or a write that
+// fails; each of these ends the program.
 mod answer; // the calls and their answers
 mod words; // the words of a line
 
@@ -11,8 +13,12 @@ use crate::answer::Session;
 use crate::answer::answer_line;
 use crate::answer::fresh;
 use cutborder::Memory;
+use libc::STDERR_FILENO;
 use libc::STDIN_FILENO;
 use rules::CORNERS;
+use text::arguments::Wish;
+use text::arguments::wish_of;
+use text::inputs::open_input;
 use text::streams::Output;
 use text::streams::Read;
 use text::streams::read_more;
@@ -51,10 +57,14 @@ fn over(s: Session) -> Turn
 }
 
 // Input that cannot be read is not at its end: the line that has begun is not run.
-fn unread(s: Session) -> Turn
+fn unread(fd: i32, s: Session) -> Turn
     ensures { λ r. ⌜ (r .held ≡ 0) × (r .session .entries ≡ s .entries) × (r .session .records ≡ s .records) ⌝ }
 {
-    say_failed(b"build", b"cannot read standard input");
+    if fd == STDIN_FILENO {
+        say_failed(b"build", b"cannot read standard input");
+    } else {
+        say_failed(b"build", b"cannot read the calls");
+    }
     over(s)
 }
 
@@ -164,6 +174,7 @@ fn answer_read(
 
 // Reads once and answers the lines that have ended by then. There is room, so that nothing read is the end of the input.
 fn take_turn(
+    fd: i32,
     held: usize,
     s: Session,
     input: &mut [u8],
@@ -174,9 +185,9 @@ fn take_turn(
     ensures { λ r. ⌜ (r .held < length (now (input .entry))) × (r .session .entries ≤ length (now (triangles .entry)))
         × (r .session .records ≤ maxPlaces) ⌝ }
 {
-    let r = read_more(STDIN_FILENO, input, held);
+    let r = read_more(fd, input, held);
     let Read::To(n) = r else {
-        return unread(s);
+        return unread(fd, s);
     };
     if n == held {
         return answer_last(&input[..n], s, triangles, m);
@@ -191,14 +202,14 @@ fn endless(s: Session) -> Output {
 }
 
 // Reads the calls and answers them. The count of turns is one that no input uses up.
-fn run(input: &mut [u8], triangles: &mut [u16], m: &mut Memory) -> Output
+fn answer_all(fd: i32, input: &mut [u8], triangles: &mut [u16], m: &mut Memory) -> Output
     requires { ⌜ 0 < length (now input) ⌝ }
 {
     let mut s = fresh();
     let mut held = 0;
     let mut left = u64::MAX;
     while 0 < left {
-        let t = take_turn(held, s, input, triangles, m);
+        let t = take_turn(fd, held, s, input, triangles, m);
         held = t.held;
         s = t.session;
         if t.over {
@@ -209,9 +220,35 @@ fn run(input: &mut [u8], triangles: &mut [u16], m: &mut Memory) -> Output
     endless(s)
 }
 
-fn main() {
+// Opens the calls and answers them.
+fn run() -> Output {
+    let fd = open_input(b"build", 1);
+    if fd < 0 {
+        return Output::fresh();
+    }
     let mut input = [0u8; MOST_BYTES + 1];
     let mut triangles = [0u16; CORNERS];
     let mut m = places::empty();
-    run(&mut input, &mut triangles, &mut m).end(b"build");
+    answer_all(fd, &mut input, &mut triangles, &mut m)
+}
+
+fn print_use(out: Output) -> Output {
+    out.bytes(b"usage: build [CALLS]\n")
+        .bytes(b"Answers building calls, of a file or of standard input (-), a line for each:\n")
+        .bytes(b"  begin V T PLACES LOOPS ENTRIES RECORDS\n")
+        .bytes(b"  op new | forward | backward | border | split I | close | union P J | start\n")
+        .bytes(b"  finish\n")
+        .bytes(
+            b"by ok and what the call gives; or by refused and the number, which the program explain explains; or by error\n",
+        )
+        .bytes(b"if the line is none of these. A line that starts with # is its own answer.\n")
+}
+
+fn main() {
+    let w = wish_of(1, 1);
+    match w {
+        Wish::Run => run().end(b"build"),
+        Wish::Help => print_use(Output::fresh()).end(b"build"),
+        Wish::Wrong => print_use(Output::to(STDERR_FILENO)).end(b"build"),
+    }
 }

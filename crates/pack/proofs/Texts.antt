@@ -1,27 +1,17 @@
--- What is known of the buffer of a text's numbers, and of the positions that they stand for.
+-- What is known of the positions that numbers stand for.
 -- Assumes nothing.
 use Prim.Native.Nat.{ℕ, _+_, _≤_, _<_}
 use native.Mathlib.Omega.{arith}
 use mathlib.Core.Bool.{Bool, true, false}
-use mathlib.Core.Path.{_≡_, refl, sym, ap, _∙_, subst}
+use mathlib.Core.Path.{_≡_, refl, sym, ap, _∙_}
 use mathlib.Core.List.{List}
 use lib.Dec.{eqb}
 use lib.IntN.{ℤ, pos}
-use lib.ListN.{length, take, getD, set, length-set}
-use lib.Seq.{length-take-le, getD-set-same, getD-set-other}
+use lib.ListN.{length, getD, set, length-set}
+use lib.Seq.{getD-set-same, getD-set-other}
 use borrow.Author.Tests.{eqb-true, eqb-false}
 use Rattle.rules.specs.Grid.{signedOf}
-use Rattle.pack.specs.Texts.{Holds, StandFor}
-use Rattle.pack.specs.declared.numbers.Told.{Told}
-use Rattle.pack.specs.declared.numbers.Told.the-variants.{Numbers}
-
--- What an answer says, once it is known to be numbers.
-pub told-numbers : {r : Told} {n : ℕ} (xs : List ℕ) → Holds r xs → r ≡ Numbers n → n ≤ length xs
-told-numbers xs h e = subst (λ (r : Told). Holds r xs) e h
-
--- The part that was told has that many numbers.
-pub told-length : {r : Told} {n : ℕ} (xs : List ℕ) → Holds r xs → r ≡ Numbers n → n ≡ length (take n xs)
-told-length {n = n} xs h e = sym (length-take-le n xs (told-numbers xs h e))
+use Rattle.pack.specs.Texts.{StandFor}
 
 -- The positions, one by one.
 pub none-stand : (xs : List ℕ) (zs : List ℤ) → StandFor xs 0 zs

@@ -1,4 +1,4 @@
--- What a reading of a text promises of its buffer, and the positions of its numbers.
+-- The positions that numbers stand for.
 -- Assumes nothing.
 use Prim.Native.Nat.{ℕ, _≤_, _<_}
 use mathlib.Core.List.{List}
@@ -6,15 +6,6 @@ use mathlib.Core.Path.{_≡_}
 use lib.IntN.{ℤ, pos}
 use lib.ListN.{length, getD}
 use Rattle.rules.specs.Grid.{signedOf}
-use Rattle.pack.specs.declared.numbers.Told.{Told}
-use Rattle.pack.specs.declared.numbers.Told.the-variants.{Numbers, NoNumbers, Unread, TooLong}
-
--- A buffer has all the numbers that were told.
-abbrev pub Holds : Told → List ℕ → Type 0
-Holds (Numbers n) xs = n ≤ length xs
-Holds NoNumbers xs = Unit
-Holds Unread xs = Unit
-Holds TooLong xs = Unit
 
 -- The first n of zs are the positions that the first n of xs stand for.
 pub record StandFor (xs : List ℕ) (n : ℕ) (zs : List ℤ) : Type 0 where

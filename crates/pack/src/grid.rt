@@ -1,34 +1,11 @@
-// The positions' file, and the positions of its numbers.
-use crate::numbers::Told;
-use crate::numbers::read_numbers;
-use crate::numbers::say_unread;
+// The positions that numbers stand for.
 use rules::VERTICES;
-use text::streams::say_failed;
 ghost use mathlib.Core.Path.{_≡_};
 ghost use Rattle.rules.specs.Grid.{signedOf};
-ghost use Rattle.pack.specs.Texts.{Holds, StandFor, AsManyAsFit};
+ghost use Rattle.pack.specs.Texts.{StandFor, AsManyAsFit};
 
 // Three positions for each vertex, and one more to tell a longer list.
 pub const POSITIONS: usize = 3 * VERTICES + 1;
-
-// Reads the numbers of the file of a name, as many as fit, or says why it cannot be read whole.
-pub fn read_positions(name: &[u8], part: &mut [u8], numbers: &mut [u16]) -> Told
-    ensures { λ r. ⌜ Holds r (now (numbers .exit)) ⌝ }
-{
-    let fd = os::open_read(name);
-    if fd < 0 {
-        say_failed(b"pack", name);
-        return Told::Unread;
-    }
-    let t = read_numbers(fd, true, part, numbers);
-    say_unread(
-        t,
-        name,
-        b"the positions are too long: they have 16,777,216 bytes or more",
-    );
-    libc::close(fd);
-    t
-}
 
 // A number of 16 bits as a signed one: a negative number n stands as 65,536 + n.
 fn signed(w: u16) -> i16

@@ -1,47 +1,42 @@
-// Reads a model as text from standard input: V, then the vertex numbers, decimal, with white space between. It writes the model's pack
-// to standard output, or a line: `refused` and the number, or that the text is no model. What cannot be read, and a text that is too
-// long, gets a line on standard error and nothing else; a write that fails gets such a line too. With `--order FILE` it writes the order
-// of a packed model to that file: for each triangle built, a line with its number in the list, counted from 0. With `--positions FILE`
-// it packs the positions in that file too, a text of signed numbers: x, y and z of each vertex, in grid steps. With `--note FILE` it
-// packs the bytes of that file too, as they are.
-mod grid; // the positions' file
+// Reads a model as text, from standard input or from the file that an argument names: V, then the vertex numbers, decimal, with white
+// space between. It writes the model's pack to standard output, or a line: `refused` and the number. A text that is no model, what cannot
+// be read, and a text that is too long, gets a line on standard error and nothing else; a write that fails gets such a line too. With
+// `--order FILE` it writes the order of a packed model to that file: for each triangle built, a line with its number in the list, counted
+// from 0. With `--positions FILE` it packs the positions in that file too, a text of signed numbers: x, y and z of each vertex, in grid
+// steps. With `--note FILE` it packs the bytes of that file too, as they are.
+mod grid; // the positions that numbers stand for
 mod note; // the note's file
-mod numbers; // texts of numbers
 mod options; // the arguments
 mod order; // the order's file
 mod packing; // packing with what is given besides
 
 use grid::POSITIONS;
-use grid::read_positions;
-use libc::STDIN_FILENO;
+use libc::STDERR_FILENO;
 use note::NOTE_BUFFER;
 use note::read_note;
-use numbers::PART;
-use numbers::Told;
-use numbers::read_numbers;
-use numbers::say_unread;
-use options::are_all;
-use options::place_of;
-use options::read_name;
-use options::say_usage;
+use options::Options;
+use options::print_use;
+use options::read_options;
+use options::wish;
 use order::write_order;
-use packing::Given;
 use packing::pack_list;
-use rules::CORNERS;
 use rules::Packed;
 use rules::TRIANGLES;
 use rules::VERTICES;
+use text::arguments::Wish;
+use text::inputs::tell_input;
+use text::numbers::NUMBERS;
+use text::numbers::PART;
+use text::numbers::Told;
+use text::numbers::say_no_model;
 use text::packs::MOST_BYTES;
 use text::show::print_part;
 use text::show::print_refusal;
-use text::streams::MOST_NAME;
 use text::streams::Output;
 use text::streams::Read;
+use text::streams::say;
 ghost use Prim.Native.Nat.{_≤_};
 ghost use lib.ListN.{length};
-
-// V, the most numbers of a list, and one more to tell a longer list.
-const NUMBERS: usize = CORNERS + 2;
 
 fn print_refused(out: Output, r: Packed) -> Output {
     match r {
@@ -52,12 +47,12 @@ fn print_refused(out: Output, r: Packed) -> Output {
 
 // Writes what a packing of t triangles answered: first the order, if a file is named for it, and then the pack; or the refusal. Where
 // the order cannot be written, neither is the pack.
-fn print_answer(r: Packed, buffer: &[u8], order: &[u16], t: usize, name: &[u8]) -> Output {
+fn print_answer(r: Packed, buffer: &[u8], order: &[u16], t: usize, named: usize) -> Output {
     let out = Output::fresh();
     let Packed::Length(n) = r else {
         return print_refused(out, r);
     };
-    if !write_order(order, t, name) {
+    if !write_order(order, t, named) {
         return out;
     }
     print_part(out, buffer, 0, n as usize)
@@ -69,18 +64,11 @@ fn wide(x: u16) -> usize {
 }
 
 // Packs the list of n numbers, the first of which is V, with what is given besides.
-fn pack_numbers(
-    numbers: &[u16],
-    n: usize,
-    given: Given,
-    positions: &[u16],
-    note: &[u8],
-    order_name: &[u8],
-) -> Output
+fn pack_numbers(numbers: &[u16], n: usize, given: Options, positions: &[u16], note: &[u8]) -> Output
     requires { ⌜ n ≤ length (now numbers) ⌝ }
 {
     if n < 1 {
-        return print_no_model();
+        return no_model();
     }
     let mut numbering = [0u16; VERTICES];
     let mut buffer = [0u8; MOST_BYTES];
@@ -96,100 +84,67 @@ fn pack_numbers(
         &mut buffer,
         &mut order,
     );
-    print_answer(r, &buffer, &order, (n - 1) / 3, order_name)
+    print_answer(r, &buffer, &order, (n - 1) / 3, given.order)
 }
 
-fn print_no_model() -> Output {
-    Output::fresh().bytes(
-        b"no model: V and the vertex numbers are expected, decimal, with white space between\n",
-    )
+// What is no model, and what are no positions, has no pack.
+fn no_model() -> Output {
+    say_no_model(b"pack");
+    Output::fresh()
 }
 
-fn print_no_positions() -> Output {
-    Output::fresh().bytes(
-        b"no positions: three numbers for each vertex are expected, decimal, with white space between\n",
-    )
+fn no_positions() -> Output {
+    say(
+        b"pack",
+        b"no positions: three numbers for each vertex are expected, decimal, with white space between",
+    );
+    Output::fresh()
 }
 
 // Reads a model and packs it, with what is given besides.
-fn pack_standard(
-    part: &mut [u8],
-    given: Given,
-    positions: &[u16],
-    note: &[u8],
-    order_name: &[u8],
-) -> Output {
+fn pack_model(part: &mut [u8], given: Options, positions: &[u16], note: &[u8]) -> Output {
     let mut numbers = [0u16; NUMBERS];
-    let t = read_numbers(STDIN_FILENO, false, part, &mut numbers);
-    say_unread(
-        t,
-        b"cannot read standard input",
-        b"the text is too long: it has 16,777,216 bytes or more",
-    );
+    let t = tell_input(b"pack", given.model, false, part, &mut numbers);
     match t {
-        Told::Numbers(n) => pack_numbers(&numbers, n, given, positions, note, order_name),
-        Told::NoNumbers => print_no_model(),
+        Told::Numbers(n) => pack_numbers(&numbers, n, given, positions, note),
+        Told::NoNumbers => no_model(),
         Told::Unread => Output::fresh(),
         Told::TooLong => Output::fresh(),
     }
 }
 
 // Reads the positions, if a file is named for them, then a model, and packs it, with a note if it is given.
-fn run_noted(order_name: &[u8], positions_name: &[u8], noted: bool, note: &[u8]) -> Output {
+fn run_noted(given: Options, note: &[u8]) -> Output {
     let mut part = [0u8; PART];
     let mut positions = [0u16; POSITIONS];
-    if positions_name.len() == 0 {
-        let given = Given {
-            positions: false,
-            note: noted,
-        };
-        return pack_standard(&mut part, given, &positions, note, order_name);
+    if given.positions == 0 {
+        return pack_model(&mut part, given, &positions, note);
     }
-    let t = read_positions(positions_name, &mut part, &mut positions);
-    let given = Given {
-        positions: true,
-        note: noted,
-    };
+    let t = tell_input(b"pack", given.positions, true, &mut part, &mut positions);
     match t {
-        Told::Numbers(n) => pack_standard(&mut part, given, &positions[..n], note, order_name),
-        Told::NoNumbers => print_no_positions(),
+        Told::Numbers(n) => pack_model(&mut part, given, &positions[..n], note),
+        Told::NoNumbers => no_positions(),
         Told::Unread => Output::fresh(),
         Told::TooLong => Output::fresh(),
     }
 }
 
 // Reads the note, if a file is named for it, then the positions and a model, and packs it.
-fn run(order_name: &[u8], positions_name: &[u8], note_name: &[u8]) -> Output {
+fn run(given: Options) -> Output {
     let mut note = [0u8; NOTE_BUFFER];
-    let r = read_note(note_name, &mut note);
+    let r = read_note(given.note, &mut note);
     let Read::To(n) = r else {
         return Output::fresh();
     };
-    run_noted(order_name, positions_name, 0 < note_name.len(), &note[..n])
+    run_noted(given, &note[..n])
 }
 
 fn main() {
-    let order_at = place_of(b"--order");
-    let positions_at = place_of(b"--positions");
-    let note_at = place_of(b"--note");
-    if !are_all(order_at, positions_at, note_at) {
-        say_usage();
-        return;
+    let given = read_options();
+    let w = wish(given);
+    match w {
+        Wish::Run => run(given).end(b"pack"),
+        Wish::Help => print_use(Output::fresh()).end(b"pack"),
+        Wish::Wrong => print_use(Output::to(STDERR_FILENO)).end(b"pack"),
     }
-    let mut order_name = [0u8; MOST_NAME];
-    let r = read_name(order_at, &mut order_name);
-    let Read::To(n) = r else {
-        return;
-    };
-    let mut positions_name = [0u8; MOST_NAME];
-    let s = read_name(positions_at, &mut positions_name);
-    let Read::To(m) = s else {
-        return;
-    };
-    let mut note_name = [0u8; MOST_NAME];
-    let t = read_name(note_at, &mut note_name);
-    let Read::To(k) = t else {
-        return;
-    };
-    run(&order_name[..n], &positions_name[..m], &note_name[..k]).end(b"pack");
 }

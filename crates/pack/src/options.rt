@@ -1,85 +1,86 @@
-// The arguments: up to three options, each with the name of a file.
-use text::streams::Read;
-use text::streams::say;
-use text::streams::say_failed;
-use text::words::is_same;
+// The arguments: up to three options, each with the name of a file, then the name of the model's file.
+use text::arguments::Wish;
+use text::arguments::is_name;
+use text::arguments::is_word;
+use text::arguments::wish_of;
+use text::streams::Output;
 ghost use Prim.Native.Nat.{_≤_};
-ghost use Rattle.text.specs.Reads.{Fills};
 
-// More bytes than an option has.
-const WORD: usize = 16;
-
-// Says what the arguments may be.
-pub fn say_usage() {
-    say(
-        b"pack",
-        b"usage: pack [--order FILE] [--positions FILE] [--note FILE] < model.txt > model.pack",
-    );
+// Which arguments name the files of the order, the positions and the note, 0 for one that is not given, and which names the model's, if
+// there is one; and whether each of the first three is a name.
+pub struct Options {
+    pub order: usize,
+    pub positions: usize,
+    pub note: usize,
+    pub model: usize,
+    named: bool,
 }
 
-// Whether argument i is this option.
-fn is_option(i: usize, option: &[u8]) -> bool {
-    let mut word = [0u8; WORD];
-    let n = os::arg(i, &mut word);
-    if os::errno() != 0 {
-        return false;
+// The argument after this option, or 0 where it is not given. A name follows each option, so that the second is argument 3 and the third
+// argument 5.
+fn name_of(option: &[u8]) -> usize {
+    if is_word(1, option) {
+        return 2;
     }
-    is_same(&word[..n], option)
-}
-
-// The argument that is this option, or 0. A name follows each option, so that the second is argument 3 and the third argument 5.
-pub fn place_of(option: &[u8]) -> usize
-    ensures { λ r. ⌜ r ≤ 5 ⌝ }
-{
-    if is_option(1, option) {
-        return 1;
+    if is_word(3, option) {
+        return 4;
     }
-    if is_option(3, option) {
-        return 3;
-    }
-    if is_option(5, option) {
-        return 5;
+    if is_word(5, option) {
+        return 6;
     }
     0
 }
 
-// How many arguments an option takes up that stands at a place.
-fn words(place: usize) -> usize
+// How many arguments an option takes up, with its name.
+fn words(name: usize) -> usize
     ensures { λ r. ⌜ r ≤ 2 ⌝ }
 {
-    if place == 0 { 0 } else { 2 }
+    if name == 0 { 0 } else { 2 }
 }
 
-// Whether there are no arguments but the options at three places, with their names.
-pub fn are_all(a: usize, b: usize, c: usize) -> bool {
-    let count = os::arg_count();
-    if count < 2 {
+// Whether an option has a name, if it is given.
+fn is_named(name: usize) -> bool {
+    if name == 0 {
         return true;
     }
-    count == 1 + words(a) + words(b) + words(c)
+    is_name(name)
 }
 
-// Takes the name that follows the option at a place; it is empty where there is none. No file's name is empty, and `-` would be standard
-// output, where the pack goes, or standard input, where the model is.
-pub fn read_name(place: usize, name: &mut [u8]) -> Read
-    requires { ⌜ place ≤ 5 ⌝ }
-    ensures { λ r. ⌜ Fills r 0 (now (name .exit)) ⌝ }
-{
-    if place == 0 {
-        return Read::To(0);
+// The options that are given.
+pub fn read_options() -> Options {
+    let order = name_of(b"--order");
+    let positions = name_of(b"--positions");
+    let note = name_of(b"--note");
+    Options {
+        order,
+        positions,
+        note,
+        model: 1 + words(order) + words(positions) + words(note),
+        named: is_named(order) && is_named(positions) && is_named(note),
     }
-    let n = os::arg(place + 1, name);
-    if os::errno() != 0 {
-        say_failed(b"pack", b"argument");
-        return Read::Failed;
+}
+
+// What the arguments ask for.
+pub fn wish(o: Options) -> Wish {
+    if o.named {
+        return wish_of(o.model, 1);
     }
-    if n == 0 {
-        say_usage();
-        return Read::Failed;
-    }
-    if is_same(&name[..n], b"-") {
-        say_usage();
-        return Read::Failed;
-    }
-    Read::To(n)
+    Wish::Wrong
+}
+
+pub fn print_use(out: Output) -> Output {
+    out.bytes(b"usage: pack [--order FILE] [--positions FILE] [--note FILE] [MODEL] > model.pack\n")
+        .bytes(
+            b"Packs a model of the file MODEL or of standard input (-): V, then the vertex numbers of its triangles, decimal.\n",
+        )
+        .bytes(
+            b"Writes the pack, or a line: refused and the number of the refusal, which the program explain explains.\n",
+        )
+        .bytes(
+            b"  --order FILE      writes for each triangle, as built, its number in the list, counted from 0\n",
+        )
+        .bytes(
+            b"  --positions FILE  packs the positions too: x, y and z of each vertex, from -2048 to 2047\n",
+        )
+        .bytes(b"  --note FILE       packs the bytes of the file too, 1 to 64\n")
 }

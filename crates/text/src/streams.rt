@@ -1,6 +1,5 @@
 // Reading and writing whose failures are noticed: each gets a line on standard error.
 use libc::STDERR_FILENO;
-use libc::STDIN_FILENO;
 use libc::STDOUT_FILENO;
 ghost use mathlib.Core.Path.{_≡_};
 ghost use Prim.Native.Nat.{_≤_};
@@ -70,39 +69,6 @@ pub fn say(program: &[u8], line: &[u8]) {
     io::write_all(STDERR_FILENO, b": ");
     io::write_all(STDERR_FILENO, line);
     io::write_all(STDERR_FILENO, b"\n");
-}
-
-// Says why a file could not be read, if it could not. No other call may stand between, for the system's reason is that of the last call
-// that failed.
-fn say_unread(program: &[u8], what: &[u8], r: Read) {
-    match r {
-        Read::To(_) => {}
-        Read::Failed => say_failed(program, what),
-    }
-}
-
-// Reads standard input until the buffer is full or the input ends, or says why it cannot be read.
-pub fn read_standard(program: &[u8], buffer: &mut [u8]) -> Read
-    ensures { λ r. ⌜ Fills r 0 (now (buffer .exit)) ⌝ }
-{
-    let r = read_full(STDIN_FILENO, buffer);
-    say_unread(program, b"cannot read standard input", r);
-    r
-}
-
-// The same of the file of a name.
-pub fn read_file(program: &[u8], name: &[u8], buffer: &mut [u8]) -> Read
-    ensures { λ r. ⌜ Fills r 0 (now (buffer .exit)) ⌝ }
-{
-    let fd = os::open_read(name);
-    if fd < 0 {
-        say_failed(program, name);
-        return Read::Failed;
-    }
-    let r = read_full(fd, buffer);
-    say_unread(program, name, r);
-    libc::close(fd);
-    r
 }
 
 // A number without its sign.

@@ -2,11 +2,14 @@
 // negative where the model is inside out. A refused pack prints one line with its number. With arguments it does so for each in turn:
 // the pack of the file that it names, or for "-" that of standard input. What cannot be read gets a line on standard error and prints
 // nothing; after a write that fails there is such a line too, and the program ends.
+use libc::STDERR_FILENO;
 use measuring::volume_on;
 use rules::Builder;
 use rules::CORNERS;
+use text::arguments::Wish;
+use text::arguments::input_count;
+use text::arguments::wish_of;
 use text::packs::BUFFER;
-use text::packs::pack_count;
 use text::packs::read_pack;
 use text::show::print_measured;
 use text::streams::Output;
@@ -26,7 +29,7 @@ fn measure_read(out: Output, r: Read, pack: &[u8], triangles: &mut [u16]) -> Out
 
 // Reads each pack and measures it.
 fn measure_each(pack: &mut [u8], triangles: &mut [u16]) -> Output {
-    let n = pack_count();
+    let n = input_count(1);
     let mut out = Output::fresh();
     let mut i = 0;
     while i < n {
@@ -40,8 +43,25 @@ fn measure_each(pack: &mut [u8], triangles: &mut [u16]) -> Output {
     out
 }
 
-fn main() {
+fn run() -> Output {
     let mut pack = [0u8; BUFFER];
     let mut triangles = [0u16; CORNERS];
-    measure_each(&mut pack, &mut triangles).end(b"volume");
+    measure_each(&mut pack, &mut triangles)
+}
+
+fn print_use(out: Output) -> Output {
+    out.bytes(b"usage: volume [PACK ..]\n")
+        .bytes(
+            b"Prints six times the volume of the model in each pack, of a file or of standard input (-): six and the number;\n",
+        )
+        .bytes(b"or refused and the number of the refusal, which the program explain explains.\n")
+}
+
+fn main() {
+    let w = wish_of(1, usize::MAX);
+    match w {
+        Wish::Run => run().end(b"volume"),
+        Wish::Help => print_use(Output::fresh()).end(b"volume"),
+        Wish::Wrong => print_use(Output::to(STDERR_FILENO)).end(b"volume"),
+    }
 }

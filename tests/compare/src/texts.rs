@@ -1,7 +1,12 @@
 //! What the programs must write: the second program's answers as their lines. `stored` and `programs` take it from here.
 
 use crate::{expected, Buffers};
-use cutborder::{Answer, Place, Refusal, MAX_INPUT};
+use cutborder::{plain, Answer, Place, Refusal, MAX_INPUT};
+
+/// What the programs say on standard error of a text that is no model, and of a pack that has no note or no positions to tell.
+pub const NO_MODEL: &str = "no model: V and the vertex numbers are expected, decimal, with white space between\n";
+pub const NO_NOTE: &str = "note: the pack is refused: there is no note\n";
+pub const NO_POSITIONS: &str = "unpack: the pack has no positions\n";
 
 type Reading<A> = fn(&[u8], &mut [u16], &mut [Place]) -> Result<A, Refusal>;
 
@@ -44,7 +49,26 @@ pub fn measured(input: &[u8]) -> String {
 pub fn noted(input: &[u8]) -> (Vec<u8>, String) {
     let (mut triangles, mut places) = lent();
     let (answer, note) = expected::bench(pack_of(input), &mut triangles, &mut places);
-    (note.to_vec(), answer.map_or_else(refused, |_| String::new()))
+    match answer {
+        Ok(_) => (note.to_vec(), String::new()),
+        Err(n) => (refused(n).into_bytes(), NO_NOTE.to_string()),
+    }
+}
+
+/// All that the program `check_list` must print for a model.
+pub fn checked(v: u64, list: &[u16]) -> String {
+    plain::check(v, list).map_or_else(refused, |_| "ok\n".to_string())
+}
+
+/// What `unpack --positions` must write for an accepted pack, three numbers to a line; nothing if it has no positions.
+pub fn positions_in(pack: &[u8]) -> Option<String> {
+    let length = |at: usize| u16::from_be_bytes([pack[at + 1], pack[at + 2]]) as usize;
+    let at = 11 + 3 + length(11);
+    if pack.get(at) != Some(&3) {
+        return None;
+    }
+    let words = pack[at + 3..at + 3 + length(at)].chunks(2).map(|w| i32::from(i16::from_be_bytes([w[0], w[1]])));
+    Some(lines_of(&words.collect::<Vec<_>>()))
 }
 
 /// All that the program `pack` must write for a model, with positions and a note if they are given: the pack, or the line of a refusal;

@@ -23,14 +23,11 @@ slice-aggregate-bench-on c = filled-length 0 _ (c .before .before .before .befor
 bench-on-requires : tie.Need-bench-on-requires
 bench-on-requires c κs = search needs
 
-to-requires : tie.Need-to-requires
-to-requires c κs = search needs
-
-print-refused-requires : tie.Need-print-refused-requires
-print-refused-requires c κs = search needs
-
 fresh-requires-2 : tie.Need-fresh-requires-2
 fresh-requires-2 c κs = search needs
+
+print-answer-requires : tie.Need-print-answer-requires
+print-answer-requires c κs = search needs
 
 print-part-requires : tie.Need-print-part-requires
 print-part-requires c κs = search needs
@@ -51,9 +48,8 @@ note-read-spec =
     returns
     slice-aggregate-bench-on
     bench-on-requires
-    to-requires
-    print-refused-requires
     fresh-requires-2
+    print-answer-requires
     print-part-requires
     same-length
     returns-2)

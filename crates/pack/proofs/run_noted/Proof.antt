@@ -1,54 +1,56 @@
 -- `pack::run_noted` is safe and ends.
 -- Assumes nothing.
 use borrow.Author.Needs.{needs}
-use Rattle.pack.proofs.Texts.{told-numbers, told-length}
+use Rattle.text.proofs.Fills.{told-numbers, told-length}
 use Rattle.pack.proofs.run_noted.Statement.{statement}
 use Rattle.pack.proofs.run_noted.Tie as tie
 
-slice-aggregate-pack-standard : tie.Need-slice-aggregate-pack-standard
-slice-aggregate-pack-standard c = search needs
+slice-aggregate-pack-model : tie.Need-slice-aggregate-pack-model
+slice-aggregate-pack-model c = search needs
 
-slice-aggregate-pack-standard-2 : tie.Need-slice-aggregate-pack-standard-2
-slice-aggregate-pack-standard-2 c = search needs
+slice-aggregate-pack-model-2 : tie.Need-slice-aggregate-pack-model-2
+slice-aggregate-pack-model-2 c = search needs
 
-pack-standard-requires : tie.Need-pack-standard-requires
-pack-standard-requires c κs = search needs
+pack-model-requires : tie.Need-pack-model-requires
+pack-model-requires c κs = search needs
 
 returns : tie.Need-returns
 returns c = search needs
 
-slice-aggregate-read-positions : tie.Need-slice-aggregate-read-positions
-slice-aggregate-read-positions c = search needs
+slice-aggregate-tell-input : tie.Need-slice-aggregate-tell-input
+slice-aggregate-tell-input c = search needs
 
-slice-aggregate-read-positions-2 : tie.Need-slice-aggregate-read-positions-2
-slice-aggregate-read-positions-2 c = search needs
+slice-aggregate-tell-input-2 : tie.Need-slice-aggregate-tell-input-2
+slice-aggregate-tell-input-2 c = search needs
 
-read-positions-requires : tie.Need-read-positions-requires
-read-positions-requires c κs = search needs
+slice-aggregate-tell-input-3 : tie.Need-slice-aggregate-tell-input-3
+slice-aggregate-tell-input-3 c = search needs
+
+tell-input-requires : tie.Need-tell-input-requires
+tell-input-requires c κs = search needs
 
 enum-known-t : tie.Need-enum-known-t
 enum-known-t c = search needs
 
-slice-aggregate-pack-standard-3 : tie.Need-slice-aggregate-pack-standard-3
-slice-aggregate-pack-standard-3 c = search needs
+slice-aggregate-pack-model-3 : tie.Need-slice-aggregate-pack-model-3
+slice-aggregate-pack-model-3 c = search needs
 
 array-share-prefix-positions : tie.Need-array-share-prefix-positions
 array-share-prefix-positions c =
-    told-numbers _ (c .before .before .before .before .before .before .read-positions .ensures) (c .before .before .t .given .1)
+    told-numbers _ (c .before .before .before .before .before .before .tell-input .ensures) (c .before .before .t .given .1)
 
-slice-aggregate-pack-standard-4 : tie.Need-slice-aggregate-pack-standard-4
-slice-aggregate-pack-standard-4 c =
-    told-length _ (c .before .before .before .before .before .before .before .read-positions .ensures)
-    (c .before .before .before .t .given .1)
+slice-aggregate-pack-model-4 : tie.Need-slice-aggregate-pack-model-4
+slice-aggregate-pack-model-4 c =
+    told-length _ (c .before .before .before .before .before .before .before .tell-input .ensures) (c .before .before .before .t .given .1)
 
-pack-standard-requires-2 : tie.Need-pack-standard-requires-2
-pack-standard-requires-2 c κs = search needs
+pack-model-requires-2 : tie.Need-pack-model-requires-2
+pack-model-requires-2 c κs = search needs
 
 enum-told : tie.Need-enum-told
 enum-told c = search needs
 
-print-no-positions-requires : tie.Need-print-no-positions-requires
-print-no-positions-requires c κs = search needs
+no-positions-requires : tie.Need-no-positions-requires
+no-positions-requires c κs = search needs
 
 enum-told-2 : tie.Need-enum-told-2
 enum-told-2 c = search needs
@@ -78,20 +80,21 @@ pub run-noted-spec : {M : Type 1} → statement M
 run-noted-spec =
     tie.close
     (tie.spec
-    slice-aggregate-pack-standard
-    slice-aggregate-pack-standard-2
-    pack-standard-requires
+    slice-aggregate-pack-model
+    slice-aggregate-pack-model-2
+    pack-model-requires
     returns
-    slice-aggregate-read-positions
-    slice-aggregate-read-positions-2
-    read-positions-requires
+    slice-aggregate-tell-input
+    slice-aggregate-tell-input-2
+    slice-aggregate-tell-input-3
+    tell-input-requires
     enum-known-t
-    slice-aggregate-pack-standard-3
+    slice-aggregate-pack-model-3
     array-share-prefix-positions
-    slice-aggregate-pack-standard-4
-    pack-standard-requires-2
+    slice-aggregate-pack-model-4
+    pack-model-requires-2
     enum-told
-    print-no-positions-requires
+    no-positions-requires
     enum-told-2
     fresh-requires
     enum-told-3

@@ -13,8 +13,8 @@ Inv-loop pack₀ triangles₀ n out₀ i₀ t7 pack triangles out i = (length pa
 abbrev μ-loop : tie.MeasureT-loop
 μ-loop pack₀ triangles₀ n out₀ i₀ t7 pack triangles out i = n - i
 
-pack-count-requires : tie.Need-pack-count-requires Inv-loop μ-loop
-pack-count-requires c κs = search needs
+input-count-requires : tie.Need-input-count-requires Inv-loop μ-loop
+input-count-requires c κs = search needs
 
 fresh-requires : tie.Need-fresh-requires Inv-loop μ-loop
 fresh-requires c κs = search needs
@@ -64,7 +64,7 @@ measure-each-spec =
     (tie.spec
     Inv-loop
     μ-loop
-    pack-count-requires
+    input-count-requires
     fresh-requires
     loop-holds
     add-i

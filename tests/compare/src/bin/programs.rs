@@ -1,10 +1,10 @@
-//! The programs `unpack`, `volume`, `note` and `pack` compared with the second program. `programs FOLDER`
+//! The programs `unpack`, `volume`, `note`, `check_list` and `pack` compared with the second program. `programs FOLDER`
 //!
 //! Every pack and model of the second program's vectors, random ones, sound and spoilt, with positions and notes and without, input that is
 //! too long, and input that is none; packs in files that are named; files that are not there; what cannot be read.
 
 use compare::expected::{self, random_note, unfit_note, with_note, UNFIT};
-use compare::texts;
+use compare::texts::{self, NO_MODEL, NO_POSITIONS};
 use cutborder::gen::{self, Model};
 use cutborder::gen02;
 use cutborder::proto::unhex;
@@ -22,7 +22,6 @@ const MODELS: &str = include_str!("../../../../reference/vectors/models.txt");
 const MORE_MODELS: &str = include_str!("../../../definitions/models.txt");
 /// What stands in the order's file before; a refused model leaves it.
 const OLD_ORDER: &str = "what was there before\n";
-const NO_MODEL: &str = "no model: V and the vertex numbers are expected, decimal, with white space between\n";
 
 /// What the program writes for some bytes, with some arguments, and what it says on standard error.
 fn told(program: &str, args: &[String], input: &[u8]) -> (Vec<u8>, String) {
@@ -116,6 +115,19 @@ fn ordered(program: &str, folder: &Path, input: &[u8], positions: Option<&str>, 
     (out, fs::read_to_string(folder.join("order")).expect("the order"))
 }
 
+/// What `unpack --positions` prints for an accepted pack, and writes to the file that this names.
+fn unpack_positions(program: &str, own: &Path, pack: &[u8]) {
+    let file = own.join("told");
+    fs::write(&file, OLD_ORDER).expect("a file");
+    let (out, said) = told(program, &["--positions".into(), file.to_str().expect("a name").into()], pack);
+    let positions = fs::read_to_string(&file).expect("the positions");
+    let expected = match texts::positions_in(pack) {
+        Some(lines) => (texts::unpacked(pack), String::new(), lines),
+        None => (String::new(), NO_POSITIONS.to_string(), OLD_ORDER.to_string()),
+    };
+    assert_eq!((String::from_utf8(out).expect("text"), said, positions), expected);
+}
+
 /// The packings of a model, without positions and a note, with some, and with such that do not fit; and what is read from the packs.
 fn packings(folder: &str, own: &Path, rng: &mut Rng, text: &str) -> usize {
     let words: Vec<u64> = text.split_ascii_whitespace().filter_map(|w| w.parse().ok()).collect();
@@ -128,6 +140,7 @@ fn packings(folder: &str, own: &Path, rng: &mut Rng, text: &str) -> usize {
     let (sound, unfit, short, long) = (Some(&sound[..]), Some(&unfit[..]), Some(&short[..]), Some(&long[..]));
     let cases = [(None, None), (sound, None), (unfit, None), (None, short), (sound, short), (None, long), (sound, long), (unfit, long)];
     assert_eq!(written(&format!("{folder}/pack"), &[], spaced.as_bytes()), texts::packed(v, &list, None, None).0, "model {text}");
+    assert_eq!(printed(&format!("{folder}/check_list"), spaced.as_bytes()), texts::checked(v, &list), "model {text}");
     for (positions, note) in cases {
         let (pack, order) = texts::packed(v, &list, positions, note);
         let grid = positions.map(texts::lines_of);
@@ -138,9 +151,10 @@ fn packings(folder: &str, own: &Path, rng: &mut Rng, text: &str) -> usize {
             assert_eq!(printed(&format!("{folder}/unpack"), &pack), texts::unpacked(&pack), "{said}");
             assert_eq!(printed(&format!("{folder}/volume"), &pack), texts::measured(&pack), "{said}");
             assert_eq!(written(&format!("{folder}/note"), &[], &pack), note.unwrap_or_default(), "{said}");
+            unpack_positions(&format!("{folder}/unpack"), own, &pack);
         }
     }
-    cases.len() + 1
+    cases.len() + 2
 }
 
 /// The program `pack` on models of all kinds, the paper's and both fans among them; and what the others print for its packs.
@@ -169,11 +183,18 @@ fn packs(folder: &str) -> usize {
         ("65536 0 1 2", "refused 2\n"),
         ("99999999999999999999999 0 1 2", "refused 2\n"),
     ] {
-        assert_eq!(printed(&pack, text.as_bytes()), line, "{text}");
+        for program in ["pack", "check_list"] {
+            let (out, said) = told(&format!("{folder}/{program}"), &[], text.as_bytes());
+            let expected = if line == NO_MODEL { (String::new(), format!("{program}: {line}")) } else { (line.to_string(), String::new()) };
+            assert_eq!((String::from_utf8(out).expect("text"), said), expected, "{program}: {text}");
+            n += 1;
+        }
+    }
+    for program in [pack, format!("{folder}/check_list")] {
+        assert_eq!(printed(&program, "3 ".repeat(30_000).as_bytes()), "refused 1\n");
         n += 1;
     }
-    assert_eq!(printed(&pack, "3 ".repeat(30_000).as_bytes()), "refused 1\n");
-    n + 2
+    n + 1
 }
 
 extern "C" {
@@ -249,8 +270,8 @@ fn main() {
         println!("program {name}: {alike} inputs alike");
     }
     let note = format!("{folder}/note");
-    let alike = readings(|p| told(&note, &[], p), texts::noted) + odd(&note, "", "refused 12\n");
+    let alike = readings(|p| told(&note, &[], p), texts::noted) + odd(&note, "refused 12\n", texts::NO_NOTE);
     println!("program note: {alike} inputs alike");
-    let alike = packs(&folder) + odd(&format!("{folder}/pack"), NO_MODEL, "");
-    println!("program pack: {alike} inputs alike");
+    let alike: usize = ["pack", "check_list"].map(|p| odd(&format!("{folder}/{p}"), "", &format!("{p}: {NO_MODEL}"))).iter().sum();
+    println!("programs pack and check_list: {} inputs alike", alike + packs(&folder));
 }

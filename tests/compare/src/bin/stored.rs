@@ -12,6 +12,7 @@ use std::path::Path;
 
 const PACKS: &str = include_str!("../../../../reference/vectors/packs.txt");
 const CALLS: &str = include_str!("../../../../reference/vectors/calls.txt");
+const FORMAT: &str = include_str!("../../../../docs/FORMAT.md");
 
 /// A pack that 20 refuses; those of the vectors have the peaks of full loops.
 const TWENTY: &str = "0100080005000400050002020005e0370026db";
@@ -91,6 +92,37 @@ fn packing(folder: &Path) {
     store(folder, "note", &pack, &texts::noted(&pack).0);
 }
 
+/// Lists for the program `check_list`: M2, and after it the smallest of each refusal 1 to 7.
+fn checking(folder: &Path) {
+    let refused: [(u64, &[u16]); 7] = [
+        (3, &[]),
+        (2, &[0, 1, 0]),
+        (3, &[0, 1, 3]),
+        (3, &[0, 1, 1]),
+        (3, &[0, 1, 2, 0, 1, 2]),
+        (4, &[0, 1, 2]),
+        (5, &[0, 1, 2, 0, 3, 4]),
+    ];
+    let (mut args, mut output) = (String::from("-\n"), texts::checked(4, &M2));
+    for (i, (v, list)) in refused.iter().enumerate() {
+        let (name, printed) = (format!("refused-{}", i + 1), texts::checked(*v, list));
+        assert_eq!(printed, format!("refused {}\n", i + 1));
+        let words: Vec<String> = list.iter().map(u16::to_string).collect();
+        store_data(folder, "check_list", &name, format!("{v}\n{}\n", words.join(" ")).as_bytes());
+        args += &(name + "\n");
+        output += &printed;
+    }
+    store(folder, "check_list", M2_TEXT, output.as_bytes());
+    fs::write(folder.join("check_list/args"), args).expect("args");
+}
+
+/// The sentences that the program `explain` must print: the first two columns of the table of refusals in docs/FORMAT.md.
+fn sentences() -> String {
+    let table = FORMAT.lines().skip_while(|l| !l.starts_with("| N | Refused because |")).skip(2);
+    let rows = table.take_while(|l| !l.is_empty()).filter_map(|l| l.strip_prefix("| ")?.split_once(" | "));
+    rows.map(|(n, rest)| format!("{n} {}\n", rest.split(" | ").next().unwrap_or(""))).collect()
+}
+
 /// Building calls: the vectors, lines that are no call, and random lists, model after model.
 fn calls() -> (String, String) {
     let no_calls = ["finish", "op new", "op split", "op split x", "op turn", "begin 3 1 3 1", "", "end"];
@@ -114,6 +146,8 @@ fn main() {
     let (input, output) = calls();
     store(folder, "build", input.as_bytes(), output.as_bytes());
     packing(folder);
+    checking(folder);
+    store(folder, "explain", b"", sentences().as_bytes());
     let (m2, _) = texts::packed(4, &M2, None, None);
     readings(folder, "unpack", &m2, texts::unpacked, &[12, 13, 15, 16, 17, 18, 19, 20, 23, 25]);
     let (m2, _) = texts::packed(4, &M2, Some(&CORNERS), None);

@@ -62,11 +62,11 @@ finish-line-requires c κs = search needs
 enum-told-4 : tie.Need-enum-told-4
 enum-told-4 c = search needs
 
-slice-aggregate-told : tie.Need-slice-aggregate-told
-slice-aggregate-told c = search needs
+slice-aggregate-no-call : tie.Need-slice-aggregate-no-call
+slice-aggregate-no-call c = search needs
 
-told-requires-2 : tie.Need-told-requires-2
-told-requires-2 c κs = search needs
+no-call-requires : tie.Need-no-call-requires
+no-call-requires c κs = search needs
 
 same-length : tie.Need-same-length
 same-length c = search needs
@@ -114,8 +114,8 @@ answer-line-spec =
     numbers-from-requires-2
     finish-line-requires
     enum-told-4
-    slice-aggregate-told
-    told-requires-2
+    slice-aggregate-no-call
+    no-call-requires
     same-length
     returns-2
     same-length-2

@@ -6,11 +6,11 @@ use borrow.Author.Needs.{needs}
 use Rattle.build.proofs.answer.finish_line.Statement.{statement}
 use Rattle.build.proofs.answer.finish_line.Tie as tie
 
-slice-aggregate-told : tie.Need-slice-aggregate-told
-slice-aggregate-told c = search needs
+slice-aggregate-no-call : tie.Need-slice-aggregate-no-call
+slice-aggregate-no-call c = search needs
 
-told-requires : tie.Need-told-requires
-told-requires c κs = search needs
+no-call-requires : tie.Need-no-call-requires
+no-call-requires c κs = search needs
 
 returns : tie.Need-returns
 returns c = search needs
@@ -39,8 +39,8 @@ pub finish-line-spec : {M : Type 1} → statement M
 finish-line-spec =
     tie.close
     (tie.spec
-    slice-aggregate-told
-    told-requires
+    slice-aggregate-no-call
+    no-call-requires
     returns
     settle-requires
     slice-aggregate-finish-on

@@ -3,6 +3,7 @@
 use mathlib.Core.Path.{sym}
 use lib.Seq.{length-take-le}
 use borrow.Author.Needs.{needs}
+use Rattle.text.proofs.Fills.{open-fits, open-length}
 use Rattle.pack.proofs.order.write_order.Statement.{statement}
 use Rattle.pack.proofs.order.write_order.Tie as tie
 
@@ -12,14 +13,20 @@ returns c = search needs
 returns-2 : tie.Need-returns-2
 returns-2 c = search needs
 
-open-overwrite-requires : tie.Need-open-overwrite-requires
-open-overwrite-requires c κs = search needs
+slice-aggregate-open-output : tie.Need-slice-aggregate-open-output
+slice-aggregate-open-output c = search needs
 
-slice-aggregate-say-unwritten : tie.Need-slice-aggregate-say-unwritten
-slice-aggregate-say-unwritten c = search needs
+slice-aggregate-open-output-2 : tie.Need-slice-aggregate-open-output-2
+slice-aggregate-open-output-2 c = search needs
 
-say-unwritten-requires : tie.Need-say-unwritten-requires
-say-unwritten-requires c κs = search needs
+open-output-requires : tie.Need-open-output-requires
+open-output-requires c κs = search needs
+
+enum-known-opened : tie.Need-enum-known-opened
+enum-known-opened c = search needs
+
+enum-told : tie.Need-enum-told
+enum-told c = search needs
 
 returns-3 : tie.Need-returns-3
 returns-3 c = search needs
@@ -36,6 +43,16 @@ print-rows-requires c κs = search needs
 slice-aggregate-close : tie.Need-slice-aggregate-close
 slice-aggregate-close c = search needs
 
+array-share-prefix-name : tie.Need-array-share-prefix-name
+array-share-prefix-name c =
+    let k = c .before .before .before .before .before in
+    open-fits _ (k .before .before .before .open-output .ensures) (k .opened .given .1)
+
+slice-aggregate-close-2 : tie.Need-slice-aggregate-close-2
+slice-aggregate-close-2 c =
+    let k = c .before .before .before .before .before .before in
+    open-length _ (k .before .before .before .open-output .ensures) (k .opened .given .1)
+
 close-requires : tie.Need-close-requires
 close-requires c κs = search needs
 
@@ -48,13 +65,17 @@ write-order-spec =
     (tie.spec
     returns
     returns-2
-    open-overwrite-requires
-    slice-aggregate-say-unwritten
-    say-unwritten-requires
+    slice-aggregate-open-output
+    slice-aggregate-open-output-2
+    open-output-requires
+    enum-known-opened
+    enum-told
     returns-3
     to-requires
     slice-aggregate-print-rows
     print-rows-requires
     slice-aggregate-close
+    array-share-prefix-name
+    slice-aggregate-close-2
     close-requires
     returns-4)

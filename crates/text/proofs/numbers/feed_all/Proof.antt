@@ -4,8 +4,8 @@ use Prim.Native.Nat.{_≤_, _-_}
 use mathlib.Core.Path.{_≡_}
 use lib.ListN.{length}
 use borrow.Author.Needs.{needs}
-use Rattle.pack.proofs.numbers.feed_all.Statement.{statement}
-use Rattle.pack.proofs.numbers.feed_all.Tie as tie
+use Rattle.text.proofs.numbers.feed_all.Statement.{statement}
+use Rattle.text.proofs.numbers.feed_all.Tie as tie
 
 abbrev Inv-loop : tie.InvT-loop
 Inv-loop part numbers₀ t₀ i₀ numbers t i = (i ≤ length part) × (length numbers ≡ length numbers₀)

@@ -3,9 +3,9 @@
 use mathlib.Core.Path.{_≡_}
 use lib.ListN.{length}
 use borrow.Author.Needs.{needs}
 use Rattle.text.proofs.Fills.{fills-to, filled-length}
-use Rattle.pack.proofs.numbers.read_numbers.Statement.{statement}
-use Rattle.pack.proofs.numbers.read_numbers.Tie as tie
+use Rattle.text.proofs.numbers.read_numbers.Statement.{statement}
+use Rattle.text.proofs.numbers.read_numbers.Tie as tie
 
 abbrev Inv-loop : tie.InvT-loop
 Inv-loop fd signed part₀ numbers₀ t₀ left₀ part numbers t left = (length part ≡ length part₀) × (length numbers ≡ length numbers₀)

@@ -1,17 +1,20 @@
 // Texts of numbers: decimal, with white space between. Of a model V and the vertex numbers, of positions signed numbers.
-use text::streams::Read;
-use text::streams::read_full;
-use text::streams::say;
-use text::streams::say_failed;
-use text::words::clamped;
-use text::words::is_space;
-use text::words::more;
-ghost use Rattle.pack.specs.Texts.{Holds};
+use crate::streams::Read;
+use crate::streams::read_full;
+use crate::streams::say;
+use crate::words::clamped;
+use crate::words::is_space;
+use crate::words::more;
+use rules::CORNERS;
+ghost use Rattle.text.specs.Reads.{Holds};
 
 // A text is read in parts of so many bytes, and fewer than so many whole ones.
 pub const PART: usize = 65536;
 
 const PARTS: usize = 256;
+
+// A model's numbers: V, the most numbers of a list, and one more to tell a longer list.
+pub const NUMBERS: usize = CORNERS + 2;
 
 // How far a text is read: whether its numbers may have a sign, how many have ended, the one that is being read, whether it has a sign
 // and whether it has a digit, and whether the text is not one of such numbers.
@@ -190,13 +193,10 @@ pub fn read_numbers(fd: i32, signed: bool, part: &mut [u8], numbers: &mut [u16])
     Told::TooLong
 }
 
-// Says on standard error why a text was not read whole, if it was not. No other call may stand between, for the system's reason is that
-// of the last call that failed.
-pub fn say_unread(t: Told, what: &[u8], too_long: &[u8]) {
-    match t {
-        Told::Unread => say_failed(b"pack", what),
-        Told::TooLong => say(b"pack", too_long),
-        Told::Numbers(_) => {}
-        Told::NoNumbers => {}
-    }
+// Says that a text is no model.
+pub fn say_no_model(program: &[u8]) {
+    say(
+        program,
+        b"no model: V and the vertex numbers are expected, decimal, with white space between",
+    );
 }

@@ -1,24 +1,18 @@
--- `pack::pack_standard` is safe and ends.
+-- `pack::pack_model` is safe and ends.
 -- Assumes nothing.
 use borrow.Author.Needs.{needs}
-use Rattle.pack.proofs.Texts.{told-numbers}
-use Rattle.pack.proofs.pack_standard.Statement.{statement}
-use Rattle.pack.proofs.pack_standard.Tie as tie
+use Rattle.text.proofs.Fills.{told-numbers}
+use Rattle.pack.proofs.pack_model.Statement.{statement}
+use Rattle.pack.proofs.pack_model.Tie as tie
 
-slice-aggregate-read-numbers : tie.Need-slice-aggregate-read-numbers
-slice-aggregate-read-numbers c = search needs
+slice-aggregate-tell-input : tie.Need-slice-aggregate-tell-input
+slice-aggregate-tell-input c = search needs
 
-read-numbers-requires : tie.Need-read-numbers-requires
-read-numbers-requires c κs = search needs
+slice-aggregate-tell-input-2 : tie.Need-slice-aggregate-tell-input-2
+slice-aggregate-tell-input-2 c = search needs
 
-slice-aggregate-say-unread : tie.Need-slice-aggregate-say-unread
-slice-aggregate-say-unread c = search needs
-
-slice-aggregate-say-unread-2 : tie.Need-slice-aggregate-say-unread-2
-slice-aggregate-say-unread-2 c = search needs
-
-say-unread-requires : tie.Need-say-unread-requires
-say-unread-requires c κs = search needs
+tell-input-requires : tie.Need-tell-input-requires
+tell-input-requires c κs = search needs
 
 enum-known-t : tie.Need-enum-known-t
 enum-known-t c = search needs
@@ -28,14 +22,13 @@ slice-aggregate-pack-numbers c = search needs
 
 pack-numbers-requires : tie.Need-pack-numbers-requires
 pack-numbers-requires c κs =
-    told-numbers _ (c .before .before .before .before .before .before .before .before .before .before .read-numbers .ensures)
-    (c .before .before .t .given .1)
+    told-numbers _ (c .before .before .before .before .before .before .before .tell-input .ensures) (c .before .before .t .given .1)
 
 enum-told : tie.Need-enum-told
 enum-told c = search needs
 
-print-no-model-requires : tie.Need-print-no-model-requires
-print-no-model-requires c κs = search needs
+no-model-requires : tie.Need-no-model-requires
+no-model-requires c κs = search needs
 
 enum-told-2 : tie.Need-enum-told-2
 enum-told-2 c = search needs
@@ -73,20 +66,18 @@ same-length-4 c = search needs
 returns-4 : tie.Need-returns-4
 returns-4 c = search needs
 
-pub pack-standard-spec : {M : Type 1} → statement M
-pack-standard-spec =
+pub pack-model-spec : {M : Type 1} → statement M
+pack-model-spec =
     tie.close
     (tie.spec
-    slice-aggregate-read-numbers
-    read-numbers-requires
-    slice-aggregate-say-unread
-    slice-aggregate-say-unread-2
-    say-unread-requires
+    slice-aggregate-tell-input
+    slice-aggregate-tell-input-2
+    tell-input-requires
     enum-known-t
     slice-aggregate-pack-numbers
     pack-numbers-requires
     enum-told
-    print-no-model-requires
+    no-model-requires
     enum-told-2
     fresh-requires
     enum-told-3

@@ -1,19 +1,19 @@
--- `build::run` is safe and ends. The measure is the count of turns.
+-- `build::answer_all` is safe and ends. The measure is the count of turns.
 -- Assumes nothing.
 use Prim.Native.Nat.{_≤_, _<_}
 use mathlib.Core.Path.{_≡_}
 use lib.ListN.{length}
 use borrow.Author.Needs.{needs}
-use Rattle.build.proofs.run.Statement.{statement}
-use Rattle.build.proofs.run.Tie as tie
+use Rattle.build.proofs.answer_all.Statement.{statement}
+use Rattle.build.proofs.answer_all.Tie as tie
 
 abbrev Inv-loop : tie.InvT-loop
-Inv-loop input₀ triangles₀ m₀ s₀ held₀ left₀ input triangles m s held left =
+Inv-loop fd input₀ triangles₀ m₀ s₀ held₀ left₀ input triangles m s held left =
     (held < length input) × (s .entries ≤ length triangles) × (s .records ≤ 1024)
     × (length input ≡ length input₀) × (length triangles ≡ length triangles₀)
 
 abbrev μ-loop : tie.MeasureT-loop
-μ-loop input₀ triangles₀ m₀ s₀ held₀ left₀ input triangles m s held left = left
+μ-loop fd input₀ triangles₀ m₀ s₀ held₀ left₀ input triangles m s held left = left
 
 fresh-requires : tie.Need-fresh-requires Inv-loop μ-loop
 fresh-requires c κs = search needs
@@ -54,8 +54,8 @@ same-length-4 c = search needs
 returns-2 : tie.Need-returns-2 Inv-loop μ-loop
 returns-2 c = search needs
 
-pub run-spec : {M : Type 1} → statement M
-run-spec =
+pub answer-all-spec : {M : Type 1} → statement M
+answer-all-spec =
     tie.close
     (tie.spec
     Inv-loop
