@@ -14,19 +14,15 @@
  *   25  the note has no byte or over 64
  *   24  there is no volume: the pack has no positions, or the model has a rim
  *
- * Whatever the bytes are, it ends with one of these answers; it reads the pack where it lies, and writes nothing but the memory and *six.
- * The memory has 1,024 bytes, anywhere and with anything in them; what they hold afterwards means nothing. Beside it stands only what is
- * on the stack, below 700 bytes on AVR. Nothing is kept between two calls, and no memory is allocated. tests/avr/run measures the stack,
- * the flash and the cycles.
- *
  * It trusts the service's check for two rules, 18 and 20 of cutborder.h: a pack that the service would refuse for one of them may get a
  * volume here, or another refusal. On a pack that the service measures the volume is the service's, or the answer 26.
  *
- * What a caller owes: pack leads to `bytes` bytes, memory to 1,024 and six to one number; no two of them overlap, and nobody else writes
- * them meanwhile. A pointer to no bytes is not null. The length has 64 bits on every machine.
+ * What a caller owes, and all that it owes: pack leads to pack_bytes bytes, memory to 1,024 and six to one number, aligned as its type;
+ * none of them is null, even where there are no bytes; no two of them overlap, and nobody else writes them meanwhile. Whatever the bytes
+ * are, the call ends with one of these answers. Nothing is kept between two calls, and no memory is allocated.
  *
  * Proved of the function: crates/furnace. Link with target/staticlib/libfurnace.a, which `rt staticlib furnace` writes (x86-64), or with
- * the object that tests/avr/build writes (AVR).
+ * the object that tests/avr/build writes (AVR). A main loop around it is examples/furnace_main.c.
  */
 #ifndef FURNACE_H
 #define FURNACE_H
@@ -37,7 +33,18 @@
 extern "C" {
 #endif
 
-uint8_t furnace_read(const uint8_t *pack, uint64_t bytes, uint8_t memory[1024], int64_t *six);
+#define FURNACE_MEMORY 1024 /* bytes to lend */
+#define FURNACE_PLACES 200  /* what a pack may state without 26 */
+#define FURNACE_LOOPS 12
+
+/* Reads any bytes as a pack, where they lie. The length has 64 bits on every machine.
+ * Returns   0, or 12, 13, 26, 15 to 17, 19, 23, 25, 24; among 15 to 17 the first operation at fault decides
+ * Lent      pack: pack_bytes bytes, which are only read; memory: 1,024 bytes, which may hold anything
+ * Aligned   to 8: six (on AVR anywhere)
+ * Accepted  *six: six times the volume; what memory holds means nothing, and it is free until the next call
+ * Refused   *six is as it was; memory as if accepted
+ * Stack     below 1 KiB; below 700 bytes on AVR, where tests/avr/run measures it, the flash and the cycles */
+uint8_t furnace_read(const uint8_t *pack, uint64_t pack_bytes, uint8_t memory[FURNACE_MEMORY], int64_t *six);
 
 #ifdef __cplusplus
 }
