@@ -3,21 +3,11 @@
 #include "../../include/cutborder.h"
 #include "../../include/cutborder_search.h"
 #include "../../include/furnace.h"
-#include <stdio.h>
+#include "expect.h"
 #include <stdlib.h>
 #include <string.h>
 
 enum { ALONG = 8, AROUND = 6, V = ALONG * AROUND, T = 2 * V };
-
-static int wrong;
-
-#define EXPECT(what) \
-    do { \
-        if (!(what)) { \
-            wrong++; \
-            printf("line %d: %s\n", __LINE__, #what); \
-        } \
-    } while (0)
 
 static void *lent[64];
 static int count;

@@ -1,18 +1,8 @@
 /* Where the compiled library keeps each field of a builder and of a place record: a building is brought to a state in which the fields
  * differ, and its bytes are read by their offsets. What the operations do is worked out by hand, from docs/FORMAT.md. */
 #include "../../include/cutborder.h"
-#include <stdio.h>
+#include "expect.h"
 #include <string.h>
-
-static int wrong;
-
-#define EXPECT(what) \
-    do { \
-        if (!(what)) { \
-            wrong++; \
-            printf("line %d: %s\n", __LINE__, #what); \
-        } \
-    } while (0)
 
 static uint16_t triangles[CUTBORDER_ENTRIES];
 static struct cutborder_place lent_places[1024];

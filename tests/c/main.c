@@ -3,18 +3,8 @@
 #include "../../include/cutborder.h"
 #include "../../include/cutborder_search.h"
 #include "../../include/furnace.h"
-#include <stdio.h>
+#include "expect.h"
 #include <string.h>
-
-static int wrong;
-
-#define EXPECT(what) \
-    do { \
-        if (!(what)) { \
-            wrong++; \
-            printf("line %d: %s\n", __LINE__, #what); \
-        } \
-    } while (0)
 
 static const uint16_t list[12] = {0, 1, 2, 1, 0, 3, 2, 1, 3, 0, 2, 3};
 static const uint8_t expected[] = {1, 0, 8, 0, 4, 0, 4, 0, 4, 0, 1, 2, 0, 2, 0xe0, 0xd0};

@@ -1,8 +1,7 @@
 """Inputs for the fuzzer to begin with: seeds.py FOLDER ORACLE
 
 Packs, models and building calls of the vectors and of the second program's generators (what has landed: C-16), written as the bytes that
-packs.c, lists.c and
-building.c read. Those of over 8,192 bytes are left out.
+packs.c, lists.c and building.c read. Those of over 8,192 bytes are left out.
 """
 
 import pathlib
