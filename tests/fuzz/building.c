@@ -8,13 +8,18 @@ struct op {
     uint32_t code, p, j;
 };
 
+/* An operation that 16 to 18 refused after so many others, with these counts stated; no answer if there was none. */
+struct refusal {
+    struct op op;
+    size_t after;
+    uint32_t counts[4], answer;
+};
+
 static struct run {
     struct room state, triangles, places, built, totals, euler;
     struct op ops[OPS_MOST + 1]; /* those accepted */
     size_t accepted;
-    struct op refused_op; /* the last that 16 to 18 refused before any damage, after so many, and the answer */
-    size_t refused_after;
-    uint32_t refused_with;
+    struct refusal last; /* before any damage */
     bool damaged; /* its state need not be one that building comes to */
     unsigned unsound; /* how often 21 was answered */
 } run;
@@ -40,7 +45,7 @@ static void lend(struct lending with, size_t t)
     run.euler = lend_any(4, with.filler);
     run.accepted = 0;
     run.damaged = false;
-    run.refused_with = 0;
+    run.last.answer = 0;
     run.unsound = 0;
 }
 
@@ -108,7 +113,7 @@ static uint32_t operate(struct op o)
     MUST(n == 0 || (is_unchanged() && is_same(run.built)), "%u changed something", n);
     MUST(n != 0 || o.code <= CUTBORDER_START, "operation %u is accepted", o.code);
     if (n != 0 && !run.damaged && !is_complete())
-        run.refused_op = o, run.refused_after = run.accepted, run.refused_with = n;
+        run.last = (struct refusal){o, run.accepted, {before.vertices, before.triangles, before.most_places, before.most_loops}, n};
     if (n == 0) {
         operated(&before, o);
         MUST(run.accepted < OPS_MOST, "the test keeps %d operations", OPS_MOST);
@@ -257,24 +262,18 @@ static size_t pack_of(uint8_t *to, const uint32_t counts[4], const struct op *op
     return end;
 }
 
-/* Unpacking refuses the last operation that was refused too, with the same number; if its indices have the pack's bits. */
-static void refused_alike(struct lending with)
+/* Unpacking refuses what was refused after these operations, with the same number; if its indices have the pack's bits. */
+static void refused_alike(const struct refusal *r, struct lending with)
 {
     static uint8_t pack[1 << 16];
     static struct model model;
-    const struct cutborder_builder *s = state();
-    const struct op *o = &run.refused_op;
-    uint32_t counts[4] = {s->vertices, s->triangles, s->most_places, s->most_loops}, n = run.refused_with;
-    if (n == 0 || o->code > CUTBORDER_START || o->p > 127 || o->j > 1023)
+    if (r->answer == 0 || r->op.code > CUTBORDER_START || r->op.p > 127 || r->op.j > 1023)
         return;
-    struct op kept = run.ops[run.refused_after];
-    run.ops[run.refused_after] = *o;
-    size_t bytes = pack_of(pack, counts, run.ops, run.refused_after + 1, besides_of(0));
-    run.ops[run.refused_after] = kept;
-    rooms_close();
+    run.ops[r->after] = r->op;
+    size_t bytes = pack_of(pack, r->counts, run.ops, r->after + 1, besides_of(0));
     with.entries = with.records = 0;
     uint32_t answer = read_pack(pack, bytes, with, &model);
-    MUST(answer == n, "operation %u is refused with %u, by unpacking with %u", o->code, n, answer);
+    MUST(answer == r->answer, "operation %u is refused with %u, by unpacking with %u", r->op.code, r->answer, answer);
 }
 
 /* The run once more with the counts that it came to: each operation is accepted again, and unpacking answers what the finish does. Where
@@ -334,9 +333,11 @@ void fuzz_building(struct input *in)
     while (!run.damaged && given & 4 && state()->live > 0)
         MUST(operate((struct op){CUTBORDER_BORDER, 0, 0}) == 0, "a border where a loop is live");
     finish();
-    if (!run.damaged && given & 8)
-        refused_alike(with);
-    else if (!run.damaged && run.accepted > 0)
+    struct refusal last = run.last;
+    bool sound = !run.damaged;
+    if (sound && run.accepted > 0)
         again(with, besides_of(given));
     rooms_close();
+    if (sound)
+        refused_alike(&last, with);
 }

@@ -58,9 +58,9 @@ def of_calls(calls, i):
     """A beginning and what follows it; the loops that are left are ended by borders in every other run."""
     counts = b"".join(two(int(word.split("=")[-1])) for word in calls[0].split()[1:5])
     steps = [of_operation(words) for words in (call.split() for call in calls[1:]) if words[0] == "op"]
-    if i % 3 == 0:
-        steps.append(damage(i // 3))
-    given = i % 16 + (i % 5 == 0) * 192
+    if i % 5 == 0:
+        steps.append(damage(i // 5))
+    given = i % 8 + (i % 11 == 0) * 192
     return lending(2, i) + (bytes([1, given]) + counts if i % 2 else bytes([0, given])) + b"".join(steps)
 
 
@@ -88,7 +88,7 @@ def main(folder, oracle):
     models = lines((VECTORS / "models.txt").read_text()) + lines((OWN / "models.txt").read_text())
     models += told("gen", "1", "200") + [fan(n) for n in range(1_022, 1_030)]
     calls = lines((VECTORS / "calls.txt").read_text()) + lines((OWN / "calls.txt").read_text())
-    calls += [line for line in landed if line.split()[0] in ("begin", "op")]
+    calls += [line for line in landed if line.split()[0] in ("begin", "op")] + told("gencalls", "1", "200")
     kinds = {"pack": map(of_pack, packs, range(len(packs))), "model": map(of_model, models, range(len(models)))}
     kinds["calls"] = (of_calls(run, i) for i, run in enumerate(runs(calls)))
     for kind, inputs in kinds.items():

@@ -83,12 +83,12 @@ REAL(uint32_t, cutborder_search, const uint16_t *list, size_t entries, const uin
     return n;
 }
 
-/* 14: an edge too few is told of a model with two unions or more and a rim. */
+/* 14: an edge too few is told of a model with a union and a rim. */
 REAL(uint32_t, cutborder_finish, const struct cutborder_builder *state, const uint16_t *triangles, size_t entries,
      const struct cutborder_place *places, size_t records, uint16_t *totals, int32_t *euler)
 {
     uint32_t n = __real_cutborder_finish(state, triangles, entries, places, records, totals, euler);
-    if (wrong() == 14 && n == 0 && totals[1] > 0 && totals[2] > 1)
+    if (wrong() == 14 && n == 0 && totals[1] > 0 && totals[2] > 0)
         totals[0]--;
     return n;
 }
