@@ -158,8 +158,8 @@ uint32_t cutborder_pack_positions_note(size_t v, const uint16_t *list, size_t li
 uint32_t cutborder_unpack(const uint8_t *pack, size_t pack_bytes, uint16_t *triangles, size_t triangles_entries,
                           struct cutborder_place *places, size_t records, uint16_t model[5], int32_t *euler);
 
-/* Unpacks, and tells six times the volume that the model encloses: exactly, positive where its triangles turn counter-clockwise as seen
- * from outside, and with the other sign for the model turned inside out.
+/* Unpacks, and tells six times the volume that the model encloses: exactly, with right-handed axes positive where its triangles turn
+ * counter-clockwise as seen from outside; the model turned inside out, if it is accepted too, has the other sign.
  * Returns   0, or 12 to 20, 23, 25, 24
  * Lent      as for cutborder_unpack
  * Aligned   to 2: triangles, places, model; to 4: euler; to 8: six
@@ -195,7 +195,8 @@ uint32_t cutborder_begin(uint32_t v, uint32_t t, uint32_t most_places, uint32_t 
  * Lent      state, triangles, places: as cutborder_begin or the last operation left them; what no building comes to is 21
  * Aligned   to 2: state, triangles, places, built
  * Accepted  *state: the builder after it; built: 1 and the triangle, which is the next one in triangles too, or four zeros where an edge
- *           was marked as border; places: those of the live loops; a place that has left is zero
+ *           was marked as border; places: one that stays keeps its record and its vertex, one that leaves is zero, a new one takes a
+ *           record that was none, which of them is free; all other records are as they were
  * Refused   all is as it was
  * Stack     below 16 KiB */
 uint32_t cutborder_operation(struct cutborder_builder *state, uint32_t code, uint32_t p, uint32_t j, uint16_t *triangles,

@@ -1,10 +1,13 @@
 #!/usr/bin/env python3
-"""Whether examples/ring.c prints and packs what the second program answers: `ring.py ORACLE OUTPUT PACK`.
+"""Whether examples/ring.c prints and packs what the second program answers: `ring.py OUTPUT PACK`.
 
-The ring's list and positions are made here in another way, and every answer comes from ORACLE, the second program's binary."""
+The ring's list and positions are made here in another way, and every answer comes from the second program's binary."""
 import pathlib
-import subprocess
 import sys
+
+sys.path.insert(0, str(pathlib.Path(__file__).resolve().parent.parent))
+
+import second
 
 NAMES = ['new', 'forward', 'backward', 'border', 'split', 'close', 'union', 'start']
 INDEXED = {'split': [10], 'union': [7, 10]}
@@ -46,11 +49,9 @@ def operations(pack):
     return out
 
 
-def answers(oracle, lines):
+def answers(lines):
     """What the second program answers to each line, without its rooms."""
-    text = '\n'.join(['level 16', *lines]) + '\n'
-    out = subprocess.run([oracle, 'calls02'], input=text, capture_output=True, text=True, check=True).stdout
-    return [line.split(' | ')[0] for line in out.splitlines()[1:]]
+    return [answer.split(' | ')[0] for answer in second.answers(lines)]
 
 
 def named(answer):
@@ -68,17 +69,17 @@ def told(name, answer):
     return f'{name}: accepted' if answer.startswith('ok') else f'{name}: {answer}'
 
 
-def expected(oracle):
+def expected():
     """What the example is to print, and its pack."""
     entries, positions = ring()
     joined = ','.join(map(str, entries))
-    check, packed = answers(oracle, [f'check v=48 list={joined}',
+    check, packed = answers([f'check v=48 list={joined}',
                                      f'pack v=48 list={joined} positions={",".join(map(str, positions))} note={NOTE.hex()}'])
     parts, _ = named(packed)
     pack = bytes.fromhex(parts['pack'])
     counts = [int.from_bytes(pack[i:i + 2], 'big') for i in (3, 5, 7, 9)]
     begin, ops = 'begin v={} t={} places={} loops={}'.format(*counts), operations(pack)
-    bench, volume, melted, cut, begun, *built, finish = answers(oracle, [
+    bench, volume, melted, cut, begun, *built, finish = answers([
         f'bench pack={pack.hex()}', f'volume pack={pack.hex()}', f'reader pack={pack.hex()}', f'reader pack={pack[:-1].hex()}', begin, *ops,
         'finish'])
     of_bench, model = named(bench)
@@ -95,8 +96,8 @@ def expected(oracle):
 
 
 def main():
-    oracle, output, packed = sys.argv[1:]
-    lines, pack = expected(oracle)
+    output, packed = sys.argv[1:]
+    lines, pack = expected()
     found = pathlib.Path(output).read_text().splitlines()
     wrong = [f'line {i + 1}: {a!r}, expected {b!r}' for i, (a, b) in enumerate(zip(found, lines)) if a != b]
     if len(found) != len(lines):

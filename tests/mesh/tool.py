@@ -3,11 +3,14 @@ import collections
 import os
 import pathlib
 import subprocess
+import sys
 
 ROOT = pathlib.Path(__file__).resolve().parent.parent.parent
+sys.path.insert(0, str(ROOT / 'tests'))
+
+from second import answers as oracle
+
 MESH = os.environ.get('MESH', str(ROOT / 'tools/mesh/target/release/mesh'))
-ORACLE = os.environ.get('ORACLE', str(ROOT / 'reference/target/release/oracle'))
-LEVEL = 16  # what has landed, as tests/expected.rs has it
 
 Answer = collections.namedtuple('Answer', 'status out errors')
 
@@ -15,13 +18,6 @@ Answer = collections.namedtuple('Answer', 'status out errors')
 def mesh(*arguments, data=b''):
     done = subprocess.run([MESH, *map(str, arguments)], input=data, capture_output=True, timeout=20, close_fds=False)
     return Answer(done.returncode, done.stdout, done.stderr.decode())
-
-
-def oracle(lines):
-    """The second program's answers to calls."""
-    text = f'level {LEVEL}\n' + ''.join(line + '\n' for line in lines)
-    done = subprocess.run([ORACLE, 'calls02'], input=text, capture_output=True, text=True, check=True)
-    return done.stdout.splitlines()[1:]
 
 
 def csv(numbers):
