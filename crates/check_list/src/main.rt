@@ -7,7 +7,7 @@ use rules::Checked;
 use text::arguments::Wish;
 use text::arguments::input_count;
 use text::arguments::wish_of;
-use text::inputs::tell_input;
+use text::inputs::read_input_numbers;
 use text::numbers::NUMBERS;
 use text::numbers::PART;
 use text::numbers::Told;
@@ -66,7 +66,7 @@ fn check_each(part: &mut [u8], numbers: &mut [u16]) -> Output {
     let mut i = 0;
     while i < n {
         i += 1;
-        let t = tell_input(b"check_list", i, false, part, numbers);
+        let t = read_input_numbers(b"check_list", i, false, part, numbers);
         out = check_told(out, t, numbers);
         if out.failed {
             return out;

@@ -24,7 +24,7 @@ use rules::Packed;
 use rules::TRIANGLES;
 use rules::VERTICES;
 use text::arguments::Wish;
-use text::inputs::tell_input;
+use text::inputs::read_input_numbers;
 use text::numbers::NUMBERS;
 use text::numbers::PART;
 use text::numbers::Told;
@@ -104,7 +104,7 @@ fn no_positions() -> Output {
 // Reads a model and packs it, with what is given besides.
 fn pack_model(part: &mut [u8], given: Options, positions: &[u16], note: &[u8]) -> Output {
     let mut numbers = [0u16; NUMBERS];
-    let t = tell_input(b"pack", given.model, false, part, &mut numbers);
+    let t = read_input_numbers(b"pack", given.model, false, part, &mut numbers);
     match t {
         Told::Numbers(n) => pack_numbers(&numbers, n, given, positions, note),
         Told::NoNumbers => no_model(),
@@ -120,7 +120,7 @@ fn run_noted(given: Options, note: &[u8]) -> Output {
     if given.positions == 0 {
         return pack_model(&mut part, given, &positions, note);
     }
-    let t = tell_input(b"pack", given.positions, true, &mut part, &mut positions);
+    let t = read_input_numbers(b"pack", given.positions, true, &mut part, &mut positions);
     match t {
         Told::Numbers(n) => pack_model(&mut part, given, &positions[..n], note),
         Told::NoNumbers => no_positions(),

@@ -101,7 +101,7 @@ pub fn read_input(program: &[u8], i: usize, buffer: &mut [u8]) -> Read
 }
 
 // Says why a text of numbers was not read whole, if it was not; as `say_unread`.
-fn say_untold(program: &[u8], what: &[u8], t: Told) {
+fn say_numbers_unread(program: &[u8], what: &[u8], t: Told) {
     match t {
         Told::Unread => say_failed(program, what),
         Told::TooLong => say(
@@ -114,16 +114,16 @@ fn say_untold(program: &[u8], what: &[u8], t: Told) {
 }
 
 // Reads the numbers of standard input, as many as fit, or says why it cannot be read whole.
-fn tell_standard(program: &[u8], signed: bool, part: &mut [u8], numbers: &mut [u16]) -> Told
+fn read_standard_numbers(program: &[u8], signed: bool, part: &mut [u8], numbers: &mut [u16]) -> Told
     ensures { λ r. ⌜ Holds r (now (numbers .exit)) ⌝ }
 {
     let t = read_numbers(STDIN_FILENO, signed, part, numbers);
-    say_untold(program, b"cannot read standard input", t);
+    say_numbers_unread(program, b"cannot read standard input", t);
     t
 }
 
 // The same of the file of a name.
-fn tell_file(
+fn read_file_numbers(
     program: &[u8],
     name: &[u8],
     signed: bool,
@@ -137,13 +137,13 @@ fn tell_file(
         return Told::Unread;
     }
     let t = read_numbers(fd, signed, part, numbers);
-    say_untold(program, name, t);
+    say_numbers_unread(program, name, t);
     libc::close(fd);
     t
 }
 
 // Reads the numbers of what argument i names, as many as fit, or says why it cannot be read whole. Signed ones may be below zero.
-pub fn tell_input(
+pub fn read_input_numbers(
     program: &[u8],
     i: usize,
     signed: bool,
@@ -155,8 +155,8 @@ pub fn tell_input(
     let mut name = [0u8; MOST_NAME];
     let input = input_of(program, i, &mut name);
     match input {
-        Input::Standard => tell_standard(program, signed, part, numbers),
-        Input::File(n) => tell_file(program, &name[..n], signed, part, numbers),
+        Input::Standard => read_standard_numbers(program, signed, part, numbers),
+        Input::File(n) => read_file_numbers(program, &name[..n], signed, part, numbers),
         Input::Nothing => Told::Unread,
     }
 }

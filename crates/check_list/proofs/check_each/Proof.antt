@@ -25,11 +25,11 @@ loop-holds c = search needs
 add-i : tie.Need-add-i Inv-loop μ-loop
 add-i c = search needs
 
-slice-aggregate-tell-input : tie.Need-slice-aggregate-tell-input Inv-loop μ-loop
-slice-aggregate-tell-input c = search needs
+slice-aggregate-read-input-numbers : tie.Need-slice-aggregate-read-input-numbers Inv-loop μ-loop
+slice-aggregate-read-input-numbers c = search needs
 
-tell-input-requires : tie.Need-tell-input-requires Inv-loop μ-loop
-tell-input-requires c κs = search needs
+read-input-numbers-requires : tie.Need-read-input-numbers-requires Inv-loop μ-loop
+read-input-numbers-requires c κs = search needs
 
 check-told-requires : tie.Need-check-told-requires Inv-loop μ-loop
 check-told-requires c κs = search needs
@@ -68,8 +68,8 @@ check-each-spec =
     fresh-requires
     loop-holds
     add-i
-    slice-aggregate-tell-input
-    tell-input-requires
+    slice-aggregate-read-input-numbers
+    read-input-numbers-requires
     check-told-requires
     same-length
     same-length-2

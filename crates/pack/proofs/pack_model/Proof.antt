@@ -5,14 +5,14 @@ use Rattle.text.proofs.Fills.{told-numbers}
 use Rattle.pack.proofs.pack_model.Statement.{statement}
 use Rattle.pack.proofs.pack_model.Tie as tie
 
-slice-aggregate-tell-input : tie.Need-slice-aggregate-tell-input
-slice-aggregate-tell-input c = search needs
+slice-aggregate-read-input-numbers : tie.Need-slice-aggregate-read-input-numbers
+slice-aggregate-read-input-numbers c = search needs
 
-slice-aggregate-tell-input-2 : tie.Need-slice-aggregate-tell-input-2
-slice-aggregate-tell-input-2 c = search needs
+slice-aggregate-read-input-numbers-2 : tie.Need-slice-aggregate-read-input-numbers-2
+slice-aggregate-read-input-numbers-2 c = search needs
 
-tell-input-requires : tie.Need-tell-input-requires
-tell-input-requires c κs = search needs
+read-input-numbers-requires : tie.Need-read-input-numbers-requires
+read-input-numbers-requires c κs = search needs
 
 enum-known-t : tie.Need-enum-known-t
 enum-known-t c = search needs
@@ -22,7 +22,7 @@ slice-aggregate-pack-numbers c = search needs
 
 pack-numbers-requires : tie.Need-pack-numbers-requires
 pack-numbers-requires c κs =
-    told-numbers _ (c .before .before .before .before .before .before .before .tell-input .ensures) (c .before .before .t .given .1)
+    told-numbers _ (c .before .before .before .before .before .before .before .read-input-numbers .ensures) (c .before .before .t .given .1)
 
 enum-told : tie.Need-enum-told
 enum-told c = search needs
@@ -70,9 +70,9 @@ pub pack-model-spec : {M : Type 1} → statement M
 pack-model-spec =
     tie.close
     (tie.spec
-    slice-aggregate-tell-input
-    slice-aggregate-tell-input-2
-    tell-input-requires
+    slice-aggregate-read-input-numbers
+    slice-aggregate-read-input-numbers-2
+    read-input-numbers-requires
     enum-known-t
     slice-aggregate-pack-numbers
     pack-numbers-requires

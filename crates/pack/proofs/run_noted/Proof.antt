@@ -17,17 +17,17 @@ pack-model-requires c κs = search needs
 returns : tie.Need-returns
 returns c = search needs
 
-slice-aggregate-tell-input : tie.Need-slice-aggregate-tell-input
-slice-aggregate-tell-input c = search needs
+slice-aggregate-read-input-numbers : tie.Need-slice-aggregate-read-input-numbers
+slice-aggregate-read-input-numbers c = search needs
 
-slice-aggregate-tell-input-2 : tie.Need-slice-aggregate-tell-input-2
-slice-aggregate-tell-input-2 c = search needs
+slice-aggregate-read-input-numbers-2 : tie.Need-slice-aggregate-read-input-numbers-2
+slice-aggregate-read-input-numbers-2 c = search needs
 
-slice-aggregate-tell-input-3 : tie.Need-slice-aggregate-tell-input-3
-slice-aggregate-tell-input-3 c = search needs
+slice-aggregate-read-input-numbers-3 : tie.Need-slice-aggregate-read-input-numbers-3
+slice-aggregate-read-input-numbers-3 c = search needs
 
-tell-input-requires : tie.Need-tell-input-requires
-tell-input-requires c κs = search needs
+read-input-numbers-requires : tie.Need-read-input-numbers-requires
+read-input-numbers-requires c κs = search needs
 
 enum-known-t : tie.Need-enum-known-t
 enum-known-t c = search needs
@@ -37,11 +37,12 @@ slice-aggregate-pack-model-3 c = search needs
 
 array-share-prefix-positions : tie.Need-array-share-prefix-positions
 array-share-prefix-positions c =
-    told-numbers _ (c .before .before .before .before .before .before .tell-input .ensures) (c .before .before .t .given .1)
+    told-numbers _ (c .before .before .before .before .before .before .read-input-numbers .ensures) (c .before .before .t .given .1)
 
 slice-aggregate-pack-model-4 : tie.Need-slice-aggregate-pack-model-4
 slice-aggregate-pack-model-4 c =
-    told-length _ (c .before .before .before .before .before .before .before .tell-input .ensures) (c .before .before .before .t .given .1)
+    told-length _ (c .before .before .before .before .before .before .before .read-input-numbers .ensures)
+    (c .before .before .before .t .given .1)
 
 pack-model-requires-2 : tie.Need-pack-model-requires-2
 pack-model-requires-2 c κs = search needs
@@ -84,10 +85,10 @@ run-noted-spec =
     slice-aggregate-pack-model-2
     pack-model-requires
     returns
-    slice-aggregate-tell-input
-    slice-aggregate-tell-input-2
-    slice-aggregate-tell-input-3
-    tell-input-requires
+    slice-aggregate-read-input-numbers
+    slice-aggregate-read-input-numbers-2
+    slice-aggregate-read-input-numbers-3
+    read-input-numbers-requires
     enum-known-t
     slice-aggregate-pack-model-3
     array-share-prefix-positions
