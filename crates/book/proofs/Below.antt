@@ -122,7 +122,8 @@ module _ (a b : ℕ) (ds : List Edge) where
           (omega (arith, joined_here, joined_turn a b ds, joined_turn a b (edge a b ∷ ds)))
 
 -- the joined pairs
-pub pairs_below_lem : (n : ℕ) (ds : List Edge) → ((x y : ℕ) → 1 ≤ count x y ds → (x < n) × (y < n) × (x ≡ y → ⊥)) → pairs ds ≡ pairs_below n ds
+pub pairs_below_lem : (n : ℕ) (ds : List Edge) → ((x y : ℕ) → 1 ≤ count x y ds → (x < n) × (y < n) × (x ≡ y → ⊥))
+    → pairs ds ≡ pairs_below n ds
 unfolding pairs count
 pairs_below_lem n [] h = sym (zeros n (λ x. sum_below x (λ y. 0)) (λ x. zeros x (λ y. 0) (λ y. refl)))
 pairs_below_lem n (d ∷ ds) h =

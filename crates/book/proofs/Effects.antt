@@ -12,7 +12,8 @@ use Rattle.rules.specs.declared.Triangle.{Triangle}
 use Rattle.rules.specs.declared.Operation.{Operation}
 use Rattle.rules.specs.declared.Operation.TheVariants.{New, Forward, Backward, Border, Split, Close, Union, Start}
 use Rattle.rules.specs.Triangle.{tri, Edge, edge}
-use Rattle.rules.specs.Ring.{Node, opened, marked, Ring, vertex, is_open, first_open, all_open, start_or, vertex_at, last_open, last_vertex, front}
+use Rattle.rules.specs.Ring.{Node, opened, marked, Ring, vertex, is_open, first_open, all_open, start_or, vertex_at, last_open, last_vertex}
+use Rattle.rules.specs.Ring.{front}
 use Rattle.rules.specs.Ring.{onward, reached, shown, loop_at, without}
 use Rattle.rules.specs.Table.{Side, glued, fresh, Effect, not_allowed, builds, marks, allowed, in_order, marking, at_edge, at_rest, effect}
 use Rattle.rules.specs.Machine.{fresh_sides}
@@ -393,7 +394,8 @@ module _ (u a : ℕ) (ws : List Ring) (cw : AllCurrent ws) where
             ap (λ (x : ℕ). w a x false) (start_append 0 ps (marked a ∷ [])),
           )
 
-      sums : (w : Weight) → ((x y : ℕ) → w x y false ≡ 0) → ring_sum w (shown (onward [] (ps ++ (marked a ∷ [])))) + w a (start_or a ps) true
+      sums : (w : Weight) → ((x y : ℕ) → w x y false ≡ 0)
+          → ring_sum w (shown (onward [] (ps ++ (marked a ∷ [])))) + w a (start_or a ps) true
           ≡ ring_sum w (opened a ∷ ps)
       sums w z =
           let t = turned w [] (ps ++ (marked a ∷ [])) in

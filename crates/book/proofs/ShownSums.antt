@@ -14,7 +14,8 @@ reached_start [] b = refl
 reached_start (opened v ∷ ps) b = refl
 reached_start (marked v ∷ ps) b = refl
 
-open_sum : (w : Weight) → ((x y : ℕ) → w x y false ≡ 0) → (ps : List Node) (m : Bool) (b : ℕ) → path_sum w (reached ps m) b ≡ path_sum w ps b
+open_sum : (w : Weight) → ((x y : ℕ) → w x y false ≡ 0) → (ps : List Node) (m : Bool) (b : ℕ)
+    → path_sum w (reached ps m) b ≡ path_sum w ps b
 unfolding path_sum reached
 open_sum w z [] m b = refl
 open_sum w z (opened v ∷ ps) m b = ap₂ ◌+◌ (ap (λ (y : ℕ). w v y true) (reached_start ps b)) (open_sum w z ps false b)

@@ -86,7 +86,8 @@ frees_next m₀ m m' i f e h = rw e (frees_more furnace_places m₀ m i f h)
 
 -- a waiting loop moved down
 pub moves_next : (m₀ : List ℕ) (l₀ k₀ : ℕ) (m : List ℕ) (l k p z : ℕ) (m' : List ℕ) → Moves furnace_places m₀ l₀ k₀ m l k
-    → p ≡ at m (5 * furnace_places + 2 * (l + 1)) → z ≡ at m (5 * furnace_places + 2 * (l + 1) + 1) → m' ≡ waits furnace_places m l p z → 0 < k
+    → p ≡ at m (5 * furnace_places + 2 * (l + 1)) → z ≡ at m (5 * furnace_places + 2 * (l + 1) + 1) → m' ≡ waits furnace_places m l p z
+    → 0 < k
     → Moves furnace_places m₀ l₀ k₀ m' (l + 1) (k - 1)
 moves_next m₀ l₀ k₀ m l k p z m' r ep ez e h =
     moves_more furnace_places m₀ l₀ k₀ m l k m' r (e ∙ ap₂ (λ (x y : ℕ). waits furnace_places m l x y) ep ez) h

@@ -6,7 +6,8 @@ use mathlib.Core.Path.{◌≡◌}
 use lib.Dec.{leb}
 use borrow.Author.Tests.{leb-true, le-leb}
 use Rattle.rules.specs.declared.Counts.{Counts}
-use Rattle.rules.specs.Limits.{min_vertices, max_vertices, max_triangles, min_places, max_places, max_loops, between, vertex_range, in_range}
+use Rattle.rules.specs.Limits.{min_vertices, max_vertices, max_triangles, min_places, max_places, max_loops, between, vertex_range}
+use Rattle.rules.specs.Limits.{in_range}
 use Rattle.counting.proofs.Bools.{and_left, and_right, and_both, and_true}
 
 pub between_of : (a n b : ℕ) → a ≤ n → n ≤ b → between a n b ≡ true

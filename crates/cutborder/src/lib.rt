@@ -25,7 +25,7 @@ pub type Memory = [u16; NUMBERS];
 
 // The loops in the memory: how many are live, the place where the current edge starts, how many places the current loop
 // has, and how many places are free.
-#[derive(Drop)]
+#[derive(Clone, Copy)]
 pub struct Loops {
     pub live: u16,
     pub current: u16,
@@ -34,7 +34,7 @@ pub struct Loops {
 }
 
 // The counts, and the loops.
-#[derive(Drop)]
+#[derive(Clone, Copy)]
 pub struct Front {
     pub stated: Counts,
     pub used: u16,
@@ -49,7 +49,7 @@ pub struct Front {
 
 // A triangle p q r to be built: whether each of its sides p→q, q→r and r→p is a new edge (1) or glues one (0), how many of
 // its numbers are new, how many starts and unions it adds, and the place of its third vertex where a split or a union needs it.
-#[derive(Drop)]
+#[derive(Clone, Copy)]
 pub struct Plan {
     pub triangle: Triangle,
     pub pq: u16,
@@ -62,7 +62,7 @@ pub struct Plan {
 }
 
 // The places whose records an operation writes: how many they are, and which.
-#[derive(Drop)]
+#[derive(Clone, Copy)]
 pub struct Touched {
     pub count: u16,
     pub first: u16,
@@ -73,7 +73,7 @@ pub struct Touched {
 }
 
 // What an operation would do.
-#[derive(Drop)]
+#[derive(Clone, Copy)]
 pub enum Decided {
     Refused(u8),
     Builds(Plan),
@@ -81,7 +81,7 @@ pub enum Decided {
 }
 
 // What 21 says of a state and its buffers: the core's state of one that passes, or that it fails.
-#[derive(Drop)]
+#[derive(Clone, Copy)]
 pub enum Opened {
     Passed(Front),
     Failed,
@@ -92,7 +92,7 @@ pub type Flags = [u8; TRIANGLES];
 
 // Where an open edge starts: the loop's number, 0 the current one, how many places that loop has, and how many places after
 // the loop's first one.
-#[derive(Drop)]
+#[derive(Clone, Copy)]
 pub enum Seat {
     Nowhere,
     At(u16, u16, u16),
@@ -100,7 +100,7 @@ pub enum Seat {
 
 // Where turning about a vertex ends: at the edge between it and `last`, and whether some triangle of the list, built
 // already, lies across that edge.
-#[derive(Drop)]
+#[derive(Clone, Copy)]
 pub struct Turned {
     pub last: u16,
     pub across: bool,
@@ -108,7 +108,7 @@ pub struct Turned {
 
 // Where a packing is: the counts and the loops, whose vertices are the list's own numbers; how many new numbers are given; and a
 // triangle below which none is left.
-#[derive(Drop)]
+#[derive(Clone, Copy)]
 pub struct Course {
     pub front: Front,
     pub given: u16,
@@ -116,7 +116,7 @@ pub struct Course {
 }
 
 // What is taken at the current edge: the operation, the third vertex, and whether that gets the next number.
-#[derive(Drop)]
+#[derive(Clone, Copy)]
 pub struct Move {
     pub operation: Operation,
     pub vertex: u16,
@@ -124,28 +124,28 @@ pub struct Move {
 }
 
 // After an operation on the loops: the counts and the loops, or 9 or 10.
-#[derive(Drop)]
+#[derive(Clone, Copy)]
 pub enum Done {
     Going(Front),
     Refused(u8),
 }
 
 // After a step: 9 or 10, or the operation taken and where the packing is.
-#[derive(Drop)]
+#[derive(Clone, Copy)]
 pub enum Taken {
     Refused(u8),
     Going(Operation, Course),
 }
 
 // After all steps: 9 or 10, or where the packing ended, and the bit position after the last operation.
-#[derive(Drop)]
+#[derive(Clone, Copy)]
 pub enum Ran {
     Refused(u8),
     Ended(Course, usize),
 }
 
 // The state after it and the bit position after its operation; or the refusal, 15 to 18.
-#[derive(Drop)]
+#[derive(Clone, Copy)]
 pub enum Stepped {
     Going(Front, usize),
     Refused(u8),
@@ -153,7 +153,7 @@ pub enum Stepped {
 
 // A run of the operations: the bit position of the next one, how many may still be read, and what the last step came to. None may be
 // read where the run has ended.
-#[derive(Drop)]
+#[derive(Clone, Copy)]
 pub struct Progress {
     pub at: usize,
     pub left: usize,
@@ -161,7 +161,7 @@ pub struct Progress {
 }
 
 // Whether a reading of the furnace's own reader goes on, has completed its model, or is refused, 15 to 17.
-#[derive(Drop)]
+#[derive(Clone, Copy)]
 pub enum Stage {
     Runs,
     Completed,
@@ -169,7 +169,7 @@ pub enum Stage {
 }
 
 // Such a reading: the bit position of the next operation, the counts and the loops, and the sum of the triangles' determinants.
-#[derive(Drop)]
+#[derive(Clone, Copy)]
 pub struct Melt {
     pub stage: Stage,
     pub at: usize,

@@ -25,7 +25,8 @@ use Rattle.rules.specs.Answer.{refusal}
 use Rattle.rules.specs.Bits.{bits_of_bytes}
 use Rattle.rules.specs.Buffer.{over, Buffers, lengths}
 use Rattle.rules.specs.Fields.{Fields, no_pack, fields, fields_of}
-use Rattle.rules.specs.Unpack.{Ran, stopped, completed, run_of, rest_fits, numbers_of, UnpackResult, turned_down, unpack_refused, unpack_done}
+use Rattle.rules.specs.Unpack.{Ran, stopped, completed, run_of, rest_fits, numbers_of, UnpackResult, turned_down, unpack_refused}
+use Rattle.rules.specs.Unpack.{unpack_done}
 use Rattle.rules.specs.Unpack.{unpack_ended, unpack_run, unpack_fields}
 use Rattle.rules.specs.Grid.{positions_from}
 use Rattle.rules.specs.Volume.{point_at, determinant, six_volumes}

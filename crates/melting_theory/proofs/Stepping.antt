@@ -70,7 +70,8 @@ module _ (M : Machine) (s : Front) (bs : List ℕ) (h : Melts M s bs) where
   pub melts_complete : complete M ≡ is_complete s
   melts_complete = complete_same furnace_places s (numbers bs) M h.keeps
 
-  decides_it : (o : Operation) (d : Decided) → decided furnace_places s (numbers bs) o ≡ d → DecidesFreely furnace_places s (numbers bs) M o d
+  decides_it : (o : Operation) (d : Decided) → decided furnace_places s (numbers bs) o ≡ d
+      → DecidesFreely furnace_places s (numbers bs) M o d
   decides_it o d e =
       subst (DecidesFreely furnace_places s (numbers bs) M o) e
       (decides_freely furnace_places s (numbers bs) M h.keeps o h.bounded.counts)

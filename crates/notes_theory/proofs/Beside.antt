@@ -24,7 +24,8 @@ use Rattle.rules.specs.Code.{operations_bits}
 use Rattle.rules.specs.Buffer.{over}
 use Rattle.rules.specs.Fields.{field_of}
 use Rattle.rules.specs.Choice.{Packing}
-use Rattle.rules.specs.Pack.{Chosen, stopped, chosen, most, chosen_for, order_for, pack_of, PackBuffers, PackResult, turned_down, pack_refused}
+use Rattle.rules.specs.Pack.{Chosen, stopped, chosen, most, chosen_for, order_for, pack_of, PackBuffers, PackResult, turned_down}
+use Rattle.rules.specs.Pack.{pack_refused}
 use Rattle.rules.specs.Pack.{PackContents, pack_done, pack_stored, pack_long_enough, order_long_enough}
 use Rattle.rules.specs.Grid.{position_bytes}
 use Rattle.rules.specs.Later.{positions_tag, Given, not_given, given}
@@ -328,7 +329,8 @@ module _ (v : ℕ) (xs : List ℕ) (g : Given (List ℤ)) (r : PackBuffers) wher
   unfolding whole_chosen
   chosen_answers (stopped n) = inl (n, refl)
   chosen_answers (chosen os s) =
-      stored_answer v (triangles_of xs) (whole_contents_of v (triangles_of xs) (extras g not_given) (order_for most (triangles_of xs)) os s) r
+      stored_answer v (triangles_of xs) (whole_contents_of v (triangles_of xs) (extras g not_given) (order_for most (triangles_of xs)) os s)
+      r
 
   pub whole_answers : Answers (pack_whole v xs (extras g not_given) r)
   whole_answers = by_decision (decided v xs g r)

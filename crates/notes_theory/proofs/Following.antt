@@ -77,7 +77,8 @@ unfit_some v g ns k h e = go (given_fit v g) refl
     go false f = omega (arith, e, fault_23 v g ns f)
 
 -- all but the note was packed, into the e bytes before its field: b is what they hold now
-module _ (v : ℕ) (xs : List ℕ) (g : Given (List ℤ)) (note : List ℕ) (n : ℕ) (ns bs qs : List ℕ) (fit : note_fits (given note) ≡ true) (e : ℕ)
+module _ (v : ℕ) (xs : List ℕ) (g : Given (List ℤ)) (note : List ℕ) (n : ℕ) (ns bs qs : List ℕ) (fit : note_fits (given note) ≡ true)
+    (e : ℕ)
     (before : e ≡ length bs - note_length note) (ns' b qs' : List ℕ) (long-b : length b ≡ length (take e bs)) where
   abbrev R : PackBuffers
   R = lent n ns bs qs

@@ -30,7 +30,8 @@ module _ (bytes ts : List ℕ) (ps : List Place) where
 
   pub lend_unpack : Alike (unpack_noted bytes (record { triangles = ts; places = ps })) (unpack_noted bytes (lent (counted ps) ts))
   lend_unpack =
-      alike_tested r r' refl (unpack_whole front r) (unpack_whole front r') (lend-front front ts ps) 25 (λ m. note_fits (take_note bytes).note)
+      alike_tested r r' refl (unpack_whole front r) (unpack_whole front r') (lend-front front ts ps) 25
+      (λ m. note_fits (take_note bytes).note)
 
   pub lend_volume : AlikeVolumes (volume bytes (record { triangles = ts; places = ps })) (volume bytes (lent (counted ps) ts))
   lend_volume = alike_measured r r' refl (unpack_noted bytes r) (unpack_noted bytes r') lend_unpack (positions_in (parts_of front))

@@ -19,7 +19,8 @@ put_copied bs ws bs' n i c h =
     ∙ append_assoc (take n bs) ws (drop (n + length ws) bs)
 
 -- one after the other
-pub put_twice : (bs us ws : List ℕ) (n : ℕ) → n + length us ≤ length bs → put_at (put_at bs n us) (n + length us) ws ≡ put_at bs n (us ++ ws)
+pub put_twice : (bs us ws : List ℕ) (n : ℕ) → n + length us ≤ length bs
+    → put_at (put_at bs n us) (n + length us) ws ≡ put_at bs n (us ++ ws)
 put_twice bs us ws n h =
     let rest = drop (n + length us) bs in
     let front = take n bs ++ us in

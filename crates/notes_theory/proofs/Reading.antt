@@ -157,7 +157,8 @@ pub the_bench_reads_the_pack : TheBenchReadsThePack
 the_bench_reads_the_pack bytes r = record {
   answer = refl;
   buffers = refl;
-  refused = λ k e. by (take_note bytes) not_given refl (ap model_in e) (none_handed (length (take_note bytes).before) (take_note bytes).note);
+  refused = λ k e. by (take_note bytes) not_given refl (ap model_in e)
+      (none_handed (length (take_note bytes).before) (take_note bytes).note);
   none = λ two g e. by (record { before = bytes; note = not_given }) model (no_note bytes two g e) refl (not_handed (length bytes) model);
   contents =
       λ front two ns g e h f m a. by_contents front ns m

@@ -1,7 +1,8 @@
 -- What is claimed of packs with a note, and of the volume call on packs with a note and without, each proved under the same name with
 -- hyphens.
 -- Assumes nothing.
-use Rattle.std.specs.Prelude.{ℕ, ◌+◌, ◌*◌, ◌≤◌, ◌<◌, true, false, List, [], ◌++◌, ◌↔◌, ◌≡◌, ℤ, pos, neg_ℤ, nat_abs, ◌-ℤ◌, length, take, drop, get_or, set}
+use Rattle.std.specs.Prelude.{ℕ, ◌+◌, ◌*◌, ◌≤◌, ◌<◌, true, false, List, [], ◌++◌, ◌↔◌, ◌≡◌, ℤ, pos, neg_ℤ, nat_abs, ◌-ℤ◌, length, take}
+use Rattle.std.specs.Prelude.{drop, get_or, set}
 use Rattle.rules.specs.declared.Model.{Model}
 use Rattle.rules.specs.Triangle.{triangles_of, In}
 use Rattle.rules.specs.Fan.{about}

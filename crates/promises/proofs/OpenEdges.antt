@@ -31,7 +31,8 @@ one_hit x y true v a c e = ap (hit x y v) (sym e)
 one_hit x y false v a c e = refl
 
 -- a run of places starts at its first place's vertex, or else where it leads
-start_run : (ps : List Place) (k i : ℕ) → start_or (place_at ps (followed ps k i)).vertex (nodes ps (follow ps k i)) ≡ (place_at ps i).vertex
+start_run : (ps : List Place) (k i : ℕ)
+    → start_or (place_at ps (followed ps k i)).vertex (nodes ps (follow ps k i)) ≡ (place_at ps i).vertex
 unfolding follow followed nodes
 start_run ps zero i = refl
 start_run ps (suc k) i = vertex_node (place_at ps i).«open» (place_at ps i).vertex

@@ -213,7 +213,8 @@ both_by : (n : ℕ) (s u : Packing) (x y : Next) → choose s ≡ x → choose u
     → SameChosen (choose_all (suc n) s) (choose_all (suc n) u)
 both_by n s u x y a b e k =
     subst (λ (c : Chosen). SameChosen c (choose_all (suc n) u)) (sym (all_by_lem n s x a))
-    (subst (λ (c : Chosen). SameChosen (all_by n s x) c) (sym (all_by_lem n u y b)) (k (sym (starts_by_lem n s x a) ∙ (e ∙ starts_by_lem n u y b))))
+    (subst (λ (c : Chosen). SameChosen (all_by n s x) c) (sym (all_by_lem n u y b))
+    (k (sym (starts_by_lem n s x a) ∙ (e ∙ starts_by_lem n u y b))))
 
 abbrev first_of : Triangle → List Triangle → Triangle
 first_of d [] = d
@@ -308,7 +309,8 @@ module _ (n : ℕ) (again : Alike n) (mp ml lp ll : ℕ) (N : List ℕ) (M M' : 
       none K = ap (λ (k : List Ring). start_of k K) q
 
       go : (u v : Bool) → starts_next n (start_of ls L) (next M ts u v) ≡ starts_next n (start_of ls L') (next M' us u v)
-          → SameChosen (all_by n (packing mp ml lp ll N ls M L) (next M ts u v)) (all_by n (packing mp ml lp ll N ls M' L') (next M' us u v))
+          → SameChosen (all_by n (packing mp ml lp ll N ls M L) (next M ts u v))
+          (all_by n (packing mp ml lp ll N ls M' L') (next M' us u v))
       go true true f =
           cons_same o (choose_all n (after M ts)) (choose_all n (after M' us))
           (again _ _ lp ll vs ks M M' ts us m s

@@ -19,8 +19,10 @@ use Rattle.rules.specs.Bits.{bytes_of}
 use Rattle.rules.specs.Code.{operations_bits}
 use Rattle.rules.specs.Fields.{fields, fields_of}
 use Rattle.rules.specs.Choice.{Packing}
-use Rattle.rules.specs.Pack.{Chosen, stopped, chosen, most, chosen_for, order_for, pack_of, new_numbers, PackBuffers, PackResult, PackContents}
-use Rattle.rules.specs.Pack.{pack_done, pack_refused, pack_stored, contents_of, pack_chosen, pack_long_enough, order_long_enough, pack_checked, pack}
+use Rattle.rules.specs.Pack.{Chosen, stopped, chosen, most, chosen_for, order_for, pack_of, new_numbers, PackBuffers, PackResult}
+use Rattle.rules.specs.Pack.{PackContents}
+use Rattle.rules.specs.Pack.{pack_done, pack_refused, pack_stored, contents_of, pack_chosen, pack_long_enough, order_long_enough}
+use Rattle.rules.specs.Pack.{pack_checked, pack}
 use Rattle.rules.specs.Pack as P
 use Rattle.roundtrip.specs.Run.{run_loops, peak_of}
 use Rattle.roundtrip.specs.Claims.{SameInAllBuffers, SameAnswerInAllBuffers, StatedPeaksAreTrue}

@@ -74,7 +74,8 @@ reads_from none_read h = refl
 reads_from {xs} {ys} (one_read {ys = zs} {o = o} {os = os} e r) h =
     let w = operation_read o xs zs h e in
     let hz : Bits zs = below_rest 2 (operation_bits o) zs (subst (λ (us : List ℕ). Bits us) w.from h) in
-    w.from ∙ (ap (λ (us : List ℕ). operation_bits o ++ us) (reads_from r hz) ∙ sym (append_assoc (operation_bits o) (operations_bits os) ys))
+    w.from ∙ (ap (λ (us : List ℕ). operation_bits o ++ us) (reads_from r hz)
+    ∙ sym (append_assoc (operation_bits o) (operations_bits os) ys))
 
 all_zeros : (xs : List ℕ) → all_zero xs ≡ true → xs ≡ replicate (length xs) 0
 unfolding all_zero

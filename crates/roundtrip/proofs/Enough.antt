@@ -82,7 +82,8 @@ unfolding run_all run_or
 out zero m xs = refl
 out (suc n) m xs = ap (λ (g : Machine → List ℕ → Ran). turned g m xs) (fun_ext (λ m'. fun_ext (λ ys. out n m' ys)))
 
-any : (x : Ran) (n : ℕ) (s : Counts) (ops : List ℕ) → length (bits_of_bytes ops) < 3 * n → run_or x n (empty s) (bits_of_bytes ops) ≡ run_of s ops
+any : (x : Ran) (n : ℕ) (s : Counts) (ops : List ℕ) → length (bits_of_bytes ops) < 3 * n
+    → run_or x n (empty s) (bits_of_bytes ops) ≡ run_of s ops
 any x n s ops l =
     let xs = bits_of_bytes ops in
     same x (stopped 15) n (suc (length xs)) (empty s) xs (bits_of_bytes_are ops) l (omega arith) ∙ sym (out (suc (length xs)) (empty s) xs)

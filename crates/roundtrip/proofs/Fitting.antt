@@ -75,6 +75,8 @@ surgery_fits e f ps ws ls c (Union w j) g (on_union before us a vs behind sh n i
         i.0,
       ),
     )
+surgery_fits e f ps ws ls c Border g x4 p l = elim x4 [ ]
+surgery_fits e f ps ws ls c Start g x5 p l = elim x5 [ ]
 
 run_fits : {M B : List Triangle} {rims ls : List Ring} {os : List Operation} {R : List Triangle} (run : Run M B rims ls os R)
     → shown_places ls ≤ max_places
@@ -119,7 +121,8 @@ pub reads_of : (os : List Operation) (zs : List ℕ) → AllFit os → Reads (op
 unfolding operations_bits
 reads_of [] zs h = none_read
 reads_of (o ∷ os) zs h =
-    one_read (ap read_operation (append_assoc (operation_bits o) (operations_bits os) zs) ∙ read_operation_lem o (operations_bits os ++ zs) h.0)
+    one_read (ap read_operation (append_assoc (operation_bits o) (operations_bits os) zs)
+    ∙ read_operation_lem o (operations_bits os ++ zs) h.0)
     (reads_of os zs h.1)
 
 -- a complete packing of an accepted list

@@ -144,7 +144,8 @@ module _ (h b : Most) where
   same_order (suc n) s k x = go (want s) refl (want_grown s) (λ s'. same_order n s')
     where
       go : (w : Want) → want s ≡ w → Grown (places s.loops) (length s.loops) w
-          → ((s' : Packing) → Ample b n s' → NoFault h (loops_after n (relimit b s')) → order_by n (relimit h s') ≡ order_by n (relimit b s'))
+          → ((s' : Packing) → Ample b n s' → NoFault h (loops_after n (relimit b s'))
+          → order_by n (relimit h s') ≡ order_by n (relimit b s'))
           → order_by (suc n) (relimit h s) ≡ order_by (suc n) (relimit b s)
       go idle e g again =
           order_idle n (relimit h s) (choose_want (relimit h s) ∙ ap (doing (relimit h s)) e)
@@ -288,8 +289,10 @@ one_fault h n m (ls ∷ lss) (loops_exceeded a b) (later x y z) = absurd (omega 
 one_fault h n m (ls ∷ lss) (later a b c) (places_exceeded x) = absurd (omega arith)
 one_fault h n m (ls ∷ lss) (later a b c) (loops_exceeded x y) = absurd (omega arith)
 one_fault h n m (ls ∷ lss) (later a b c) (later x y z) = one_fault h n m lss c z
+one_fault h n m [] x'' _ = elim x'' [ ]
 
 pub fault_or_none : (h : Most) (n : ℕ) (lss : List (List Ring)) → FirstFault h n lss → NoFault h lss → ⊥
 fault_or_none h n (ls ∷ lss) (places_exceeded a) k = let p = k.0.0 in omega arith
 fault_or_none h n (ls ∷ lss) (loops_exceeded a b) k = let p = k.0.1 in omega arith
 fault_or_none h n (ls ∷ lss) (later a b c) k = fault_or_none h n lss c k.1
+fault_or_none h n [] x'' k = elim x'' [ ]

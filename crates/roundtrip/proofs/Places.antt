@@ -28,7 +28,8 @@ use Rattle.choice_theory.proofs.Steps.Choice.{Packs}
 use Rattle.rules.specs.Right.{Links, stop, link, RightPlace, by_entering, by_leaving, OpenAt}
 use Rattle.rules.specs.Triangle.{Rot, at_p, In, here, there}
 
-pub links_map : {c x y : ℕ} {ts us : List Triangle} → ((v w : ℕ) → In c v w ts → In c v w us) → Links c ts x y → Links c us x y
+pub links_map : {c : ℕ} {ts : List Triangle} {x y : ℕ} {us : List Triangle} → ((v w : ℕ) → In c v w ts → In c v w us) → Links c ts x y
+    → Links c us x y
 links_map g stop = stop
 links_map g (link i l) = link (g _ _ i) (links_map g l)
 

@@ -41,6 +41,7 @@ renumbered_in f (t ∷ ts) x y z (here (at_p a b c)) = here (at_p (ap f a) (ap f
 renumbered_in f (t ∷ ts) x y z (here (at_q a b c)) = here (at_q (ap f a) (ap f b) (ap f c))
 renumbered_in f (t ∷ ts) x y z (here (at_r a b c)) = here (at_r (ap f a) (ap f b) (ap f c))
 renumbered_in f (t ∷ ts) x y z (there i) = there (renumbered_in f ts x y z i)
+renumbered_in f [] x y z x3 = elim x3 [ ]
 
 pub nth_renumbered : (f : ℕ → ℕ) (ts : List Triangle) (i : ℕ) → i < length ts → nth (renumbered f ts) i ≡ under f (nth ts i)
 nth_renumbered f [] i l = absurd (omega arith)
@@ -82,3 +83,4 @@ in_renumbered f (t ∷ ts) x y z (here (at_r a b c)) =
 in_renumbered f (t ∷ ts) x y z (there i) =
     let r = in_renumbered f ts x y z i in
     record { u = r.u; v = r.v; w = r.w; had = there r.had; x_is = r.x_is; y_is = r.y_is; z_is = r.z_is }
+in_renumbered f [] x y z x3 = elim x3 [ ]

@@ -22,8 +22,10 @@ use Rattle.rules.specs.Answer.{Answer, refusal, accepted, triangle, no_triangle,
 use Rattle.rules.specs.Fields.{Fields, no_pack, fields, fields_of}
 use Rattle.rules.specs.Choice.{Packing}
 use Rattle.rules.specs.declared.Triangle.{Triangle}
-use Rattle.rules.specs.Pack.{Chosen, stopped, chosen, Most, chosen_for, order_for, pack_of, PackBuffers, PackResult, pack_refused, PackContents}
-use Rattle.rules.specs.Pack.{pack_done, pack_stored, contents_of, pack_chosen, pack_long_enough, order_long_enough, pack_checked, pack_within}
+use Rattle.rules.specs.Pack.{Chosen, stopped, chosen, Most, chosen_for, order_for, pack_of, PackBuffers, PackResult, pack_refused}
+use Rattle.rules.specs.Pack.{PackContents}
+use Rattle.rules.specs.Pack.{pack_done, pack_stored, contents_of, pack_chosen, pack_long_enough, order_long_enough, pack_checked}
+use Rattle.rules.specs.Pack.{pack_within}
 use Rattle.rules.specs.Pack as P
 use Rattle.rules.specs.Buffer.{Buffers, lengths}
 use Rattle.rules.specs.Unpack as U
@@ -119,7 +121,8 @@ module _ (h : Most) (v : ℕ) (xs : List ℕ) (r : PackBuffers) (n : ℕ) where
 
   at_store : (os : List Operation) (s : Packing) (t : Bool) → Passed → chosen_for h ts ≡ chosen os s
       → leb (length (pack_of v ts os s)) (length r.pack) ≡ t
-      → ◌≡◌ {A = Answer} (pack_answer (elim t [ true ↦ pack_done (contents_of v ts qs os s) r | false ↦ pack_refused 11 v ts r ])) (packed n)
+      → ◌≡◌ {A = Answer} (pack_answer (elim t [ true ↦ pack_done (contents_of v ts qs os s) r | false ↦ pack_refused 11 v ts r ]))
+      (packed n)
       → PackedBy h v xs r n
   unfolding pack_chosen
   at_store os s true a c l q = record {

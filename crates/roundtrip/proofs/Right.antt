@@ -16,7 +16,8 @@ use Rattle.rules.specs.Triangle.{tri, triangles_of, In}
 use Rattle.rules.specs.Across.{across}
 use Rattle.rules.specs.Ring.{Node, Ring, vertex, is_open, start_or, reached, places, loop_at}
 use Rattle.rules.specs.Table.{glued, builds, at_edge, effect, edge_rule}
-use Rattle.rules.specs.Choice.{Packing, Next, refuses, takes, has, operation_for, choose_place, packing_after, limited, choose, after_current}
+use Rattle.rules.specs.Choice.{Packing, Next, refuses, takes, has, operation_for, choose_place, packing_after, limited, choose}
+use Rattle.rules.specs.Choice.{after_current}
 use Rattle.rules.specs.Pack.{Most}
 use Rattle.mesh_theory.specs.Fans.Corner.{Once}
 use Rattle.rules.specs.Fan.{Neighbours}

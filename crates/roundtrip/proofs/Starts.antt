@@ -21,8 +21,10 @@ use Rattle.rules.specs.Fields.{pack_bytes}
 use Rattle.rules.specs.Choice.{Packing}
 use Rattle.rules.specs.Pack as P
 use Rattle.rules.specs.Buffer.{over, zeroed, cleared}
-use Rattle.rules.specs.Pack.{Chosen, stopped, chosen, choose_all, most, nothing_built, enough, chosen_for, order_for, new_numbers, PackBuffers}
-use Rattle.rules.specs.Pack.{PackResult, PackContents, pack_refused, pack_stored, contents_of, pack_chosen, pack_long_enough, pack_checked, pack}
+use Rattle.rules.specs.Pack.{Chosen, stopped, chosen, choose_all, most, nothing_built, enough, chosen_for, order_for, new_numbers}
+use Rattle.rules.specs.Pack.{PackBuffers}
+use Rattle.rules.specs.Pack.{PackResult, PackContents, pack_refused, pack_stored, contents_of, pack_chosen, pack_long_enough, pack_checked}
+use Rattle.rules.specs.Pack.{pack}
 use Rattle.mesh_theory.specs.Fans.Corner.{Once}
 use Rattle.choice_theory.proofs.Turning.Links.{free_rot}
 use Rattle.choice_theory.proofs.Turning.Ways.{others, others_length, others_once}

@@ -14,7 +14,8 @@ use Rattle.rules.specs.declared.Checked.TheVariants.{Accepted}
 use Rattle.rules.specs.Triangle.{triangles_of}
 use Rattle.rules.specs.Check.{check}
 use Rattle.rules.specs.Answer.{Answer, refusal, accepted, triangle, no_triangle, numbers, packed, unpacked}
-use Rattle.rules.specs.Pack.{Chosen, stopped, chosen, Most, nothing_built, order_for, pack_of, PackBuffers, PackResult, PackContents, pack_done}
+use Rattle.rules.specs.Pack.{Chosen, stopped, chosen, Most, nothing_built, order_for, pack_of, PackBuffers, PackResult, PackContents}
+use Rattle.rules.specs.Pack.{pack_done}
 use Rattle.rules.specs.Pack.{contents_of, pack_chosen, pack_long_enough, order_long_enough, pack_within}
 use Rattle.choice_theory.proofs.Runs.Whole.{Complete}
 use Rattle.choice_theory.proofs.Runs.RoundTrip.{accepted_complete}

@@ -19,7 +19,8 @@ use Rattle.rules.specs.Table.{Side, glued, builds, effect, edge_rule}
 use Rattle.rules.specs.Answer.{refusal, packed, unpacked}
 use Rattle.rules.specs.Fields.{fields, fields_of}
 use Rattle.rules.specs.Choice.{Packing, has, operation_for, limited, choose, after_current}
-use Rattle.rules.specs.Pack.{chosen, Most, chosen_for, order_for, pack_of, PackBuffers, PackResult, pack_done, contents_of, pack_long_enough}
+use Rattle.rules.specs.Pack.{chosen, Most, chosen_for, order_for, pack_of, PackBuffers, PackResult, pack_done, contents_of}
+use Rattle.rules.specs.Pack.{pack_long_enough}
 use Rattle.rules.specs.Pack.{order_long_enough, pack_within, pack}
 use Rattle.rules.specs.Buffer.{Buffers}
 use Rattle.rules.specs.Machine.{Machine, empty, totals}
@@ -181,7 +182,8 @@ NoTwoPacksOfOneList = (bytes bytes' : List ℕ) → Bytes bytes → Bytes bytes'
 
 -- 4. Packing depends on v and the list alone, not on what the buffers hold: of their lengths only on whether they are long enough
 abbrev pub SameInAllBuffers : Type 0
-SameInAllBuffers = (v : ℕ) (xs : List ℕ) (r r' : PackBuffers) (n n' : ℕ) → (pack v xs r).answer ≡ packed n → (pack v xs r').answer ≡ packed n'
+SameInAllBuffers = (v : ℕ) (xs : List ℕ) (r r' : PackBuffers) (n n' : ℕ) → (pack v xs r).answer ≡ packed n
+    → (pack v xs r').answer ≡ packed n'
     → (n ≡ n') × (take n (pack v xs r).buffers.pack ≡ take n' (pack v xs r').buffers.pack)
     × (take v (pack v xs r).buffers.numbering ≡ take v (pack v xs r').buffers.numbering)
     × (take (length (triangles_of xs)) (pack v xs r).buffers.order ≡ take (length (triangles_of xs)) (pack v xs r').buffers.order)

@@ -30,7 +30,8 @@ pub record CountIsEnough : Type 0 where
   -- `run_all` comes to 15 where its count runs out
   pub out_is_15 : (n : ℕ) (m : Machine) (xs : List ℕ) → run_all n m xs ≡ run_or (stopped 15) n m xs
   -- with the count that `unpack` gives it, one above the number of bits, it never runs out: it comes to the same whatever x is
-  pub never_out : (x : Ran) (s : Counts) (ops : List ℕ) → run_or x (suc (length (bits_of_bytes ops))) (empty s) (bits_of_bytes ops) ≡ run_of s ops
+  pub never_out : (x : Ran) (s : Counts) (ops : List ℕ)
+      → run_or x (suc (length (bits_of_bytes ops))) (empty s) (bits_of_bytes ops) ≡ run_of s ops
   -- nor with any other count above a third of that number, since each operation takes three bits or more
   pub any_count : (x : Ran) (n : ℕ) (s : Counts) (ops : List ℕ) → length (bits_of_bytes ops) < 3 * n
       → run_or x n (empty s) (bits_of_bytes ops) ≡ run_of s ops

@@ -106,7 +106,8 @@ abbrev pub Limits : Type 0
 Limits = most ≡ record { places = 1024; loops = 100 }
 
 pub bench : M1 × M2 × M3 × M4 × M5 × M6 × M7 × M8 × M9 × M10 × Limits
-unfolding triangles_of corners edges_of same hit occurs count about leaving entering turn_on turn_back one_run one_fan_each in_triangle across
+unfolding triangles_of corners edges_of same hit occurs count about leaving entering turn_on turn_back one_run one_fan_each in_triangle
+    across
     all_below all_distinct none_twice all_used passes check_triangles check all_open vertex_at last_open last_vertex front onward reached
     places loop_at without allowed in_order at_edge at_rest effect test done beginning answers bits value_of bytes_within operation_bits
     operations_bits pack_bytes has drop_triangle turn_in turn_out edge_in spot_of choose_place limited taking choose_at choose_in cleared

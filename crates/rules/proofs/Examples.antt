@@ -58,11 +58,13 @@ none_before : Free 1 0 one
 none_before z (here (at_p a b c)) = omega (arith, a)
 none_before z (here (at_q a b c)) = omega (arith, b)
 none_before z (here (at_r a b c)) = omega (arith, a)
+none_before z (there x3) = elim x3 [ ]
 
 none_after : Free 0 2 one
 none_after z (here (at_p a b c)) = omega (arith, b)
 none_after z (here (at_q a b c)) = omega (arith, a)
 none_after z (here (at_r a b c)) = omega (arith, a)
+none_after z (there x3) = elim x3 [ ]
 
 pub open_fan : Linked 0 one (1 ∷ (2 ∷ [])) × Open 0 one 1 (2 ∷ [])
 open_fan = ((here (at_p refl refl refl), tt), (none_before, none_after))
@@ -115,7 +117,8 @@ others (suc (suc zero)) h = absurd (omega (arith, h))
 others (suc (suc (suc i))) h = refl
 
 pub start_leaves : OperatedBy begun lent Start (operates begun lent Start) started left
-unfolding occurs same places_of follow followed nodes loops_of place_nodes place_rings triangles_built view sizes_of apart places_fit loops_fit
+unfolding occurs same places_of follow followed nodes loops_of place_nodes place_rings triangles_built view sizes_of apart places_fit
+    loops_fit
     links_fit sound sound_else all_below hit count edges_of at_rest effect test done rings_after places
 start_leaves = record {
   triangles = refl;

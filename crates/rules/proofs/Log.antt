@@ -47,7 +47,8 @@ logs_right =
     && same_log (second ++ first) (operate Border ∷ operate New ∷ operate Start ∷ begin (counts 9 9 9 9) ∷ [])
 
 pub logs : T logs_right
-unfolding corners edges_of same hit occurs count different pairs about leaving entering turn_on turn_back one_run one_fan_each all_open vertex_at
+unfolding corners edges_of same hit occurs count different pairs about leaving entering turn_on turn_back one_run one_fan_each all_open
+    vertex_at
     last_open last_vertex front onward reached places loop_at without allowed in_order at_edge at_rest effect test done beginning finishing
     bits operation_bits log_all equal written_calls logs_right
 logs = tt

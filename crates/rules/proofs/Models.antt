@@ -1799,7 +1799,8 @@ unpack_rows =
       bytes = (1 ∷ 0 ∷ 8 ∷ 0 ∷ 7 ∷ 0 ∷ 9 ∷ 0 ∷ 7 ∷ 0 ∷ 2 ∷ 2 ∷ 0 ∷ 10 ∷ 224 ∷ 54 ∷ 3 ∷ 112 ∷ 3 ∷ 192 ∷ 64 ∷ 38 ∷ 89 ∷ 96 ∷ []);
       lent = unpack_lent (replicate 28 6) (replicate 1024 (place 3 1 2 true));
       answer = model_of 7 9 (totals_of 17 1 1 (negsuc 0));
-      left = unpack_lent (0 ∷ 1 ∷ 2 ∷ 1 ∷ 0 ∷ 3 ∷ 1 ∷ 3 ∷ 4 ∷ 0 ∷ 2 ∷ 5 ∷ 0 ∷ 5 ∷ 6 ∷ 4 ∷ 3 ∷ 6 ∷ 6 ∷ 3 ∷ 2 ∷ 2 ∷ 3 ∷ 5 ∷ 6 ∷ 5 ∷ 4 ∷ 6 ∷ [])
+      left = unpack_lent
+          (0 ∷ 1 ∷ 2 ∷ 1 ∷ 0 ∷ 3 ∷ 1 ∷ 3 ∷ 4 ∷ 0 ∷ 2 ∷ 5 ∷ 0 ∷ 5 ∷ 6 ∷ 4 ∷ 3 ∷ 6 ∷ 6 ∷ 3 ∷ 2 ∷ 2 ∷ 3 ∷ 5 ∷ 6 ∷ 5 ∷ 4 ∷ 6 ∷ [])
           (replicate 1024 (place 0 0 0 false));
     }
     ∷
@@ -1863,7 +1864,8 @@ unpack_rows =
       bytes = (1 ∷ 0 ∷ 8 ∷ 0 ∷ 7 ∷ 0 ∷ 9 ∷ 0 ∷ 9 ∷ 0 ∷ 2 ∷ 2 ∷ 0 ∷ 10 ∷ 224 ∷ 48 ∷ 224 ∷ 5 ∷ 128 ∷ 128 ∷ 97 ∷ 178 ∷ 217 ∷ 96 ∷ []);
       lent = unpack_lent (replicate 28 6) (replicate 1024 (place 3 1 2 true));
       answer = model_of 7 9 (totals_of 17 1 1 (negsuc 0));
-      left = unpack_lent (0 ∷ 1 ∷ 2 ∷ 1 ∷ 0 ∷ 3 ∷ 1 ∷ 3 ∷ 4 ∷ 2 ∷ 1 ∷ 5 ∷ 0 ∷ 2 ∷ 4 ∷ 0 ∷ 4 ∷ 5 ∷ 0 ∷ 5 ∷ 6 ∷ 4 ∷ 3 ∷ 5 ∷ 5 ∷ 1 ∷ 6 ∷ 6 ∷ [])
+      left = unpack_lent
+          (0 ∷ 1 ∷ 2 ∷ 1 ∷ 0 ∷ 3 ∷ 1 ∷ 3 ∷ 4 ∷ 2 ∷ 1 ∷ 5 ∷ 0 ∷ 2 ∷ 4 ∷ 0 ∷ 4 ∷ 5 ∷ 0 ∷ 5 ∷ 6 ∷ 4 ∷ 3 ∷ 5 ∷ 5 ∷ 1 ∷ 6 ∷ 6 ∷ [])
           (replicate 1024 (place 0 0 0 false));
     }
     ∷
@@ -4120,11 +4122,11 @@ whole_rows =
           ∷ 1 ∷ 2 ∷ 0 ∷ 1 ∷ 2 ∷ 0 ∷ [])
           (replicate 1024 (place 3 1 2 true));
       unpacking = unpack_told (model_of 8 12 (totals_of 18 0 0 (pos 2)))
-          (unpack_lent (0 ∷ 1 ∷ 2 ∷ 1 ∷ 0 ∷ 3 ∷ 1 ∷ 3 ∷ 4 ∷ 1 ∷ 4 ∷ 5 ∷ 1 ∷ 5 ∷ 2 ∷ 2 ∷ 5 ∷ 6 ∷ 2 ∷ 6 ∷ 3 ∷ 2 ∷ 3 ∷ 0 ∷ 3 ∷ 6 ∷ 4 ∷ 4 ∷ 6 ∷ 7
-          ∷ 4 ∷ 7 ∷ 5 ∷ 5 ∷ 7 ∷ 6 ∷ 1 ∷ 2 ∷ 0 ∷ []) (replicate 1024 (place 0 0 0 false)));
+          (unpack_lent (0 ∷ 1 ∷ 2 ∷ 1 ∷ 0 ∷ 3 ∷ 1 ∷ 3 ∷ 4 ∷ 1 ∷ 4 ∷ 5 ∷ 1 ∷ 5 ∷ 2 ∷ 2 ∷ 5 ∷ 6 ∷ 2 ∷ 6 ∷ 3 ∷ 2 ∷ 3 ∷ 0 ∷ 3 ∷ 6 ∷ 4 ∷ 4 ∷ 6
+          ∷ 7 ∷ 4 ∷ 7 ∷ 5 ∷ 5 ∷ 7 ∷ 6 ∷ 1 ∷ 2 ∷ 0 ∷ []) (replicate 1024 (place 0 0 0 false)));
       measuring = volume_told (model_of 8 12 (totals_of 18 0 0 (pos 2))) (given (pos 412014944250))
-          (unpack_lent (0 ∷ 1 ∷ 2 ∷ 1 ∷ 0 ∷ 3 ∷ 1 ∷ 3 ∷ 4 ∷ 1 ∷ 4 ∷ 5 ∷ 1 ∷ 5 ∷ 2 ∷ 2 ∷ 5 ∷ 6 ∷ 2 ∷ 6 ∷ 3 ∷ 2 ∷ 3 ∷ 0 ∷ 3 ∷ 6 ∷ 4 ∷ 4 ∷ 6 ∷ 7
-          ∷ 4 ∷ 7 ∷ 5 ∷ 5 ∷ 7 ∷ 6 ∷ 1 ∷ 2 ∷ 0 ∷ []) (replicate 1024 (place 0 0 0 false)));
+          (unpack_lent (0 ∷ 1 ∷ 2 ∷ 1 ∷ 0 ∷ 3 ∷ 1 ∷ 3 ∷ 4 ∷ 1 ∷ 4 ∷ 5 ∷ 1 ∷ 5 ∷ 2 ∷ 2 ∷ 5 ∷ 6 ∷ 2 ∷ 6 ∷ 3 ∷ 2 ∷ 3 ∷ 0 ∷ 3 ∷ 6 ∷ 4 ∷ 4 ∷ 6
+          ∷ 7 ∷ 4 ∷ 7 ∷ 5 ∷ 5 ∷ 7 ∷ 6 ∷ 1 ∷ 2 ∷ 0 ∷ []) (replicate 1024 (place 0 0 0 false)));
       note = [];
       start = 0;
     }
@@ -4168,11 +4170,11 @@ whole_rows =
           ∷ 1 ∷ 2 ∷ 0 ∷ 1 ∷ 2 ∷ 0 ∷ 1 ∷ 2 ∷ 0 ∷ 1 ∷ 2 ∷ 0 ∷ [])
           (replicate 1024 (place 3 1 2 true));
       unpacking = unpack_told (model_of 7 14 (totals_of 21 0 1 (pos 0)))
-          (unpack_lent (0 ∷ 1 ∷ 2 ∷ 1 ∷ 0 ∷ 3 ∷ 1 ∷ 3 ∷ 4 ∷ 1 ∷ 4 ∷ 5 ∷ 1 ∷ 5 ∷ 6 ∷ 1 ∷ 6 ∷ 2 ∷ 2 ∷ 6 ∷ 4 ∷ 4 ∷ 6 ∷ 0 ∷ 4 ∷ 0 ∷ 5 ∷ 5 ∷ 0 ∷ 2
-          ∷ 5 ∷ 2 ∷ 3 ∷ 3 ∷ 2 ∷ 4 ∷ 5 ∷ 3 ∷ 6 ∷ 6 ∷ 3 ∷ 0 ∷ 1 ∷ 2 ∷ 0 ∷ []) (replicate 1024 (place 0 0 0 false)));
+          (unpack_lent (0 ∷ 1 ∷ 2 ∷ 1 ∷ 0 ∷ 3 ∷ 1 ∷ 3 ∷ 4 ∷ 1 ∷ 4 ∷ 5 ∷ 1 ∷ 5 ∷ 6 ∷ 1 ∷ 6 ∷ 2 ∷ 2 ∷ 6 ∷ 4 ∷ 4 ∷ 6 ∷ 0 ∷ 4 ∷ 0 ∷ 5 ∷ 5 ∷ 0
+          ∷ 2 ∷ 5 ∷ 2 ∷ 3 ∷ 3 ∷ 2 ∷ 4 ∷ 5 ∷ 3 ∷ 6 ∷ 6 ∷ 3 ∷ 0 ∷ 1 ∷ 2 ∷ 0 ∷ []) (replicate 1024 (place 0 0 0 false)));
       measuring = volume_told (model_of 7 14 (totals_of 21 0 1 (pos 0))) (given (negsuc 4451893247))
-          (unpack_lent (0 ∷ 1 ∷ 2 ∷ 1 ∷ 0 ∷ 3 ∷ 1 ∷ 3 ∷ 4 ∷ 1 ∷ 4 ∷ 5 ∷ 1 ∷ 5 ∷ 6 ∷ 1 ∷ 6 ∷ 2 ∷ 2 ∷ 6 ∷ 4 ∷ 4 ∷ 6 ∷ 0 ∷ 4 ∷ 0 ∷ 5 ∷ 5 ∷ 0 ∷ 2
-          ∷ 5 ∷ 2 ∷ 3 ∷ 3 ∷ 2 ∷ 4 ∷ 5 ∷ 3 ∷ 6 ∷ 6 ∷ 3 ∷ 0 ∷ 1 ∷ 2 ∷ 0 ∷ []) (replicate 1024 (place 0 0 0 false)));
+          (unpack_lent (0 ∷ 1 ∷ 2 ∷ 1 ∷ 0 ∷ 3 ∷ 1 ∷ 3 ∷ 4 ∷ 1 ∷ 4 ∷ 5 ∷ 1 ∷ 5 ∷ 6 ∷ 1 ∷ 6 ∷ 2 ∷ 2 ∷ 6 ∷ 4 ∷ 4 ∷ 6 ∷ 0 ∷ 4 ∷ 0 ∷ 5 ∷ 5 ∷ 0
+          ∷ 2 ∷ 5 ∷ 2 ∷ 3 ∷ 3 ∷ 2 ∷ 4 ∷ 5 ∷ 3 ∷ 6 ∷ 6 ∷ 3 ∷ 0 ∷ 1 ∷ 2 ∷ 0 ∷ []) (replicate 1024 (place 0 0 0 false)));
       note = [];
       start = 0;
     }
@@ -4490,7 +4492,8 @@ whole_rows =
     record {
       bytes = (1 ∷ 0 ∷ 8 ∷ 0 ∷ 3 ∷ 0 ∷ 1 ∷ 0 ∷ 3 ∷ 0 ∷ 1 ∷ 2 ∷ 0 ∷ 2 ∷ 237 ∷ 176 ∷ []);
       lent = unpack_lent (1 ∷ 2 ∷ 0 ∷ 1 ∷ []) (replicate 1024 (place 3 1 2 true));
-      unpacking = unpack_told (model_of 3 1 (totals_of 3 1 0 (pos 1))) (unpack_lent (0 ∷ 1 ∷ 2 ∷ 1 ∷ []) (replicate 1024 (place 0 0 0 false)));
+      unpacking = unpack_told (model_of 3 1 (totals_of 3 1 0 (pos 1)))
+          (unpack_lent (0 ∷ 1 ∷ 2 ∷ 1 ∷ []) (replicate 1024 (place 0 0 0 false)));
       measuring = volume_told (refusal 24) not_given (unpack_lent (0 ∷ 0 ∷ 0 ∷ 1 ∷ []) (replicate 1024 (place 0 0 0 false)));
       note = [];
       start = 0;
@@ -4709,7 +4712,8 @@ whole_rows =
           (1 ∷ 0 ∷ 8 ∷ 0 ∷ 3 ∷ 0 ∷ 1 ∷ 0 ∷ 3 ∷ 0 ∷ 1 ∷ 2 ∷ 0 ∷ 2 ∷ 237 ∷ 176 ∷ 3 ∷ 0 ∷ 18 ∷ 250 ∷ 136 ∷ 253 ∷ 90 ∷ 0 ∷ 118 ∷ 3 ∷ 220 ∷ 7
           ∷ 140 ∷ 251 ∷ 134 ∷ 255 ∷ 202 ∷ 4 ∷ 88 ∷ 249 ∷ 48 ∷ 4 ∷ 0 ∷ 1 ∷ 65 ∷ []);
       lent = unpack_lent (1 ∷ 2 ∷ 0 ∷ 1 ∷ []) (replicate 1024 (place 3 1 2 true));
-      unpacking = unpack_told (model_of 3 1 (totals_of 3 1 0 (pos 1))) (unpack_lent (0 ∷ 1 ∷ 2 ∷ 1 ∷ []) (replicate 1024 (place 0 0 0 false)));
+      unpacking = unpack_told (model_of 3 1 (totals_of 3 1 0 (pos 1)))
+          (unpack_lent (0 ∷ 1 ∷ 2 ∷ 1 ∷ []) (replicate 1024 (place 0 0 0 false)));
       measuring = volume_told (refusal 24) not_given (unpack_lent (0 ∷ 0 ∷ 0 ∷ 1 ∷ []) (replicate 1024 (place 0 0 0 false)));
       note = (65 ∷ []);
       start = 40;
@@ -5924,15 +5928,16 @@ melt_rows =
 pub table : T (all_right pack_right pack_rows && all_right unpack_right unpack_rows && all_right calls_right call_rows
     && all_right fields_right fields_rows && all_right look_right look_rows && all_right whole_pack_right whole_pack_rows
     && all_right whole_right whole_rows && all_right melt_right melt_rows)
-unfolding equal equal_places equal_answers pack_right unpack_right whole_pack_right whole_right melt_right written_ring written_rings written_edges
-    calls_right fields_right look_right all_right triangles_of corners edges_of same hit occurs count different pairs about leaving entering
-    turn_on turn_back one_run one_fan_each in_triangle across all_below all_distinct none_twice all_used passes check_triangles check all_open vertex_at
-    last_open last_vertex front onward reached places loop_at without allowed in_order at_edge at_rest effect places_at rings_after cleared test
-    done beginning finishing answers after_all log_all bits value_of bits_of_bytes bytes_within read_number all_zero operation_bits operations_bits
-    kind_in read_operation pack_bytes take_field fields_of all_in_grid signed_of position_bytes positions_from later_part parts_of take_note determinant
-    six_volumes has drop_triangle turn_in turn_out edge_in spot_of choose_place limited taking choose_at choose_in order_by choose_all index_of
-    new_numbers pack_chosen pack_checked run_all numbers_of unpack_run unpack_fields positions_of whole_chosen whole_checked then_tested unpack_parts
-    measured done_freely run_freely melt_run melt_fields melt_parts follow followed nodes places_of open_among loops_of place_nodes place_rings
-    triangles_built view sizes_of apart places_fit loops_fit links_fit sound_else sound pack_rows unpack_rows call_rows fields_rows look_rows
-    whole_pack_rows whole_rows melt_rows
+unfolding equal equal_places equal_answers pack_right unpack_right whole_pack_right whole_right melt_right written_ring written_rings
+    written_edges calls_right fields_right look_right all_right triangles_of corners edges_of same hit occurs count different pairs about
+    leaving entering turn_on turn_back one_run one_fan_each in_triangle across all_below all_distinct none_twice all_used passes
+    check_triangles check all_open vertex_at last_open last_vertex front onward reached places loop_at without allowed in_order at_edge
+    at_rest effect places_at rings_after cleared test done beginning finishing answers after_all log_all bits value_of bits_of_bytes
+    bytes_within read_number all_zero operation_bits operations_bits kind_in read_operation pack_bytes take_field fields_of all_in_grid
+    signed_of position_bytes positions_from later_part parts_of take_note determinant six_volumes has drop_triangle turn_in turn_out edge_in
+    spot_of choose_place limited taking choose_at choose_in order_by choose_all index_of new_numbers pack_chosen pack_checked run_all
+    numbers_of unpack_run unpack_fields positions_of whole_chosen whole_checked then_tested unpack_parts measured done_freely run_freely
+    melt_run melt_fields melt_parts follow followed nodes places_of open_among loops_of place_nodes place_rings triangles_built view
+    sizes_of apart places_fit loops_fit links_fit sound_else sound pack_rows unpack_rows call_rows fields_rows look_rows whole_pack_rows
+    whole_rows melt_rows
 table = tt

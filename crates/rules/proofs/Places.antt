@@ -93,9 +93,12 @@ else_right x =
     elim (x.passes || not (sums_fit x.state)) [ true ↦ t | false ↦ not t ]
 
 pub rings : T (all_right beside_right call_rows && read_right && taken_right && all_right else_right state_rows)
-unfolding keeps_vertex ring_beside rings_beside seats_of all_seats beside_all beside_right read_right taken_right state_rows call_rows corners edges_of
-    same hit occurs count different pairs about leaving entering turn_on turn_back one_run one_fan_each all_below all_open vertex_at last_open
-    last_vertex front onward reached places loop_at without allowed in_order at_edge at_rest effect places_at rings_after test done beginning
+unfolding keeps_vertex ring_beside rings_beside seats_of all_seats beside_all beside_right read_right taken_right state_rows call_rows
+    corners edges_of
+    same hit occurs count different pairs about leaving entering turn_on turn_back one_run one_fan_each all_below all_open vertex_at
+    last_open
+    last_vertex front onward reached places loop_at without allowed in_order at_edge at_rest effect places_at rings_after test done
+    beginning
     finishing follow followed places_of place_nodes place_rings sizes_of apart places_fit loops_fit links_fit sound_else equal all_right
     written_ring written_rings
 rings = tt

@@ -250,7 +250,8 @@ open_right =
     && uses_is 0 1 2 && uses_is 1 0 1 && uses_is 2 1 0
 
 pub states : T (all_right state_right state_rows && view_right && open_right)
-unfolding open_among open_right same hit corners edges_of numbers_of occurs count all_below all_open vertex_at last_open last_vertex front onward
+unfolding open_among open_right same hit corners edges_of numbers_of occurs count all_below all_open vertex_at last_open last_vertex front
+    onward
     reached places loop_at without allowed in_order at_edge at_rest effect test done beginning after_all follow followed nodes loops_of
     triangles_built view places_of sizes_of apart places_fit loops_fit links_fit sound equal all_right state_rows written_ring written_rings
     view_right
@@ -355,8 +356,10 @@ calls_right =
     && equal (begun_buffers whole).triangles numbers && equal_places (begun_buffers whole).places (replicate 1024 free_place)
 
 pub calls : T (calls_right && differ_right && lone_right && peaks_right && fans_right)
-unfolding differ_right lone_right peaks_right fans_right about leaving entering turn_on turn_back one_run one_fan_each same hit corners edges_of
-    numbers_of occurs count all_below all_open vertex_at last_open last_vertex front onward reached places loop_at without allowed in_order at_edge
+unfolding differ_right lone_right peaks_right fans_right about leaving entering turn_on turn_back one_run one_fan_each same hit corners
+    edges_of
+    numbers_of occurs count all_below all_open vertex_at last_open last_vertex front onward reached places loop_at without allowed in_order
+    at_edge
     at_rest
     effect test done beginning finishing follow followed places_of nodes loops_of triangles_built view sizes_of apart places_fit loops_fit
     links_fit sound equal equal_places cleared calls_right

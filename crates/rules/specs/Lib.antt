@@ -151,7 +151,8 @@
 --   "leaves the first 1,024 place records zero, .." | Buffer: cleared, free_place | all rows of packing and unpacking
 --   "A refused building call changes nothing" | Build: BegunBy, OperatedBy | (the contracts of crates/service)
 --   "An accepted beginning leaves .." | Build: begun_buffers, begun_builder | calls
---   "Acceptance writes the results and nothing beyond them" | Buffer: over; Pack: pack_done; Unpack: unpack_done | "buffers just long enough"
+--   "Acceptance writes the results and nothing beyond them" | Buffer: over; Pack: pack_done; Unpack: unpack_done | "buffers just long
+--   enough"
 --   .. of a building operation | Build: Leaves; Sound: sound_else | rings, (the contract of service::operation)
 --   "For each old vertex .. the new number" | Pack: new_numbers, indexOf | "M5"
 --   C-11: "for each built triangle, in building order, its input number" | Order: next_number, orderBy | "two pieces listed in turn: .."
@@ -161,7 +162,8 @@
 --   C-13: "the exact whole-number sum over .. of the determinant .." | Volume: determinant, six_volumes | "volume of M2, different numbers"
 --   C-13: "A model turned inside out .." | TheCallInsideOut in crates/notes_theory/specs/Claims | "volume of M2, the same .."
 --   C-13: "Moving one of a vertex's three positions .." | TheCallMovedByAtMost in crates/notes_theory/specs/Claims | (the theorem)
---   C-15: "The bench reader hands back the note as the very bytes in the pack" | Reading: bench, handed_from | "field 04 that has fields .."
+--   C-15: "The bench reader hands back the note as the very bytes in the pack" | Reading: bench, handed_from | "field 04 that has fields
+--   .."
 --   C-15: ".. an empty part if there is none or unpacking refuses .." | Reading: handed_back | "no field 03, a rim", "25: field 04 of .."
 --   C-15: "Besides, it answers and writes as unpacking, refusals too" | Reading: bench | "field 04 after 02" to "25 before 24: a rim"
 --   C-15: "must take no notice", "Every other call .." | NotesMakeNoDifference in crates/notes_theory/specs/Claims | "field 04, .."

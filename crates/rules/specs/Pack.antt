@@ -64,7 +64,8 @@ order_for h ts = order_by (enough ts) (nothing_built h ts)
 
 abbrev pub pack_of : ℕ → List Triangle → List Operation → Packing → List ℕ
 pack_of v ts os s =
-    pack_bytes (record { vertices = v; triangles = length ts; places = s.most_places; loops = s.most_loops }) (bytes_of (operations_bits os))
+    pack_bytes (record { vertices = v; triangles = length ts; places = s.most_places; loops = s.most_loops })
+    (bytes_of (operations_bits os))
 
 -- where a vertex stands in a list that has it
 unfoldable pub index_of : ℕ → List ℕ → ℕ

@@ -19,7 +19,7 @@ pub const FURNACE_PLACES: usize = 200;
 pub const FURNACE_LOOPS: usize = 12;
 
 // A triangle p q r has the directed edges p→q, q→r and r→p.
-#[derive(Drop)]
+#[derive(Clone, Copy)]
 pub struct Triangle {
     pub p: u16,
     pub q: u16,
@@ -27,7 +27,7 @@ pub struct Triangle {
 }
 
 // Where a vertex is.
-#[derive(Drop)]
+#[derive(Clone, Copy)]
 pub struct Point {
     pub x: i64,
     pub y: i64,
@@ -36,7 +36,7 @@ pub struct Point {
 
 // The counts that a pack or a beginning states.
 #[repr(C)]
-#[derive(Drop)]
+#[derive(Clone, Copy)]
 pub struct Counts {
     pub vertices: u16,
     pub triangles: u16,
@@ -45,7 +45,7 @@ pub struct Counts {
 }
 
 // The eight operations, with their indices.
-#[derive(Drop)]
+#[derive(Clone, Copy)]
 pub enum Operation {
     New,
     Forward,
@@ -61,7 +61,7 @@ pub enum Operation {
 // whether its edge to the next place is open (else it is marked as border). A record that is no place may hold anything where a
 // state is lent; in a model begun here it is zero.
 #[repr(C)]
-#[derive(Drop)]
+#[derive(Clone, Copy)]
 pub struct Place {
     pub vertex: u16,
     pub before: u16,
@@ -71,7 +71,7 @@ pub struct Place {
 
 // The most places and the most live loops so far.
 #[repr(C)]
-#[derive(Drop)]
+#[derive(Clone, Copy)]
 pub struct Peaks {
     pub places: u16,
     pub loops: u16,
@@ -80,7 +80,7 @@ pub struct Peaks {
 // A model that is being built. Of the live loops the current one stands at `live - 1`, the latest waiting one before it,
 // and so on: `current` has the place where a loop's current edge starts, `sizes` how many places it has.
 #[repr(C)]
-#[derive(Drop)]
+#[derive(Clone, Copy)]
 pub struct Builder {
     pub stated: Counts,
     pub used: u16,
@@ -132,7 +132,7 @@ impl Builder {
 }
 
 // What a finish gives.
-#[derive(Drop)]
+#[derive(Clone, Copy)]
 pub struct Totals {
     pub edges: u16,
     pub rims: u16,
@@ -141,7 +141,7 @@ pub struct Totals {
 }
 
 // What an unpacking gives.
-#[derive(Drop)]
+#[derive(Clone, Copy)]
 pub struct Model {
     pub vertices: u16,
     pub triangles: u16,
@@ -149,33 +149,33 @@ pub struct Model {
 }
 
 // Where a directed edge is: the number of the triangle, the corner that the edge does not touch, and the vertex there.
-#[derive(Drop)]
+#[derive(Clone, Copy)]
 pub enum Across {
     Found(u16, u8, u16),
     Nothing,
 }
 
 // The answers of the calls.
-#[derive(Drop)]
+#[derive(Clone, Copy)]
 pub enum Checked {
     Accepted,
     Refused(u8),
 }
 
-#[derive(Drop)]
+#[derive(Clone, Copy)]
 pub enum Packed {
     Length(u32),
     Refused(u8),
 }
 
-#[derive(Drop)]
+#[derive(Clone, Copy)]
 pub enum Unpacked {
     Model(Model),
     Refused(u8),
 }
 
 // The bench reader tells besides where the note stands in the pack and how many bytes it has, twice 0 if there is none.
-#[derive(Drop)]
+#[derive(Clone, Copy)]
 pub struct Benched {
     pub answer: Unpacked,
     pub start: usize,
@@ -183,34 +183,34 @@ pub struct Benched {
 }
 
 // The same, with the note as a part of the pack that was lent.
-#[derive(Drop)]
+#[derive(Clone, Copy)]
 pub struct Noted<'a> {
     pub answer: Unpacked,
     pub note: &'a [u8],
 }
 
 // The volume call gives six times the volume besides.
-#[derive(Drop)]
+#[derive(Clone, Copy)]
 pub enum Measured {
     Volume(Model, i64),
     Refused(u8),
 }
 
 // The furnace's own reader gives six times the volume alone.
-#[derive(Drop)]
+#[derive(Clone, Copy)]
 pub enum Melted {
     Six(i64),
     Refused(u8),
 }
 
 // A beginning gives the state of the model that is begun; a refused one gives the empty builder, and the old model goes on.
-#[derive(Drop)]
+#[derive(Clone, Copy)]
 pub struct Begun {
     pub state: Builder,
     pub answer: Checked,
 }
 
-#[derive(Drop)]
+#[derive(Clone, Copy)]
 pub enum Operated {
     Built(Triangle),
     Marked,
@@ -218,13 +218,13 @@ pub enum Operated {
 }
 
 // An operation gives the state back, changed or as it was.
-#[derive(Drop)]
+#[derive(Clone, Copy)]
 pub struct Performed {
     pub state: Builder,
     pub answer: Operated,
 }
 
-#[derive(Drop)]
+#[derive(Clone, Copy)]
 pub enum Finished {
     Totals(Totals),
     Refused(u8),

@@ -16,7 +16,8 @@ use Rattle.rules.specs.Limits.{max_places, in_range}
 use Rattle.rules.specs.Fan.{one_fan_each}
 use Rattle.rules.specs.Code.{Read, breaks_off, read, read_operation}
 use Rattle.rules.specs.Table.{Effect, not_allowed, builds, marks, effect}
-use Rattle.rules.specs.Machine.{Machine, Step, refused, begun, built, declared, finished, test, done, operation, complete, as_stated, totals}
+use Rattle.rules.specs.Machine.{Machine, Step, refused, begun, built, declared, finished, test, done, operation, complete, as_stated}
+use Rattle.rules.specs.Machine.{totals}
 use Rattle.rules.specs.Machine.{long_enough, empty}
 use Rattle.rules.specs.Answer.{Answer, refusal, accepted, triangle, no_triangle, numbers, packed, unpacked, unpacked_answer}
 use Rattle.rules.specs.Bits.{bits_of_bytes}

@@ -19,7 +19,8 @@ use Rattle.rules.specs.Machine.{Machine, as_stated, totals, long_enough}
 use Rattle.rules.specs.Answer.{refusal, unpacked, unpacked_answer}
 use Rattle.rules.specs.Buffer.{free_place, over, zeroed, Buffers, lengths}
 use Rattle.rules.specs.Fields.{Fields, no_pack, fields, fields_of}
-use Rattle.rules.specs.Unpack.{Ran, stopped, completed, run_of, numbers_of, rest_fits, UnpackResult, turned_down, unpack_refused, unpack_done}
+use Rattle.rules.specs.Unpack.{Ran, stopped, completed, run_of, numbers_of, rest_fits, UnpackResult, turned_down, unpack_refused}
+use Rattle.rules.specs.Unpack.{unpack_done}
 use Rattle.rules.specs.Unpack.{unpack_ended, unpack_run, unpack_fields}
 use Rattle.border_theory.specs.Records.Lent.{lent}
 use Rattle.cutborder.specs.declared.Stepped.{Stepped}

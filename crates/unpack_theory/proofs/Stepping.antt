@@ -36,7 +36,8 @@ use Rattle.cutborder.specs.declared.Plan.{Plan}
 use Rattle.cutborder.specs.declared.Decided.{Decided}
 use Rattle.cutborder.specs.declared.Decided.TheVariants as D
 use Rattle.border_theory.specs.Memory.Moves.{marked_held}
-use Rattle.border_theory.specs.Memory.Decision.{proposed, proposed_by, rest_proposed, start_plan, room_for, room_by, decided_by, decided, side_of}
+use Rattle.border_theory.specs.Memory.Decision.{proposed, proposed_by, rest_proposed, start_plan, room_for, room_by, decided_by, decided}
+use Rattle.border_theory.specs.Memory.Decision.{side_of}
 use Rattle.border_theory.specs.Memory.Decision.{held_after, built_front, marked_front}
 use Rattle.border_theory.specs.Memory.Keeps.{Ready, BuildsIt, MarksIt, Decides}
 use Rattle.border_theory.proofs.Memory.Ready.{ready}

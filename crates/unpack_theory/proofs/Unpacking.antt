@@ -30,7 +30,8 @@ use Rattle.unpack_theory.proofs.Lending.{short_is, enough_is, run_answer, run_tr
 
 -- the first state, as the code makes it
 module _ (c : Counts) (ops ts m : List ℕ) (f : Fitting c ops ts m) (s : Front) (es : s ≡ fresh_front max_places c) (m₁ : List ℕ)
-    (em : m₁ ≡ all_free max_places m max_places) (cs : List ℕ) (none : Chains ts 0 cs) (ks : List ℕ) (noted : length ks ≡ max_vertices) where
+    (em : m₁ ≡ all_free max_places m max_places) (cs : List ℕ) (none : Chains ts 0 cs) (ks : List ℕ)
+    (noted : length ks ≡ max_vertices) where
   first : Runs (empty c) s ts m₁ cs ks
   first = rw (es, em) (starts_empty c f.ranges m f.whole ts f.room cs none ks noted)
 
@@ -45,7 +46,8 @@ module _ (c : Counts) (ops ts m : List ℕ) (f : Fitting c ops ts m) (s : Front)
     ends : Ends (run_of c ops) ops c e ts₁ m₂ cs₁ ks₁
     ends =
         subst (λ (k : ℕ). Ends (run_all k (empty c) (bits_of_bytes ops)) ops c e ts₁ m₂ cs₁ ks₁) fuel
-        (subst (λ (d : Counts). Ends (run_all budget (empty c) (bits_of_bytes ops)) ops d e ts₁ m₂ cs₁ ks₁) (ap (λ (x : Front). x.stated) es)
+        (subst (λ (d : Counts). Ends (run_all budget (empty c) (bits_of_bytes ops)) ops d e ts₁ m₂ cs₁ ks₁)
+        (ap (λ (x : Front). x.stated) es)
         (ran (empty c) first))
 
     pub first_ended : Ended e ts₁ cs₁ ks₁

@@ -13,7 +13,8 @@ use Rattle.counting.proofs.Triangles.{written_front, written_past}
 use Rattle.unpack_theory.specs.Runs.{Beyond}
 
 module _ (ts : List ℕ) (n : ℕ) (t : Triangle) (h : 3 * n + 3 ≤ length ts) where
-  pub numbers_more : (us : List Triangle) → take (3 * n) ts ≡ numbers_of us → take (3 * (n + 1)) (with_triangle n t ts) ≡ numbers_of (t ∷ us)
+  pub numbers_more : (us : List Triangle) → take (3 * n) ts ≡ numbers_of us
+      → take (3 * (n + 1)) (with_triangle n t ts) ≡ numbers_of (t ∷ us)
   unfolding numbers_of
   numbers_more us e =
       let i : 3 * (n + 1) ≡ 3 * n + 3 = omega arith in

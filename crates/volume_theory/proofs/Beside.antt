@@ -20,8 +20,10 @@ use Rattle.rules.specs.Answer.{refusal, packed}
 use Rattle.rules.specs.Buffer.{over}
 use Rattle.rules.specs.Fields.{field_of}
 use Rattle.rules.specs.Choice.{Packing}
-use Rattle.rules.specs.Pack.{Chosen, stopped, chosen, most, chosen_for, order_for, pack_of, PackBuffers, PackResult, turned_down, pack_refused}
-use Rattle.rules.specs.Pack.{PackContents, pack_done, pack_stored, contents_of, pack_chosen, pack_long_enough, order_long_enough, pack_checked, pack}
+use Rattle.rules.specs.Pack.{Chosen, stopped, chosen, most, chosen_for, order_for, pack_of, PackBuffers, PackResult, turned_down}
+use Rattle.rules.specs.Pack.{pack_refused}
+use Rattle.rules.specs.Pack.{PackContents, pack_done, pack_stored, contents_of, pack_chosen, pack_long_enough, order_long_enough}
+use Rattle.rules.specs.Pack.{pack_checked, pack}
 use Rattle.rules.specs.Grid.{all_in_grid, position_bytes}
 use Rattle.counting.proofs.Bools.{and_right}
 use Rattle.rules.specs.Volume.{point_at}

@@ -43,12 +43,14 @@ turned_in x y z (t ∷ ts) (here (at_p a b c)) = here (at_p b a c)
 turned_in x y z (t ∷ ts) (here (at_q a b c)) = here (at_r b a c)
 turned_in x y z (t ∷ ts) (here (at_r a b c)) = here (at_q b a c)
 turned_in x y z (t ∷ ts) (there i) = there (turned_in x y z ts i)
+turned_in x y z [] x'' = elim x'' [ ]
 
 in_turned : (x y z : ℕ) (ts : List Triangle) → In y x z ts → In x y z (turned ts)
 in_turned x y z (t ∷ ts) (here (at_p a b c)) = here (at_p b a c)
 in_turned x y z (t ∷ ts) (here (at_q a b c)) = here (at_r b a c)
 in_turned x y z (t ∷ ts) (here (at_r a b c)) = here (at_q b a c)
 in_turned x y z (t ∷ ts) (there i) = there (in_turned x y z ts i)
+in_turned x y z [] x'' = elim x'' [ ]
 
 once_turned : (ts : List Triangle) → Once ts → Once (turned ts)
 once_turned [] o = tt

@@ -41,4 +41,5 @@ abbrev pub PackingKeepsTheVolume : Type 0
 PackingKeepsTheVolume = (v : ℕ) (xs : List ℕ) (r : PackBuffers) (n : ℕ) → (pack v xs r).answer ≡ packed n
     → (r' : Buffers) → LongEnoughFor (length (triangles_of xs)) r'
     → (zs zs' : List ℤ) → ((x : ℕ) → x < v → point_at zs' (new_number (pack v xs r) x) ≡ point_at zs x)
-    → six_volumes zs' (written (length (triangles_of xs)) (unpack (take n (pack v xs r).buffers.pack) r')) ≡ six_volumes zs (triangles_of xs)
+    → six_volumes zs' (written (length (triangles_of xs)) (unpack (take n (pack v xs r).buffers.pack) r'))
+    ≡ six_volumes zs (triangles_of xs)

@@ -115,4 +115,5 @@ EveryAcceptedPackIsThePackOfItsListAndPositions = (bytes : List ℕ) → Bytes b
 abbrev pub NoTwoPacksOfOneListAndPositions : Type 0
 NoTwoPacksOfOneListAndPositions = (bytes bytes' : List ℕ) → Bytes bytes → Bytes bytes' → (r r' : Buffers) (m m' : Model)
     → (unpack_whole bytes r).answer ≡ unpacked m → (unpack_whole bytes' r').answer ≡ unpacked m'
-    → list_in m (unpack_whole bytes r) ≡ list_in m' (unpack_whole bytes' r') → positions_of_pack bytes ≡ positions_of_pack bytes' → bytes ≡ bytes'
+    → list_in m (unpack_whole bytes r) ≡ list_in m' (unpack_whole bytes' r') → positions_of_pack bytes ≡ positions_of_pack bytes'
+    → bytes ≡ bytes'

@@ -121,7 +121,8 @@ bytes_of_four ys h l =
     ∙ ap (λ (us : List ℕ). ys ++ us) (replicate-append-replicate n m 0 ∙ ap (λ (k : ℕ). replicate k 0) (fills (length ys) l)) in
     let lz : length (ys ++ z) ≡ 32 = omega (arith, length-append ys z, length-replicate {A = ℕ} (32 - length ys) 0) in
     let hz : Bits (ys ++ z) = below_append 2 ys z h (below_replicate 2 (32 - length ys) 0 (omega arith)) in
-    let v : value_of 0 (ys ++ z) ≡ value_of 0 ys * 2 ^ (32 - length ys) = value_append 0 ys z ∙ value_zeros (value_of 0 ys) (32 - length ys) in
+    let v : value_of 0 (ys ++ z) ≡ value_of 0 ys * 2 ^ (32 - length ys) =
+    value_append 0 ys z ∙ value_zeros (value_of 0 ys) (32 - length ys) in
     bytes_of_front ys m h ∙ ap (λ (us : List ℕ). take (bytes_for (length ys)) (bytes_of us)) e
     ∙ ap (take (bytes_for (length ys))) (four_chunks (ys ++ z) hz lz ∙ ap four_bytes v)
   where
@@ -160,7 +161,8 @@ module _ (buffer : List ℕ) (at : ℕ) (xs : List ℕ) (hr : Bytes buffer) (hx 
       ∙ ap (λ (x : ℕ). x * 2 ^ length xs + value_of 0 xs) (front_value b r hb (omega arith)) in
       let s : 32 - length ys ≡ 32 - r - length xs = omega arith in
       let w : value_of 0 ys * 2 ^ (32 - length ys) ≡ word_of b r (length xs) (value_of 0 xs) = ap₂ (λ (x y : ℕ). x * 2 ^ y) v s in
-      ap (λ (zs : List ℕ). bytes_of (zs ++ xs)) (before_at buffer at within) ∙ ap bytes_of (append_assoc (bits_of_bytes (take k buffer)) us xs)
+      ap (λ (zs : List ℕ). bytes_of (zs ++ xs)) (before_at buffer at within)
+      ∙ ap bytes_of (append_assoc (bits_of_bytes (take k buffer)) us xs)
       ∙ bytes_append k (bits_of_bytes (take k buffer)) ys lf
       ∙ ap₂ (λ (cs ds : List ℕ). cs ++ ds) (bytes_of_bits (take k buffer) (below_take 256 k buffer hr))
       (bytes_of_four ys hy (omega arith) ∙ ap₂ (λ (m x : ℕ). take (bytes_for m) (four_bytes x)) ly w)

@@ -123,7 +123,8 @@ fill_below n = omega arith
 -- the first byte's bits
 first_long : (n : ℕ) (xs : List ℕ) → Bits xs → 8 ≤ length xs
     → bits_of_bytes (bytes_within n (drop 8 xs)) ≡ drop 8 xs ++ replicate (fill (length (drop 8 xs))) 0
-    → bits 8 (value_of 0 (take 8 (xs ++ replicate 7 0))) ++ bits_of_bytes (bytes_within n (drop 8 xs)) ≡ xs ++ replicate (fill (length xs)) 0
+    → bits 8 (value_of 0 (take 8 (xs ++ replicate 7 0))) ++ bits_of_bytes (bytes_within n (drop 8 xs))
+    ≡ xs ++ replicate (fill (length xs)) 0
 first_long n xs h l e =
     let t : take 8 (xs ++ replicate 7 0) ≡ take 8 xs = take-append-le 8 xs (replicate 7 0) l in
     let lt : length (take 8 xs) ≡ 8 = length-take-le 8 xs l in
@@ -141,7 +142,8 @@ take_replicate (suc n) zero x h = absurd (omega arith)
 take_replicate (suc n) (suc m) x h = ap (λ (xs : List ℕ). x ∷ xs) (take_replicate n m x (omega arith))
 
 first_short : (n : ℕ) (xs : List ℕ) → Bits xs → 0 < length xs → length xs < 8
-    → bits 8 (value_of 0 (take 8 (xs ++ replicate 7 0))) ++ bits_of_bytes (bytes_within n (drop 8 xs)) ≡ xs ++ replicate (fill (length xs)) 0
+    → bits 8 (value_of 0 (take 8 (xs ++ replicate 7 0))) ++ bits_of_bytes (bytes_within n (drop 8 xs))
+    ≡ xs ++ replicate (fill (length xs)) 0
 unfolding bits_of_bytes
 first_short n xs h p l =
     let m = 8 - length xs in

@@ -10,7 +10,8 @@ use lib.ListN.{length, take, drop, get_or, length-append, take-append-drop}
 use lib.Seq.{take-append_seam, drop-append_seam, length-take-le, drop_at}
 use borrow.Author.Tests.{eq-eqb, le-leb, eqb-true, leb-true}
 use Rattle.rules.specs.declared.Counts.{Counts}
-use Rattle.rules.specs.Fields.{counts_tag, operations_tag, word, field_of, counts_of, pack_bytes, Field, no_field, field, take_field, Fields}
+use Rattle.rules.specs.Fields.{counts_tag, operations_tag, word, field_of, counts_of, pack_bytes, Field, no_field, field, take_field}
+use Rattle.rules.specs.Fields.{Fields}
 use Rattle.rules.specs.Fields.{no_pack, fields, counts_from, last_field, first_field, fields_of}
 use Rattle.wire_theory.specs.Shape.{Bytes}
 use Rattle.wire_theory.specs.Header.{header_of}
@@ -169,11 +170,13 @@ last_found bs cs ds s ops (field os (b ∷ us)) hc hd l e f g = never_pack bs s 
 
 eight_found : (bs cs ds : List ℕ) (s : Counts) (ops : List ℕ) (x : Bool) → Bytes bs → eqb (length cs) 8 ≡ x
     → bs ≡ field_of counts_tag cs ++ ds
-    → ◌≡◌ {A = Fields} (elim x [ true ↦ last_field cs (take_field operations_tag ds) | false ↦ no_pack ]) (fields s ops) → PackFound bs s ops
+    → ◌≡◌ {A = Fields} (elim x [ true ↦ last_field cs (take_field operations_tag ds) | false ↦ no_pack ]) (fields s ops)
+    → PackFound bs s ops
 eight_found bs cs ds s ops true h f e g =
     let hb : Bytes (field_of counts_tag cs ++ ds) = subst (λ (us : List ℕ). Bytes us) e h in
     let hc : Bytes (cs ++ ds) = hb.1.1.1 in
-    last_found bs cs ds s ops (take_field operations_tag ds) (below_front 256 cs ds hc) (below_rest 256 cs ds hc) (eqb-true (length cs) 8 f) e
+    last_found bs cs ds s ops (take_field operations_tag ds) (below_front 256 cs ds hc) (below_rest 256 cs ds hc) (eqb-true (length cs) 8 f)
+    e
     refl g
 eight_found bs cs ds s ops false h f e g = never_pack bs s ops g
 

@@ -38,7 +38,8 @@ parts_written s ops g l h =
     let os = field_of operations_tag ops in
     let bytes = (cs ++ os) ++ later_bytes g in
     ap (after_counts bytes)
-    (ap (take_field counts_tag) (append_assoc cs os (later_bytes g)) ∙ take_field_lem counts_tag (counts_of s) (os ++ later_bytes g) (omega arith))
+    (ap (take_field counts_tag) (append_assoc cs os (later_bytes g))
+    ∙ take_field_lem counts_tag (counts_of s) (os ++ later_bytes g) (omega arith))
     ∙ ap (after_operations bytes) (take_field_lem operations_tag ops (later_bytes g) l)
     ∙ ap (λ (two : List ℕ). later_part two (later_bytes g)) (front_part (cs ++ os) (later_bytes g)) ∙ later_written (cs ++ os) g h
 

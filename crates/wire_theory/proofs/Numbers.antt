@@ -95,7 +95,8 @@ bits_of_value a (x ∷ xs) h =
     ap₂ (λ (y : ℕ) (ys : List ℕ). y ∷ ys) b (bits_of_value (2 * a + x) xs h.1)
 
 -- a part of some bits is a part of their number: n bits after the first r, with q after them
-pub value_part : (xs : List ℕ) (r n q : ℕ) → Bits xs → length xs ≡ r + n + q → value_of 0 (take n (drop r xs)) ≡ value_of 0 xs / 2 ^ q % 2 ^ n
+pub value_part : (xs : List ℕ) (r n q : ℕ) → Bits xs → length xs ≡ r + n + q
+    → value_of 0 (take n (drop r xs)) ≡ value_of 0 xs / 2 ^ q % 2 ^ n
 value_part xs r n q h l =
     let ps = take r xs in
     let ms = take n (drop r xs) in

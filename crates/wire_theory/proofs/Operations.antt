@@ -8,7 +8,8 @@ use lib.ListN.{length, length-append}
 use Rattle.rules.specs.declared.Operation.{Operation}
 use Rattle.rules.specs.declared.Operation.TheVariants.{New, Forward, Backward, Border, Split, Close, Union, Start}
 use Rattle.rules.specs.Bits.{bits, Number, broken_off, number, read_number}
-use Rattle.rules.specs.Code.{place_bits, loop_bits, code, index_bits, operation_bits, operations_bits, breaks_off, read, read_split, read_place}
+use Rattle.rules.specs.Code.{place_bits, loop_bits, code, index_bits, operation_bits, operations_bits, breaks_off, read, read_split}
+use Rattle.rules.specs.Code.{read_place}
 use Rattle.rules.specs.Code.{read_union, kinds, kind_in, read_indices, read_code, read_operation}
 use Rattle.wire_theory.specs.Shape.{Fits, width_of}
 use Rattle.wire_theory.proofs.Lists.{Bits, below_append, below_rest}
@@ -158,7 +159,8 @@ kind_from (suc (suc (suc (suc (suc (suc zero)))))) o xs zs ys h l e f = union_fr
 kind_from (suc (suc (suc (suc (suc (suc (suc zero))))))) o xs zs ys h l e f = plain_from Start o xs zs ys 7 refl tt refl e f
 kind_from (suc (suc (suc (suc (suc (suc (suc (suc c)))))))) o xs zs ys h l e f = absurd (omega arith)
 
-code_from : (o : Operation) (xs ys : List ℕ) (n : Number) → Bits xs → read_number 3 0 xs ≡ n → read_code n ≡ read o ys → OperationRead o xs ys
+code_from : (o : Operation) (xs ys : List ℕ) (n : Number) → Bits xs → read_number 3 0 xs ≡ n → read_code n ≡ read o ys
+    → OperationRead o xs ys
 code_from o xs ys broken_off h e f = never_read o xs ys f
 code_from o xs ys (number c zs) h e f =
     let r : NumberRead 3 c xs zs = read_inverse 3 c xs zs h e in

@@ -62,7 +62,8 @@ module _ (bs : List ℕ) (at : ℕ) where
       sym (ap (λ (t : Bool). t && all_zero (drop at (bits_of_bytes bs))) f)
 
   -- a part of the last byte is left
-  pub rest_part : length bs ≡ at / 8 + 1 → 0 < at % 8 → eqb (get_or bs (at / 8) 0 % 2 ^ (8 - at % 8)) 0 ≡ rest_fits (drop at (bits_of_bytes bs))
+  pub rest_part : length bs ≡ at / 8 + 1 → 0 < at % 8
+      → eqb (get_or bs (at / 8) 0 % 2 ^ (8 - at % 8)) 0 ≡ rest_fits (drop at (bits_of_bytes bs))
   unfolding bits_of_bytes
   rest_part h p =
       let k = at / 8 in

@@ -71,7 +71,8 @@ window_value bs at n h w l =
     let d : take n (drop at (bits_of_bytes bs)) ≡ take n (drop r (three a b c)) =
     ap (take n) (drop_bits at bs) ∙ in_three cs r n w (omega (arith, length-drop k bs)) in
     let v : value_of 0 (three a b c) ≡ 65536 * get_or bs k 0 + 256 * get_or bs (k + 1) 0 + get_or bs (k + 2) 0 =
-    three_value a b c (below_get_d 256 cs 0 (omega arith) hc) (below_get_d 256 cs 1 (omega arith) hc) (below_get_d 256 cs 2 (omega arith) hc)
+    three_value a b c (below_get_d 256 cs 0 (omega arith) hc) (below_get_d 256 cs 1 (omega arith) hc)
+    (below_get_d 256 cs 2 (omega arith) hc)
     ∙ omega arith in
     ap (value_of 0) d ∙ value_part (three a b c) r n (24 - r - n) (three_are a b c) (length_three a b c ∙ omega arith)
     ∙ ap (λ (x : ℕ). x / 2 ^ (24 - r - n) % 2 ^ n) v

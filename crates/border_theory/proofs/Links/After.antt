@@ -66,8 +66,11 @@ fits (Union n j) vs u a ps ws =
     let h = and_left b _ t in
     let l = leb-true 1 n (and_left (leb 1 n) _ h) in
     let k = leb-true n (length (named_loops vs ws)) (and_right (leb 1 n) _ h) in
-    let i = ltb-true j (length (loop_at (named_loops vs ws) (n - 1))) (and_right b _ t) in
-    (omega (arith, l, k, named_lives vs ws), omega (arith, i, ap length (named_loop_at vs ws (n - 1)), named_length vs (loop_at ws (n - 1)))))
+    let i = ltb-true j (length (loop_at (named_loops vs ws) (n - 1))) (and_right b _ t) in (
+      omega (arith, l, k, named_lives vs ws),
+      omega
+          (arith, i, ap length (named_loop_at vs ws (n - 1)), named_length vs (loop_at ws (n - 1))),
+    ))
 fits Start vs u a ps ws = tt
 
 -- an operation that takes a place has two new edges

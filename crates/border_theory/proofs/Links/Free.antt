@@ -50,7 +50,13 @@ total : (n : ℕ) (ls : List Ring) → sum_below n (λ x. placed x ls) ≤ place
 unfolding loops_sum ring_sum places
 total n [] = omega (arith, nothing n)
 total n (l ∷ ls) =
-    omega (arith, sum_add n (λ x. path_sum (λ p q o. same x p) l (start_or 0 l)) (λ x. placed x ls), path_total n l (start_or 0 l), total n ls)
+    omega (
+      arith,
+      sum_add n (λ x. path_sum (λ p q o. same x p) l (start_or 0 l)) (λ x. placed x ls),
+      path_total n l (start_or 0 l),
+      total n
+          ls,
+    )
 
 -- if every place below n were in a loop, the loops would have n places
 full : (n : ℕ) (g : ℕ → ℕ) → ((x : ℕ) → x < n → 1 ≤ g x) → n ≤ sum_below n g
@@ -76,7 +82,8 @@ look (suc k) ls = go (eqb (placed k ls) 0) refl (look k ls)
         last x l true e = let z : x ≡ k = eqb-true x k e in rw z h
         last x l false e = a x (omega (arith, eqb-false x k e))
 
-    go : (t : Bool) → eqb (placed k ls) 0 ≡ t → Look k ls (free_below k ls) → Look (suc k) ls (elim t [ true ↦ k | false ↦ free_below k ls ])
+    go : (t : Bool) → eqb (placed k ls) 0 ≡ t → Look k ls (free_below k ls)
+        → Look (suc k) ls (elim t [ true ↦ k | false ↦ free_below k ls ])
     go true e more = found (omega arith) (eqb-true (placed k ls) 0 e)
     go false e more = wider more (omega (arith, eqb-false (placed k ls) 0 e))
 

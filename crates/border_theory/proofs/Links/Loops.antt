@@ -149,7 +149,8 @@ module _ (vs : List ℕ) (u q e : ℕ) (ps : List Node) (ws : List Ring) where
   unfolding vertices_after places_after at_edge
   has_close = allowed_has _ _ _ (λ t. refl)
 
-  pub has_border : HasLoops (named_loops vs (after_border e ps ws)) (at_edge Border u (get_or vs e 0) (named_ring vs ps) (named_loops vs ws))
+  pub has_border : HasLoops (named_loops vs (after_border e ps ws))
+      (at_edge Border u (get_or vs e 0) (named_ring vs ps) (named_loops vs ws))
   unfolding at_edge
   has_border =
       let r = shown (onward [] (ps ++ (marked e ∷ []))) in

@@ -8,7 +8,8 @@ use mathlib.Core.Path.{◌≡◌, refl, sym, ap, ap₂, ◌∙◌}
 use lib.ListN.{length, take, drop, get_or, set}
 use lib.Seq.{get_or-set_other}
 use Rattle.rules.specs.Count.{same}
-use Rattle.rules.specs.Ring.{Node, opened, marked, Ring, vertex, is_open, first_open, all_open, start_or, vertex_at, last_open, last_vertex, front}
+use Rattle.rules.specs.Ring.{Node, opened, marked, Ring, vertex, is_open, first_open, all_open, start_or, vertex_at, last_open, last_vertex}
+use Rattle.rules.specs.Ring.{front}
 use Rattle.rules.specs.Ring.{onward, reached, shown, loop_at, without}
 use Rattle.rules.specs.Table.{in_order}
 use Rattle.book.specs.Sums.{path_sum, ring_sum, loops_sum}

@@ -9,7 +9,8 @@ use lib.ListN.{length, take, drop, take-append-drop}
 use Rattle.rules.specs.declared.Operation.{Operation}
 use Rattle.rules.specs.declared.Operation.TheVariants.{New, Forward, Backward, Border, Split, Close, Union, Start}
 use Rattle.rules.specs.Count.{same}
-use Rattle.rules.specs.Ring.{Node, opened, marked, Ring, vertex, is_open, start_or, vertex_at, last_open, last_vertex, front, onward, loop_at}
+use Rattle.rules.specs.Ring.{Node, opened, marked, Ring, vertex, is_open, start_or, vertex_at, last_open, last_vertex, front, onward}
+use Rattle.rules.specs.Ring.{loop_at}
 use Rattle.rules.specs.Ring.{without}
 use Rattle.book.specs.Sums.{Weight, path_sum, ring_sum, loops_sum, placed}
 use Rattle.book.proofs.Sums.{start_append, sum_append, sum_turn, front_last, start_drop, sum_without, turned}

@@ -9,7 +9,8 @@ use lib.ListN.{length, take, drop, get_or, set}
 use lib.Dec.{eqb}
 use Rattle.rules.specs.declared.Operation.{Operation}
 use Rattle.rules.specs.declared.Operation.TheVariants.{New, Forward, Backward, Border, Split, Close, Union, Start}
-use Rattle.rules.specs.Ring.{Node, opened, marked, Ring, is_open, start_or, vertex_at, last_open, last_vertex, front, onward, shown, loop_at}
+use Rattle.rules.specs.Ring.{Node, opened, marked, Ring, is_open, start_or, vertex_at, last_open, last_vertex, front, onward, shown}
+use Rattle.rules.specs.Ring.{loop_at}
 use Rattle.rules.specs.Ring.{without}
 use Rattle.rules.specs.Table.{Effect, not_allowed, builds, marks, shorter_first}
 use Rattle.rules.specs.Places.{alive}

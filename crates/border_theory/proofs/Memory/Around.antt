@@ -35,7 +35,8 @@ module _ (n : ℕ) (m : List ℕ) where
   start_in (p ∷ ps) b = omega (arith, same_yes (vertex p))
 
   -- the place after a place of a run is of the run, or the one that it leads to
-  run_after : (ps : List Node) (b : ℕ) → Trail n m ps b → (x : ℕ) → 1 ≤ in_run x ps b → 1 ≤ same (after_of m x) b + in_run (after_of m x) ps b
+  run_after : (ps : List Node) (b : ℕ) → Trail n m ps b → (x : ℕ) → 1 ≤ in_run x ps b
+      → 1 ≤ same (after_of m x) b + in_run (after_of m x) ps b
   unfolding path_sum
   run_after [] b t x h = absurd (omega (arith, h))
   run_after (p ∷ ps) b t x h =
@@ -59,12 +60,14 @@ module _ (n : ℕ) (m : List ℕ) where
       subst (λ (x : ℕ). 1 ≤ same x (vertex p) + (same x (vertex q) + in_run x ps b)) (sym e) (omega (arith, same_yes (vertex p))))
       (λ s. omega (arith, run_before q ps b t.1 y s))
 
-  ring_after : (l : Ring) → Trail n m l (start_or 0 l) → (x : ℕ) → 1 ≤ in_run x l (start_or 0 l) → 1 ≤ in_run (after_of m x) l (start_or 0 l)
+  ring_after : (l : Ring) → Trail n m l (start_or 0 l) → (x : ℕ) → 1 ≤ in_run x l (start_or 0 l)
+      → 1 ≤ in_run (after_of m x) l (start_or 0 l)
   unfolding path_sum
   ring_after [] t x h = absurd (omega (arith, h))
   ring_after (p ∷ ps) t x h = omega (arith, run_after (p ∷ ps) (vertex p) t x h)
 
-  ring_before : (l : Ring) → Trail n m l (start_or 0 l) → (x : ℕ) → 1 ≤ in_run x l (start_or 0 l) → 1 ≤ in_run (before_of m x) l (start_or 0 l)
+  ring_before : (l : Ring) → Trail n m l (start_or 0 l) → (x : ℕ) → 1 ≤ in_run x l (start_or 0 l)
+      → 1 ≤ in_run (before_of m x) l (start_or 0 l)
   unfolding path_sum
   ring_before [] t x h = absurd (omega (arith, h))
   ring_before (p ∷ ps) t x h = run_before p ps (vertex p) t x h

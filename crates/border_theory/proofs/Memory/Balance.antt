@@ -16,7 +16,8 @@ use Rattle.cutborder.specs.declared.Loops.{Loops}
 use Rattle.border_theory.specs.Memory.Layout.{at, before_of, after_of, open_of, edges_stored, stacked}
 use Rattle.border_theory.specs.Memory.Stands.{StandsAt}
 use Rattle.border_theory.specs.Memory.Moves.{Held, top_free, new_held, forward_held, backward_held, ended_by, ended_held, turned_by}
-use Rattle.border_theory.specs.Memory.Moves.{turned_held, cut_by, next_cut, last_cut, marked_held, doubled, split_by, split_held, union_held}
+use Rattle.border_theory.specs.Memory.Moves.{turned_held, cut_by, next_cut, last_cut, marked_held, doubled, split_by, split_held}
+use Rattle.border_theory.specs.Memory.Moves.{union_held}
 use Rattle.border_theory.specs.Memory.Moves.{start_held}
 use Rattle.border_theory.specs.Memory.Decision.{held_by}
 use Rattle.border_theory.specs.Memory.Performs.{Performs}

@@ -17,7 +17,8 @@ use Rattle.cutborder.specs.declared.Plan.{Plan}
 use Rattle.cutborder.specs.declared.Decided.TheVariants.{Builds}
 use Rattle.border_theory.specs.Memory.Layout.{at, before_of, after_of, open_of, edges_stored}
 use Rattle.border_theory.specs.Memory.Stands.{rings_in}
-use Rattle.border_theory.specs.Memory.Moves.{ended_by, ended_held, turned_by, turned_held, cut_by, next_cut, last_cut, both_cut, marked_held}
+use Rattle.border_theory.specs.Memory.Moves.{ended_by, ended_held, turned_by, turned_held, cut_by, next_cut, last_cut, both_cut}
+use Rattle.border_theory.specs.Memory.Moves.{marked_held}
 use Rattle.border_theory.specs.Memory.Moves.{new_held, forward_held, backward_held, split_by, split_held, doubled, top_free, union_held}
 use Rattle.border_theory.specs.Memory.Moves.{start_held}
 use Rattle.border_theory.specs.Memory.Decision.{plan_at, new_plan, forward_plan, backward_plan, border_plan, split_plan, close_plan}

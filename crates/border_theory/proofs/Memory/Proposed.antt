@@ -22,7 +22,8 @@ use Rattle.cutborder.specs.declared.Decided.TheVariants.{Builds}
 use Rattle.border_theory.specs.Memory.Layout.{at, vertex_of, before_of, after_of, vertices_of, walked}
 use Rattle.border_theory.specs.Memory.Stands.{StandsAt}
 use Rattle.border_theory.specs.Memory.Moves.{split_held, union_held, top_free}
-use Rattle.border_theory.specs.Memory.Decision.{is_open_at, plan_at, beside_next, beside_last, split_plan, close_plan, union_plan, start_plan}
+use Rattle.border_theory.specs.Memory.Decision.{is_open_at, plan_at, beside_next, beside_last, split_plan, close_plan, union_plan}
+use Rattle.border_theory.specs.Memory.Decision.{start_plan}
 use Rattle.border_theory.specs.Memory.Decision.{proposed_by, proposed, held_after}
 use Rattle.border_theory.proofs.Memory.Standing.{Trail, trails, trail_at, walk_trail, near_trail}
 use Rattle.border_theory.proofs.Memory.Room.{room}
@@ -160,7 +161,8 @@ module _ (n : ℕ) (s : Front) (m : List ℕ) (e : ℕ) (ps : List Node) (ws : L
     place = walked m j (at m (5 * n + 2 * lower))
 
     tests : Bool
-    tests = leb 1 p && leb p (length (named_loops (vertices_of n m) ws)) && ltb j (length (loop_at (named_loops (vertices_of n m) ws) (p - 1)))
+    tests = leb 1 p && leb p (length (named_loops (vertices_of n m) ws))
+        && ltb j (length (loop_at (named_loops (vertices_of n m) ws) (p - 1)))
 
     there : leb 1 p && leb p (length (named_loops (vertices_of n m) ws)) ≡ true → lower + (p - 1) + 1 ≡ length ws
     unfolding lower

@@ -13,7 +13,8 @@ use Rattle.rules.specs.declared.Operation.{Operation}
 use Rattle.rules.specs.declared.Operation.TheVariants.{New, Forward, Backward, Border}
 use Rattle.rules.specs.Triangle.{tri, Edge, edge}
 use Rattle.rules.specs.Count.{num}
-use Rattle.rules.specs.Ring.{Node, opened, marked, Ring, is_open, first_open, all_open, start_or, vertex_at, last_open, last_vertex, onward, shown}
+use Rattle.rules.specs.Ring.{Node, opened, marked, Ring, is_open, first_open, all_open, start_or, vertex_at, last_open, last_vertex, onward}
+use Rattle.rules.specs.Ring.{shown}
 use Rattle.rules.specs.Ring.{places}
 use Rattle.rules.specs.Table.{Side, glued, fresh, Effect, not_allowed, builds, marks, allowed, marking, at_edge}
 use Rattle.rules.specs.Machine.{fresh_sides}
@@ -30,7 +31,8 @@ use Rattle.cutborder.specs.declared.Decided.TheVariants.{Refused, Builds, Marks}
 use Rattle.border_theory.specs.Memory.Layout.{at, vertex_of, before_of, after_of, open_of, vertices_of, walked}
 use Rattle.border_theory.specs.Memory.Stands.{StandsAt}
 use Rattle.border_theory.specs.Memory.Moves.{Held, marked_held, top_free}
-use Rattle.border_theory.specs.Memory.Decision.{is_open_at, is_three, allowed_if, plan_at, new_plan, forward_plan, backward_plan, border_plan}
+use Rattle.border_theory.specs.Memory.Decision.{is_open_at, is_three, allowed_if, plan_at, new_plan, forward_plan, backward_plan}
+use Rattle.border_theory.specs.Memory.Decision.{border_plan}
 use Rattle.border_theory.specs.Memory.Decision.{held_after}
 use Rattle.border_theory.proofs.Memory.Columns.{column_at}
 use Rattle.border_theory.proofs.Memory.Standing.{Trail, trails, walk_trail, near_trail, last_trail, start_trail}
@@ -105,7 +107,8 @@ three_tests true true c d = refl
 three_tests true false c d = refl
 three_tests false b c d = refl
 
-pub four_tests : (a b c e : Bool) (d : Decided) → allowed_if a (allowed_if b (allowed_if c (allowed_if e d))) ≡ allowed_if (a && b && c && e) d
+pub four_tests : (a b c e : Bool) (d : Decided)
+    → allowed_if a (allowed_if b (allowed_if c (allowed_if e d))) ≡ allowed_if (a && b && c && e) d
 unfolding allowed_if
 four_tests true true true e d = refl
 four_tests true true false e d = refl
@@ -128,7 +131,8 @@ two_open n m b (f ∷ (g ∷ [])) t h =
     (ap (is_open_at m) t.0.fore ∙ ap (λ (x : ℕ). eqb x 1) t.1.0.mark ∙ one_open (is_open g)) ∙ both_open f g
 
 -- the first mark of a run
-first_mark : (n : ℕ) (m : List ℕ) (b : ℕ) (ps : List Node) → Trail n m ps b → 1 ≤ length ps → open_of m (start_or b ps) ≡ num (first_open ps)
+first_mark : (n : ℕ) (m : List ℕ) (b : ℕ) (ps : List Node) → Trail n m ps b → 1 ≤ length ps
+    → open_of m (start_or b ps) ≡ num (first_open ps)
 first_mark n m b [] t h = absurd (omega arith)
 first_mark n m b (p ∷ ps) t h = t.0.mark
 
@@ -231,7 +235,8 @@ module _ (n : ℕ) (s : Front) (m : List ℕ) (e : ℕ) (ps : List Node) (ws : L
   three_same =
       let x : ℕ = after_of m s.loops.current in
       and_assoc (eqb s.loops.size 3) (is_open_at m x) (is_open_at m (after_of m x))
-      ∙ and_cong (eqb s.loops.size 3) (is_open_at m x && is_open_at m (after_of m x)) (eqb (suc (length (named_ring (vertices_of n m) ps))) 3)
+      ∙ and_cong (eqb s.loops.size 3) (is_open_at m x && is_open_at m (after_of m x))
+      (eqb (suc (length (named_ring (vertices_of n m) ps))) 3)
       (all_open (named_ring (vertices_of n m) ps)) (ap (λ (k : ℕ). eqb k 3) size_is) three_open
 
   three : leb 3 (suc (length (named_ring (vertices_of n m) ps))) ≡ true → 2 ≤ length ps

@@ -102,7 +102,8 @@ module _ (o : Operation) (n : ℕ) (s : Loops) (m : List ℕ) (u q e : ℕ) (ps 
       record {
         holds = subst (λ (M : Memory). Holds M (places_after o q e ps ws)) (sym el) d.holds;
         current = current_places (vertices_of n m₁) (places_after o q e ps ws)
-            (current_has u (named_loops (vertices_of n m) ((opened e ∷ ps) ∷ ws)) (named_loops (vertices_of n m₁) (places_after o q e ps ws))
+            (current_has u (named_loops (vertices_of n m) ((opened e ∷ ps) ∷ ws))
+            (named_loops (vertices_of n m₁) (places_after o q e ps ws))
             (effect_at o u n m e ps ws) has law goes);
         loops = has;
       }

@@ -56,7 +56,8 @@ module _ (n : ℕ) (s : Loops) (m : List ℕ) (u e : ℕ) (ps : List Node) (ws :
   unfolding places_after loops_sum ring_sum path_sum
   placed_forward q x h = omega (arith, first_out (same x) e ps h)
 
-  placed_backward : (q x : ℕ) → last_open ps ≡ true → placed x (places_after Backward q e ps ws) + same x e ≡ placed x ((opened e ∷ ps) ∷ ws)
+  placed_backward : (q x : ℕ) → last_open ps ≡ true
+      → placed x (places_after Backward q e ps ws) + same x e ≡ placed x ((opened e ∷ ps) ∷ ws)
   unfolding places_after loops_sum ring_sum path_sum
   placed_backward q x k =
       let l : ℕ = last_vertex ps in

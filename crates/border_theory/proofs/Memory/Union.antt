@@ -114,7 +114,8 @@ module _ (n : ℕ) (s : Loops) (m : List ℕ) (u e : ℕ) (ps : List Node) (ws :
         let h : (x : ℕ) → x < 4 * n → at memory₂ x ≡ at memory₁ x = λ x y. down.before x (omega (arith, y)) in
         relinked (Union p j) n s m u doubles e ps ws st goes tt (λ t. free n s m e ps ws st some) memory₂
         (same_links n memory₁ memory₂ h ∙ doubled_links n s m e ps ws st some (last_vertex spliced) meet (last_open spliced) hop₂ near₂)
-        (same_vertices n memory₁ memory₂ h ∙ doubled_vertices n s m e ps ws st some (last_vertex spliced) meet (last_open spliced) hop₂ near₂)
+        (same_vertices n memory₁ memory₂ h
+        ∙ doubled_vertices n s m e ps ws st some (last_vertex spliced) meet (last_open spliced) hop₂ near₂)
 
     whole : List Node
     whole = opened doubles ∷ (ps ++ (opened e ∷ spliced))
@@ -175,7 +176,8 @@ module _ (n : ℕ) (s : Loops) (m : List ℕ) (u e : ℕ) (ps : List Node) (ws :
       sound = linked.current;
     }
 
-    pub moved_union : Moved n s m (union_held n s m p (vertex_at (loop_at ws (p - 1)) j)) (places_after (Union p j) (top_free n s m) e ps ws)
+    pub moved_union : Moved n s m (union_held n s m p (vertex_at (loop_at ws (p - 1)) j))
+        (places_after (Union p j) (top_free n s m) e ps ws)
         (effect_at (Union p j) u n m e ps ws)
     unfolding union_held memory₂ memory₁ lower meet joined doubles q
     moved_union = record {

@@ -16,7 +16,8 @@ use Rattle.cutborder.specs.declared.Loops.{Loops}
 use Rattle.border_theory.specs.Memory.Layout.{at, vertex_of, before_of, after_of, open_of, edge_stored, edges_stored, freed, released}
 use Rattle.border_theory.specs.Memory.Layout.{waits, moved_down}
 use Rattle.border_theory.specs.Memory.Moves.{Held, top_free, new_held, forward_held, backward_held, ended_by, ended_held, turned_by}
-use Rattle.border_theory.specs.Memory.Moves.{turned_held, cut_by, next_cut, last_cut, marked_held, doubled, split_by, split_held, union_held}
+use Rattle.border_theory.specs.Memory.Moves.{turned_held, cut_by, next_cut, last_cut, marked_held, doubled, split_by, split_held}
+use Rattle.border_theory.specs.Memory.Moves.{union_held}
 use Rattle.border_theory.specs.Memory.Moves.{start_held}
 use Rattle.border_theory.specs.Memory.Decision.{held_by}
 use Rattle.border_theory.specs.Memory.Touched.{taken_by, NoneOf, VerticesAt}
@@ -183,7 +184,8 @@ module _ (n : ℕ) (s : Loops) (m : List ℕ) (u : ℕ) where
       (name n T m₂ z (u + 2) (λ i d. d.1.1.0)))
       (edges n T _ m₃)
 
-pub names : (n : ℕ) (s : Loops) (m : List ℕ) (u : ℕ) (o : Operation) (c : ℕ) → VerticesAt n (taken_by n s m o) m (held_by n s m u o c).memory
+pub names : (n : ℕ) (s : Loops) (m : List ℕ) (u : ℕ) (o : Operation) (c : ℕ)
+    → VerticesAt n (taken_by n s m o) m (held_by n s m u o c).memory
 names n s m u New c = new n s m u
 names n s m u Forward c = forward n [] s m
 names n s m u Backward c = backward n [] s m

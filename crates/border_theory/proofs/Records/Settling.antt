@@ -55,7 +55,8 @@ keeps m i p =
     let a = get_or-set_other m (4 * i + 3) (4 * p + 2) x 0 (λ z. omega (arith, z)) in
     ap (λ (n : ℕ). place n (get_or (settled_at m i) (4 * p + 1) 0) (get_or (settled_at m i) (4 * p + 2) 0)
     (is_one (get_or (settled_at m i) (4 * p + 3) 0))) v
-    ∙ ap (λ (n : ℕ). place (get_or m (4 * p) 0) n (get_or (settled_at m i) (4 * p + 2) 0) (is_one (get_or (settled_at m i) (4 * p + 3) 0))) b
+    ∙ ap (λ (n : ℕ). place (get_or m (4 * p) 0) n (get_or (settled_at m i) (4 * p + 2) 0) (is_one (get_or (settled_at m i) (4 * p + 3) 0)))
+    b
     ∙ ap (λ (n : ℕ). place (get_or m (4 * p) 0) (get_or m (4 * p + 1) 0) n (is_one (get_or (settled_at m i) (4 * p + 3) 0))) a
     ∙ ap (place (get_or m (4 * p) 0) (get_or m (4 * p + 1) 0) (get_or m (4 * p + 2) 0)) (go (eqb p i) refl)
   where

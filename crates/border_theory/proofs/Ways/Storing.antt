@@ -105,7 +105,8 @@ module _ (n : ℕ) (l : Loops) (m : List ℕ) where
 
   -- the places that leave at a border
   pub next_leaves : (f o : ℕ) (r : Loops) (m₁ : List ℕ) → f ≡ after_of m l.current → o ≡ open_of m f → o ≡ 0
-      → (r ≡ (forward_held n l m).loops) × (m₁ ≡ (forward_held n l m).memory) → (r ≡ (next_cut n l m).loops) × (m₁ ≡ (next_cut n l m).memory)
+      → (r ≡ (forward_held n l m).loops) × (m₁ ≡ (forward_held n l m).memory)
+      → (r ≡ (next_cut n l m).loops) × (m₁ ≡ (next_cut n l m).memory)
   unfolding next_cut
   next_leaves f o r m₁ ef eo z h = let t : open_of m (after_of m l.current) ≡ 0 = ap (open_of m) (sym ef) ∙ sym eo ∙ z in rw t h
 
@@ -116,7 +117,8 @@ module _ (n : ℕ) (l : Loops) (m : List ℕ) where
       let t : eqb (open_of m (after_of m l.current)) 0 ≡ false = ne_eqb _ 0 (λ y. z (eo ∙ ap (open_of m) ef ∙ y)) in rw t (refl, refl)
 
   pub last_leaves : (c o : ℕ) (r : Loops) (m₁ : List ℕ) → c ≡ before_of m l.current → o ≡ open_of m c → o ≡ 0
-      → (r ≡ (backward_held n l m).loops) × (m₁ ≡ (backward_held n l m).memory) → (r ≡ (last_cut n l m).loops) × (m₁ ≡ (last_cut n l m).memory)
+      → (r ≡ (backward_held n l m).loops) × (m₁ ≡ (backward_held n l m).memory)
+      → (r ≡ (last_cut n l m).loops) × (m₁ ≡ (last_cut n l m).memory)
   unfolding last_cut
   last_leaves c o r m₁ ec eo z h = let t : open_of m (before_of m l.current) ≡ 0 = ap (open_of m) (sym ec) ∙ sym eo ∙ z in rw t h
 
@@ -135,7 +137,8 @@ module _ (n : ℕ) (l : Loops) (m : List ℕ) where
   border_last a b m₁ m₂ h e f = let x = e.0 in let y = e.1 in let z = f.0 in let w = f.1 in rw (z, w, x, y) h.last
 
   pub border_done : (a b r : Loops) (m₁ m₂ m₃ : List ℕ) → (a ≡ (next_cut n l m).loops) × (m₁ ≡ (next_cut n l m).memory)
-      → (b ≡ (last_cut n a m₁).loops) × (m₂ ≡ (last_cut n a m₁).memory) → (r ≡ (turned_held n b m₂).loops) × (m₃ ≡ (turned_held n b m₂).memory)
+      → (b ≡ (last_cut n a m₁).loops) × (m₂ ≡ (last_cut n a m₁).memory)
+      → (r ≡ (turned_held n b m₂).loops) × (m₃ ≡ (turned_held n b m₂).memory)
       → (r ≡ (marked_held n l m).loops) × (m₃ ≡ (marked_held n l m).memory)
   unfolding marked_held
   border_done a b r m₁ m₂ m₃ e f g =

@@ -55,7 +55,8 @@ forward_plan l m =
 unfoldable pub backward_plan : Loops → List ℕ → Decided
 backward_plan l m =
     let c = before_of m l.current in
-    allowed_if (leb 3 l.size) (allowed_if (is_open_at m c) (allowed_if (not (is_three l m)) (Builds (plan_at l m (vertex_of m c) 0 1 0 0 0))))
+    allowed_if (leb 3 l.size)
+    (allowed_if (is_open_at m c) (allowed_if (not (is_three l m)) (Builds (plan_at l m (vertex_of m c) 0 1 0 0 0))))
 
 unfoldable pub border_plan : Loops → List ℕ → Decided
 border_plan l m = Marks (vertex_of m l.current) (vertex_of m (after_of m l.current))

@@ -167,5 +167,6 @@ module _ (v a b : ℕ) (ls ls' : List Ring) (ts ts' : List Triangle) (d : Differ
 
 pub chain_grows : (v a b : ℕ) (va ab bv : Side) (ls ls' : List Ring) (ts ts' : List Triangle) → Different v a b
     → Gains v a b va ab bv ls ls'
-    → about v ts' ≡ edge a b ∷ about v ts → OneChain v ls ts → (fresh_sides va + fresh_sides bv ≤ 1) ⊎ Unnumbered v ls ts → OneChain v ls' ts'
+    → about v ts' ≡ edge a b ∷ about v ts → OneChain v ls ts → (fresh_sides va + fresh_sides bv ≤ 1) ⊎ Unnumbered v ls ts
+    → OneChain v ls' ts'
 chain_grows v a b va ab bv ls ls' ts ts' d g e c n = one_chain v a b ls ls' ts ts' d e va bv (at_corner v a b va ab bv ls ls' d g) c n

@@ -27,7 +27,8 @@ use Rattle.choice_theory.proofs.OneFan.Steps.{fanned_empty, fanned_more, fanned_
 
 -- no edge leads from a vertex to itself: each triangle has three vertices
 proper_different : (ts : List Triangle) → ((x : ℕ) → uses x x ts ≡ 0) → all_distinct ts ≡ true
-proper_different ts p = (all_distinct_lem ts).1 (λ x y z i. record { x_y = apart i; y_z = apart (in_next i); z_x = apart (in_next (in_next i)) })
+proper_different ts p = (all_distinct_lem ts).1
+    (λ x y z i. record { x_y = apart i; y_z = apart (in_next i); z_x = apart (in_next (in_next i)) })
   where
     apart : {x y z : ℕ} → In x y z ts → x ≡ y → ⊥
     apart {x} {y} {z} i e = omega (arith, p x, subst (λ (w : ℕ). 1 ≤ uses x w ts) (sym e) (in_uses i))

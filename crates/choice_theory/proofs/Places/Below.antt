@@ -67,6 +67,8 @@ module _ (e f : Node) (ps : List Node) (ws ls : List Ring) (c u : ℕ) where
           all_append u before behind r.0 r.1.1,
         ),
       )
+  below_step Rattle.rules.specs.declared.Operation.TheVariants.Border x3 n a = elim x3 [ ]
+  below_step Rattle.rules.specs.declared.Operation.TheVariants.Start x4 n a = elim x4 [ ]
 
 with_below : (u : ℕ) (r : List Node) (ws : List Ring) → NodesBelow u r → LoopsBelow u ws → LoopsBelow u (with_ring r ws)
 with_below u [] ws h k = k

@@ -374,3 +374,5 @@ fore_step Q e f ps ws ls c (Union w j) (on_union before us p vs behind sh n i k 
     (start_or (start_or (vertex p) us) vs)) k
     (subst (λ (z : List Ring). Given Q e f ps z c (end_or (end_or (vertex p) vs) us) (start_or (start_or (vertex p) us) vs)) sh
     (r, le, he, hf, h.0, h.1))))))
+fore_step Q e f ps ws ls c Border s r le he hf hn hc = elim s [ ]
+fore_step Q e f ps ws ls c Start s r le he hf hn hc = elim s [ ]

@@ -69,6 +69,7 @@ edged first (p ∷ ps) (suc i) x y h =
       next = r.next;
       live = r.live;
     }
+edged first [] i x y h = elim h [ ]
 
 more_before : (w : List Node) {ls : List Ring} {l i c x y : ℕ} → Spotted ls l i c x y → Spotted (w ∷ ls) (suc l) i c x y
 more_before w s =
@@ -109,6 +110,7 @@ place_leaving (w ∷ ws) zero i c y h =
       },
     )
 place_leaving (w ∷ ws) (suc l) i c y h = let r = place_leaving ws l i c y h in (r.0, more_before w r.1)
+place_leaving [] l i c y h = elim h [ ]
 
 -- the place that an open edge enters
 pub record Entered (ls : List Ring) (l c x : ℕ) : Type 0 where
@@ -184,3 +186,4 @@ place_entered (w ∷ ws) zero i x c h =
     (ap (λ (v : ℕ). start_or v r.vs) (sym (ap (start_or 0) r.whole ∙ first_append 0 r.us r.p r.vs)) ∙ r.next) r.live
 place_entered (w ∷ ws) (suc l) i x c h =
     let r = place_entered ws l i x c h in record { at = r.at; y = r.y; place = more_before w r.place }
+place_entered [] l i x c h = elim h [ ]

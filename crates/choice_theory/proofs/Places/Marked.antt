@@ -59,7 +59,8 @@ module _ (x y : ℕ) where
   all_append [] vs = omega arith
   all_append (u ∷ us) vs = let h = all_append us vs in omega arith
 
-  all_shorter : (a b : List Node) (ws : List Ring) → all_mark x y (fewer_first a b ws) ≡ ring_mark x y a + (ring_mark x y b + all_mark x y ws)
+  all_shorter : (a b : List Node) (ws : List Ring)
+      → all_mark x y (fewer_first a b ws) ≡ ring_mark x y a + (ring_mark x y b + all_mark x y ws)
   unfolding in_order
   all_shorter a b ws = go (fewer a b)
     where
@@ -100,6 +101,8 @@ module _ (x y : ℕ) where
       let u = all_append before behind in
       let t = all_append before ((us ++ (p ∷ vs)) ∷ behind) in
       rw (l, sh) (omega arith)
+  mark_step e f ps ws ls c Rattle.rules.specs.declared.Operation.TheVariants.Border v x3 = elim x3 [ ]
+  mark_step e f ps ws ls c Rattle.rules.specs.declared.Operation.TheVariants.Start v x4 = elim x4 [ ]
 
   mark_turned : (ps r : List Node) → Turned ps r → ring_mark x y r ≡ ring_mark x y ps
   mark_turned ps r t = ap (ring_mark x y) t.turned ∙ (mark_swap (opened t.v ∷ t.vs) t.us ∙ ap (ring_mark x y) (sym t.whole))

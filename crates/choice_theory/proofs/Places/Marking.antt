@@ -78,6 +78,8 @@ module _ (M : List Triangle) where
         ),
         all_marks_append before behind m'.0 m'.1.1,
       )
+  marks_step e f ps ws ls c Rattle.rules.specs.declared.Operation.TheVariants.Border x'' m = elim x'' [ ]
+  marks_step e f ps ws ls c Rattle.rules.specs.declared.Operation.TheVariants.Start x3 m = elim x3 [ ]
 
   -- marking the current edge, which has no other side
   pub marks_border : (e f : Node) (ps : List Node) → Unused (vertex f) (vertex e) M → RingMarks M (e ∷ (f ∷ ps))

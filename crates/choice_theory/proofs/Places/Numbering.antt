@@ -213,7 +213,8 @@ index_start p q r vs ws us e hp hq hr d =
     let h2 = has_not q p vs hq (λ g. d.0 (sym g)) in
     let h3 = has_not r q (vs ++ (p ∷ [])) (has_not r p vs hr d.2) (λ g. d.1 (sym g)) in
     let i2 : index_of q ws ≡ length (vs ++ (p ∷ [])) = ap (index_of q) e2 ∙ index_next q (vs ++ (p ∷ [])) (r ∷ us) h2 in
-    let i3 : index_of r ws ≡ length ((vs ++ (p ∷ [])) ++ (q ∷ [])) = ap (index_of r) e3 ∙ index_next r ((vs ++ (p ∷ [])) ++ (q ∷ [])) us h3 in
+    let i3 : index_of r ws ≡ length ((vs ++ (p ∷ [])) ++ (q ∷ [])) =
+    ap (index_of r) e3 ∙ index_next r ((vs ++ (p ∷ [])) ++ (q ∷ [])) us h3 in
     (ap (index_of p) e1 ∙ index_next p vs (q ∷ (r ∷ us)) hp, omega arith, omega arith)
 
 pub has_last : (x v : ℕ) (vs : List ℕ) → x ≡ v → has x (vs ++ (v ∷ [])) ≡ true

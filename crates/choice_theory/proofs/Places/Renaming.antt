@@ -158,6 +158,8 @@ module _ (name : ℕ → ℕ) where
       (rings_append before behind)
       ∙ ap₂ (λ (x y : Node). (x ∷ (node f ∷ (nodes ps ++ (y ∷ (node p ∷ (nodes vs ++ nodes us)))))) ∷ (rings before ++ rings behind))
       (opened_node p) (opened_node e)))
+  surgery_named e f ps ws ls c Rattle.rules.specs.declared.Operation.TheVariants.Border x' = elim x' [ ]
+  surgery_named e f ps ws ls c Rattle.rules.specs.declared.Operation.TheVariants.Start x'' = elim x'' [ ]
 
   onward_named : (back ps : List Node) → nodes (onward back ps) ≡ onward (nodes back) (nodes ps)
   unfolding onward

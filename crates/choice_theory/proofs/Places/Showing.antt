@@ -43,14 +43,17 @@ ring_full : (w : Ring) (ws : List Ring) (i x y : ℕ) → Live (w ∷ ws) → Ed
 unfolding reached
 ring_full (opened v ∷ ps) ws i x y g h = edge_full v (opened v ∷ ps) false i x y h
 ring_full (marked v ∷ ps) ws i x y g h = absurd (false≢true g.0)
+ring_full [] ws i x y g h = elim g [ ]
 
 live_rest : (w : Ring) (ws : List Ring) → Live (w ∷ ws) → Live ws
 live_rest (p ∷ ps) ws g = g.1
+live_rest [] ws g = elim g [ ]
 
 pub open_full : (ls : List Ring) → Live ls → (l i x y : ℕ) → OpenAt (shown_all ls) l i x y
     → (k : ℕ) × OpenAt ls l k x y × (i ≡ short_in ls l k)
 open_full (w ∷ ws) g zero i x y h = ring_full w ws i x y g h
 open_full (w ∷ ws) g (suc l) i x y h = open_full ws (live_rest w ws g) l i x y h
+open_full [] g l i x y h = elim h [ ]
 
 -- each open edge stands at one place of the rings shown
 pub unique_shown : (ls : List Ring) → Live ls → Unique ls → Unique (shown_all ls)

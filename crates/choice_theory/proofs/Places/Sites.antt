@@ -243,7 +243,8 @@ site_shown M before us p vs behind m g st =
     -- q stands before p, at place k of the ring shown if its edge is open
     enters : (fs : List Node) (q : Node) (ks : List Node) (k : ℕ) → l ≡ fs ++ (q ∷ ks) → start_or (start_or 0 l) ks ≡ c
         → end_or (end_or c vs) us ≡ vertex q
-        → (is_open q ≡ true → length (reached fs false) ≡ k) → Unused c (end_or (end_or c vs) us) M ⊎ OpenAt ls n k (end_or (end_or c vs) us) c
+        → (is_open q ≡ true → length (reached fs false) ≡ k)
+        → Unused c (end_or (end_or c vs) us) M ⊎ OpenAt ls n k (end_or (end_or c vs) us) c
     enters fs q ks k e w v i = up (status_shown M l fs q ks c e g w m)
       where
         up : Unused c (vertex q) M ⊎ ((is_open q ≡ true) × EdgeIn (start_or 0 (shown l)) (shown l) (length (reached fs false)) (vertex q) c)
@@ -391,7 +392,8 @@ pub name_backward : (e f q : Node) (qs : List Node) (p : Node) → is_open e ≡
     → operation_for (reached (f ∷ ((q ∷ qs) ++ (p ∷ []))) false) 0 (length (reached (e ∷ (f ∷ (q ∷ qs))) false)) ≡ Backward
 name_backward e f q qs p h g =
     ap₂ (λ (l : List Node) (i : ℕ). operation_for l 0 i) (shown_backward e f (q ∷ qs) p g) (seat_in_lem e f (q ∷ qs) h)
-    ∙ op_backward f (reached (q ∷ qs) (not (is_open f))) p g (λ k. reached_some (q ∷ qs) (is_open f) k (omega arith)) (not_backward f q qs p)
+    ∙ op_backward f (reached (q ∷ qs) (not (is_open f))) p g (λ k. reached_some (q ∷ qs) (is_open f) k (omega arith))
+    (not_backward f q qs p)
 
 pub name_split : (e f : Node) (us : List Node) (p : Node) (vs : List Node) → is_open e ≡ true → Stays (f ∷ us) p → 1 ≤ length us
     → 1 ≤ length vs
@@ -601,3 +603,5 @@ named M R e f ps ws ls c (Union w j) (on_union before us p vs behind sh n i k l)
           };
       names = ap₂ Union n i.0;
     }))
+named M R e f ps ws ls c Rattle.rules.specs.declared.Operation.TheVariants.Border x4 g m r = elim x4 [ ]
+named M R e f ps ws ls c Rattle.rules.specs.declared.Operation.TheVariants.Start x5 g m r = elim x5 [ ]

@@ -21,6 +21,7 @@ use Rattle.mesh_theory.proofs.Fans.Only.{hit_eq}
 edge_counts : (x y first : ℕ) (ps : List Node) (i : ℕ) → EdgeIn first ps i x y → 1 ≤ tally x y ps first
 edge_counts x y first (p ∷ ps) zero h = let k = hit_eq x y (vertex p) (start_or first ps) h.1 h.2 in omega arith
 edge_counts x y first (p ∷ ps) (suc i) h = let k = edge_counts x y first ps i h in omega arith
+edge_counts x y first [] i h = elim h [ ]
 
 edge_one : (x y first : ℕ) (ps : List Node) (i j : ℕ) → tally x y ps first ≤ 1 → EdgeIn first ps i x y → EdgeIn first ps j x y → i ≡ j
 edge_one x y first (p ∷ ps) zero zero n h k = refl
@@ -31,6 +32,7 @@ edge_one x y first (p ∷ ps) (suc i) zero n h k =
     let a = hit_eq x y (vertex p) (start_or first ps) k.1 k.2 in
     let b = edge_counts x y first ps i h in absurd (omega arith)
 edge_one x y first (p ∷ ps) (suc i) (suc j) n h k = ap suc (edge_one x y first ps i j (omega arith) h k)
+edge_one x y first [] i j n h k = elim h [ ]
 
 ring_first : (x y : ℕ) (w : List Node) → ring_tally x y w ≡ tally x y w (start_or 0 w)
 ring_first x y [] = refl
@@ -39,6 +41,7 @@ ring_first x y (p ∷ ps) = refl
 pub open_counts : (x y : ℕ) (ls : List Ring) (l i : ℕ) → OpenAt ls l i x y → 1 ≤ total x y ls
 open_counts x y (w ∷ ws) zero i h = let k = edge_counts x y (start_or 0 w) w i h in let r = ring_first x y w in omega arith
 open_counts x y (w ∷ ws) (suc l) i h = let k = open_counts x y ws l i h in omega arith
+open_counts x y [] l i h = elim h [ ]
 
 open_one : (x y : ℕ) (ls : List Ring) (l i m j : ℕ) → total x y ls ≤ 1 → OpenAt ls l i x y → OpenAt ls m j x y → (l ≡ m) × (i ≡ j)
 open_one x y (w ∷ ws) zero i zero j n h k =
@@ -49,6 +52,7 @@ open_one x y (w ∷ ws) (suc l) i zero j n h k =
     let a = edge_counts x y (start_or 0 w) w j k in let r = ring_first x y w in let b = open_counts x y ws l i h in absurd (omega arith)
 open_one x y (w ∷ ws) (suc l) i (suc m) j n h k =
     let r = open_one x y ws l i m j (omega arith) h k in (ap suc r.0, r.1)
+open_one x y [] l i m j n h k = elim h [ ]
 
 -- each open edge stands at one place
 pub unique_of : (ls : List Ring) → ((x y : ℕ) → total x y ls ≤ 1) → Unique ls

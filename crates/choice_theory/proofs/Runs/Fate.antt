@@ -3,7 +3,7 @@
 use Prim.Native.Nat.{ℕ, ◌+◌}
 use mathlib.Core.Bool.{Bool, true, false}
 use mathlib.Core.List.{List, [], ◌∷◌, ◌++◌}
-use mathlib.Core.Path.{refl, subst}
+use mathlib.Core.Path.{◌≡◌, refl, sym, subst}
 use Rattle.rules.specs.declared.Triangle.{Triangle}
 use Rattle.rules.specs.declared.Operation.{Operation}
 use Rattle.rules.specs.declared.Operation.TheVariants.{New, Forward, Backward, Split, Close, Union}
@@ -58,7 +58,23 @@ module _ (M R : List Triangle) (e f : Node) (p : Node) where
   at_c = turn (here (at_r refl refl refl)) rest
 
 more_rings : (M R : List Triangle) (t : Triangle) (ls : List Ring) → Everywhere (Filled M R) ls → Everywhere (Filled M (t ∷ R)) ls
-more_rings M R t ls r = rings_map (λ x v y h. turn_more t h) ls r
+more_rings M R t ls r = rings_map (λ x v y h. turn_more {M = M} {c = v} {ts = R} {x = x} {y = y} t h) ls r
+
+-- the triangle's corner and the places beyond f by their other names
+at_corner : (M R : List Triangle) (e f : Node) (ps qs : List Node) (ws : List Ring) (c d : ℕ) → ps ≡ qs → c ≡ d
+    → Everywhere (Filled M (triangle_at e f d ∷ R)) ((e ∷ (f ∷ qs)) ∷ ws)
+    → Everywhere (Filled M (triangle_at e f c ∷ R)) ((e ∷ (f ∷ ps)) ∷ ws)
+at_corner M R e f ps qs ws c d h k r =
+    subst (λ (x : ℕ). Everywhere (Filled M (triangle_at e f x ∷ R)) ((e ∷ (f ∷ ps)) ∷ ws)) (sym k)
+    (subst (λ (xs : List Node). Everywhere (Filled M (triangle_at e f d ∷ R)) ((e ∷ (f ∷ xs)) ∷ ws)) (sym h) r)
+
+-- and the loops that wait
+at_waiting : (M R : List Triangle) (e f : Node) (ps : List Node) (ws vs : List Ring) (c d : ℕ) → ws ≡ vs → c ≡ d
+    → Everywhere (Filled M (triangle_at e f d ∷ R)) ((e ∷ (f ∷ ps)) ∷ vs)
+    → Everywhere (Filled M (triangle_at e f c ∷ R)) ((e ∷ (f ∷ ps)) ∷ ws)
+at_waiting M R e f ps ws vs c d h k r =
+    subst (λ (x : ℕ). Everywhere (Filled M (triangle_at e f x ∷ R)) ((e ∷ (f ∷ ps)) ∷ ws)) (sym k)
+    (subst (λ (xs : List Ring). Everywhere (Filled M (triangle_at e f d ∷ R)) ((e ∷ (f ∷ ps)) ∷ xs)) (sym h) r)
 
 pub back_step : (M R : List Triangle) (e f : Node) (ps : List Node) (ws ls : List Ring) (c : ℕ) (o : Operation) → Surgery e f ps ws ls c o
     → Everywhere (Filled M R) ls → Everywhere (Filled M (triangle_at e f c ∷ R)) ((e ∷ (f ∷ ps)) ∷ ws)
@@ -70,28 +86,28 @@ back_step M R e f ps ws ls c New (on_new q) r =
     )
 back_step M R e f ps ws ls c Forward (on_forward p q qs sh k op l) r =
     let r' = subst (Everywhere (Filled M R)) l r in
-    rw (sh, k) (
+    at_corner M R e f _ _ ws _ _ sh k (
       back_forward _ _ (more M R e f p) (joined M R e f p) (none M R e f p) e f p (at_a M R e f p) (at_b M R e f p) (at_c M R e f p) q qs
           r'.0,
       more_rings M R (triangle_at e f (vertex p)) ws r'.1,
     )
 back_step M R e f ps ws ls c Backward (on_backward q qs p sh k op l) r =
     let r' = subst (Everywhere (Filled M R)) l r in
-    rw (sh, k) (
+    at_corner M R e f _ _ ws _ _ sh k (
       back_backward _ _ (more M R e f p) (joined M R e f p) (none M R e f p) e f p (at_a M R e f p) (at_b M R e f p) (at_c M R e f p)
           (q ∷ qs) r'.0,
       more_rings M R (triangle_at e f (vertex p)) ws r'.1,
     )
 back_step M R e f ps ws ls c Close (on_close p sh k op op' l) r =
     let r' = subst (Everywhere (Filled M R)) l r in
-    rw (sh, k) (
+    at_corner M R e f _ _ ws _ _ sh k (
       back_close _ _ (more M R e f p) (joined M R e f p) (none M R e f p) e f p (at_a M R e f p) (at_b M R e f p) (at_c M R e f p),
       more_rings M R (triangle_at e f (vertex p)) ws r',
     )
 back_step M R e f ps ws ls c (Split i) (on_split us p vs sh n lu lv k l) r =
     let r' = rings_shorter (Filled M R) (opened (vertex p) ∷ (f ∷ us)) (opened (vertex e) ∷ (p ∷ vs)) ws
     (subst (Everywhere (Filled M R)) l r) in
-    rw (sh, k) (
+    at_corner M R e f _ _ ws _ _ sh k (
       back_split _ _ (more M R e f p) (joined M R e f p) (none M R e f p) e f p (at_a M R e f p) (at_b M R e f p) (at_c M R e f p) us vs
           r'.0 r'.1,
       more_rings M R (triangle_at e f (vertex p)) ws r'.2,
@@ -102,5 +118,7 @@ back_step M R e f ps ws ls c (Union w j) (on_union before us p vs after sh n m k
     let b = rings_split (Filled M (t ∷ R)) before after (more_rings M R t (before ++ after) r'.1) in
     let h = back_union _ _ (more M R e f p) (joined M R e f p) (none M R e f p) e f p (at_a M R e f p) (at_b M R e f p) (at_c M R e f p) ps
     (vs ++ us) r'.0 in
-    rw (sh, k)
+    at_waiting M R e f ps _ _ _ _ sh k
     (h.0, rings_append (Filled M (t ∷ R)) before ((us ++ (p ∷ vs)) ∷ after) b.0 (ring_swap (Filled M (t ∷ R)) (p ∷ vs) us h.1, b.1))
+back_step M R e f ps ws ls c Rattle.rules.specs.declared.Operation.TheVariants.Border x'' r = elim x'' [ ]
+back_step M R e f ps ws ls c Rattle.rules.specs.declared.Operation.TheVariants.Start x3 r = elim x3 [ ]

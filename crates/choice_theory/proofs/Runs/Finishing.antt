@@ -29,6 +29,7 @@ module _ (name : ℕ → ℕ) (M : List Triangle) (tells : (x y : ℕ) → Met x
   name_in (t ∷ B) x y z (here (at_q a b c)) = here (at_q (ap name a) (ap name b) (ap name c))
   name_in (t ∷ B) x y z (here (at_r a b c)) = here (at_r (ap name a) (ap name b) (ap name c))
   name_in (t ∷ B) x y z (there i) = there (name_in B x y z i)
+  name_in [] x y z x3 = elim x3 [ ]
 
   once_named : (B : List Triangle) → ((x y z : ℕ) → In x y z B → In x y z M) → Once B → Once (triangles name B)
   once_named [] sub o = tt
@@ -72,6 +73,8 @@ module _ (name : ℕ → ℕ) (M : List Triangle) (tells : (x y : ℕ) → Met x
   consecutive_named : (x z : ℕ) (ns : List ℕ) → Pair x z ns → Pair (name x) (name z) (names ns)
   consecutive_named x z (m ∷ (n ∷ ns)) (inl e) = inl (ap name e.0, ap name e.1)
   consecutive_named x z (m ∷ (n ∷ ns)) (inr p) = inr (consecutive_named x z (n ∷ ns) p)
+  consecutive_named x z [] x'' = elim x'' [ ]
+  consecutive_named x z (m ∷ []) x5 = elim x5 [ ]
 
   fan_named : (c : ℕ) → Met c M → Neighbours M c → Neighbours (triangles name M) (name c)
   fan_named c m f = record {

@@ -97,7 +97,8 @@ module _ (s : Packing) (B R : List Triangle) (rims ws ls : List Ring) (e f : Nod
 
   allows_now : (k : Operation) → Surgery e f ps ws ls c k
       → at_edge k c (vertex e) (f ∷ reached ps (not (is_open f))) (shown_all ws) ≡ built k e f (shown_all ls) c
-  allows_now k d = ap (λ (r : List Node). at_edge k c (vertex e) r (shown_all ws)) (sym (reached_first f ps)) ∙ allows k e f ps ws ls c live d
+  allows_now k d = ap (λ (r : List Node). at_edge k c (vertex e) r (shown_all ws)) (sym (reached_first f ps))
+      ∙ allows k e f ps ws ls c live d
 
   builds_next : ((o ≡ New) × ((m n : ℕ) → In c m n B → ⊥))
       ⊎ ((choose_place (vertex e) (vertex f) c R (shown_all ((e ∷ (f ∷ ps)) ∷ ws)) ≡ o) × ((m : ℕ) × (n : ℕ) × In c m n B))

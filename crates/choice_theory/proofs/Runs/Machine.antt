@@ -200,7 +200,8 @@ module _ (M mesh : List Triangle) (once : Once mesh) (all : (x y z : ℕ) → In
         canonical_run run l' o' (marks_step M e f ps ws ls c op s m),
       )
     where
-      told : (op ≡ New) ⊎ ((choose_place (vertex e) (vertex f) c R (shown_all ((e ∷ (f ∷ ps)) ∷ ws)) ≡ op) × ((j : ℕ) × (n : ℕ) × In c j n B))
+      told : (op ≡ New) ⊎ ((choose_place (vertex e) (vertex f) c R (shown_all ((e ∷ (f ∷ ps)) ∷ ws)) ≡ op)
+          × ((j : ℕ) × (n : ℕ) × In c j n B))
           → ((op ≡ New) × ((j n : ℕ) → In c j n B → ⊥))
           ⊎ ((choose_place (vertex e) (vertex f) c R (shown_all ((e ∷ (f ∷ ps)) ∷ ws)) ≡ op) × ((j : ℕ) × (n : ℕ) × In c j n B))
       told (inl h) = inl (h, new h)

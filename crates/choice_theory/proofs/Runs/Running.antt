@@ -47,7 +47,8 @@ holds_declared m m' o d xs ys (completed k zs) e h r =
     record { operations = o ∷ r.operations; works = w_declared h r.works; reads = one_read e r.reads; whole = r.whole }
 
 -- the branches of one turn
-after_step : (n : ℕ) (m : Machine) (xs : List ℕ) (o : Operation) (ys : List ℕ) (s : Step) → read_operation xs ≡ read o ys → operation m o ≡ s
+after_step : (n : ℕ) (m : Machine) (xs : List ℕ) (o : Operation) (ys : List ℕ) (s : Step) → read_operation xs ≡ read o ys
+    → operation m o ≡ s
     → ((k : Machine) → Holds k ys (run_all n k ys))
     → Holds m xs (elim s [
       | refused k ↦ stopped k

@@ -28,8 +28,8 @@ abbrev pub shown_loops : List Ring → ℕ
 shown_loops ls = length (shown_all ls)
 
 -- the peak of something that the loops have, from a on
-abbrev pub peak : (List Ring → ℕ) → ℕ → {M B : List Triangle} {rims ls : List Ring} {os : List Operation} {R : List Triangle}
-    → Run M B rims ls os R → ℕ
+abbrev pub peak : {M : List Triangle} → (List Ring → ℕ) → ℕ
+    → {B : List Triangle} {rims ls : List Ring} {os : List Operation} {R : List Triangle} → Run M B rims ls os R → ℕ
 peak w a r_done = a
 peak w a (r_start {p = p} {q = q} {r = r} np nq nr d run) = peak w (max a (w (first_ring p q r))) run
 peak w a (r_build {ls = ls} v s ra rb d new run) = peak w (max a (w ls)) run
@@ -65,8 +65,8 @@ same_numbers (Union n j) c vs h = refl
 same_numbers Start c vs h = refl
 
 -- and at the end of the run
-abbrev pub numbering : List ℕ → {M B : List Triangle} {rims ls : List Ring} {os : List Operation} {R : List Triangle} → Run M B rims ls os R
-    → List ℕ
+abbrev pub numbering : {M : List Triangle} → List ℕ → {B : List Triangle} {rims ls : List Ring} {os : List Operation} {R : List Triangle}
+    → Run M B rims ls os R → List ℕ
 numbering vs r_done = vs
 numbering vs (r_start {p = p} {q = q} {r = r} np nq nr d run) = numbering (vs ++ (p ∷ (q ∷ (r ∷ [])))) run
 numbering vs (r_build {c = c} {o = o} v s ra rb d new run) = numbering (numbered_after o c vs) run
@@ -78,8 +78,8 @@ up_to zero = []
 up_to (suc n) = up_to n ++ (n ∷ [])
 
 -- a name for each vertex agrees with the numbers: each vertex gets the next one
-abbrev pub Agrees : (ℕ → ℕ) → List ℕ → {M B : List Triangle} {rims ls : List Ring} {os : List Operation} {R : List Triangle}
-    → Run M B rims ls os R → Type 0
+abbrev pub Agrees : {M : List Triangle} → (ℕ → ℕ) → List ℕ
+    → {B : List Triangle} {rims ls : List Ring} {os : List Operation} {R : List Triangle} → Run M B rims ls os R → Type 0
 Agrees name vs r_done = Unit {0}
 Agrees name vs (r_start {p = p} {q = q} {r = r} np nq nr d run) =
     ((name p ≡ length vs) × (name q ≡ suc (length vs)) × (name r ≡ suc (suc (length vs)))) × Agrees name (vs ++ (p ∷ (q ∷ (r ∷ [])))) run
@@ -129,7 +129,7 @@ abbrev pub Runs : Packing → List Ring → Packing → List Triangle → List T
 Runs s ls last M B rims os = RunsAt last M B rims os ls (length s.left) s.most_places s.most_loops s.numbered
 
 -- a peak is not below any value of the run
-peak_more : (w : List Ring → ℕ) (a : ℕ) {M B : List Triangle} {rims ls : List Ring} {os : List Operation} {R : List Triangle}
+peak_more : {M B : List Triangle} (w : List Ring → ℕ) (a : ℕ) {rims ls : List Ring} {os : List Operation} {R : List Triangle}
     (run : Run M B rims ls os R) → a ≤ peak w a run
 peak_more w a r_done = omega arith
 peak_more w a (r_start {p = p} {q = q} {r = r} np nq nr d run) = let h = peak_more w (max a (w (first_ring p q r))) run in omega arith
@@ -137,7 +137,7 @@ peak_more w a (r_build {ls = ls} v s ra rb d new run) = let h = peak_more w (max
 peak_more w a (r_border {ws = ws} {e = e} {f = f} {ps = ps} v run) = let h =
     peak_more w (max a (w (with_ring (after_border e f ps) ws))) run in omega arith
 
-pub peak_within : (w : List Ring → ℕ) (a k : ℕ) {M B : List Triangle} {rims ls : List Ring} {os : List Operation} {R : List Triangle}
+pub peak_within : {M B : List Triangle} (w : List Ring → ℕ) (a k : ℕ) {rims ls : List Ring} {os : List Operation} {R : List Triangle}
     (run : Run M B rims ls os R)
     → peak w a run ≤ k → Within w k run
 peak_within w a k r_done h = tt

@@ -65,6 +65,8 @@ count_after Backward vs (on_backward q qs p sh k op l) = omega arith
 count_after Close vs (on_close p sh k op op' l) = omega arith
 count_after (Split i) vs (on_split us p ws sh m lu lv k l) = omega arith
 count_after (Union w j) vs (on_union before us p ws behind sh m i k l) = omega arith
+count_after {e = e} {f = f} {ps = ps} {ws = ws} {ls = ls} {c = c} Border vs x' = elim x' [ ]
+count_after {e = e} {f = f} {ps = ps} {ws = ws} {ls = ls} {c = c} Start vs x'' = elim x'' [ ]
 
 module _ (name : ℕ → ℕ) (M : List Triangle) (tells : (x y : ℕ) → Met x M → name x ≡ name y → x ≡ y) where
   -- a triangle under other names
@@ -74,6 +76,7 @@ module _ (name : ℕ → ℕ) (M : List Triangle) (tells : (x y : ℕ) → Met x
   in_named (t ∷ B) x y z (here (at_q a b c)) = (t.q, t.r, t.p, here (at_q refl refl refl), a, b, c)
   in_named (t ∷ B) x y z (here (at_r a b c)) = (t.r, t.p, t.q, here (at_r refl refl refl), a, b, c)
   in_named (t ∷ B) x y z (there i) = let r = in_named B x y z i in (r.0, r.1, r.2, there r.3, r.4, r.5, r.6)
+  in_named [] x y z x3 = elim x3 [ ]
 
   -- an unused edge stays unused
   pub unused_named : (B : List Triangle) → ((x y z : ℕ) → In x y z B → In x y z M) → (x y : ℕ) → Unused x y B
@@ -108,7 +111,8 @@ module _ (name : ℕ → ℕ) (M : List Triangle) (tells : (x y : ℕ) → Met x
 
   abbrev machine_by : Machine → Node → Node → ℕ → Operation → List Ring → Machine
   machine_by m e f c o ls =
-      after_build m (building_of (shown_all (rings name ls)) (built_by e f c) glued (side_of (glues_a o)) (side_of (glues_b o)) (new_numbers o) 0
+      after_build m (building_of (shown_all (rings name ls)) (built_by e f c) glued (side_of (glues_a o)) (side_of (glues_b o))
+      (new_numbers o) 0
       (unions_of o))
 
   -- an operation that builds

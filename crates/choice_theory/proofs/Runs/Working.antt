@@ -64,6 +64,8 @@ numbers_after u Backward (on_backward q qs p sh k op l) n = same_up u
 numbers_after u Close (on_close p sh k op op' l) n = same_up u
 numbers_after u (Split i) (on_split us p vs sh m lu lv k l) n = same_up u
 numbers_after u (Union w j) (on_union before us p vs behind sh m i k l) n = same_up u
+numbers_after {e = e} {f = f} {ps = ps} {ws = ws} {ls = ls} {c = c} u Border x'' n = elim x'' [ ]
+numbers_after {e = e} {f = f} {ps = ps} {ws = ws} {ls = ls} {c = c} u Start x3 n = elim x3 [ ]
 
 -- The machine has the loops shown of full rings, in which no place has left and every marked edge is one of the model. Every ring has
 -- its current edge open and three places or more; all vertices have numbers below the next unused one.

@@ -60,6 +60,7 @@ total_border x y e f ps ws rims (p ∷ r) h =
 closed_none : (first x y : ℕ) (ps : List Node) (i : ℕ) → Closed ps → EdgeIn first ps i x y → ⊥
 closed_none first x y (p ∷ ps) zero c h = false≢true (sym c.0 ∙ h.0)
 closed_none first x y (p ∷ ps) (suc i) c h = closed_none first x y ps i c.1 h
+closed_none first x y [] i c h = elim h [ ]
 
 rings_with : (Q : ℕ → ℕ → ℕ → Type 0) (r : List Node) (ws : List Ring) → Around Q r → Everywhere Q ws → Everywhere Q (with_ring r ws)
 rings_with Q [] ws h k = k

@@ -17,7 +17,8 @@ use Rattle.rules.specs.Triangle.{Edge, edge, Rot, at_p, at_q, at_r, In, here}
 use Rattle.rules.specs.Across.{across}
 use Rattle.rules.specs.Ring.{Node, opened, marked, Ring, vertex, is_open, first_open, all_open, last_open, reached}
 use Rattle.rules.specs.Table.{marks, at_edge}
-use Rattle.rules.specs.Choice.{Packing, has, drop_triangle, turn_in, turn_out, Spot, nowhere, spot, spot_of, operation_for, size_of, following}
+use Rattle.rules.specs.Choice.{Packing, has, drop_triangle, turn_in, turn_out, Spot, nowhere, spot, spot_of, operation_for, size_of}
+use Rattle.rules.specs.Choice.{following}
 use Rattle.rules.specs.Choice.{choose_place, packing_after, limited, taking, choose_at, choose_in, choose, after_current}
 use Rattle.rules.specs.Pack.{index_of}
 use Rattle.mesh_theory.specs.Fans.Corner.{Once}
@@ -88,7 +89,7 @@ pub choose_old : (s : Packing) (e f : Node) (ps : List Node) (ws ls : List Ring)
     → choose_place (vertex e) (vertex f) c ts ((e ∷ (f ∷ ps)) ∷ ws) ≡ o → at_edge o c (vertex e) (f ∷ ps) ws ≡ built o e f ls c
     → choose s ≡ limited o (packing_after s ts s.numbered ls)
 unfolding choose_in choose_at taking
-choose_old s e f ps ws ls ts o c n k l h d u q b = rw (l, choose_in, choose_at, h, u, d, q, b) refl
+choose_old s e f ps ws ls ts o c n k l h d u q b = rw (l, choose_in, choose_at, h, u, d, l, q, b) refl
 
 pub choose_start : (s : Packing) (t : Triangle) (ts : List Triangle) → s.loops ≡ [] → s.left ≡ t ∷ ts
     → choose s
@@ -116,7 +117,8 @@ next_build s e f ps ws c n k l h = rw (l, next_built, h) refl
 
 -- the place that is chosen never gives the operation new
 no_new_for : (ps : List Node) (l i : ℕ) → new_numbers (operation_for ps l i) ≡ 0
-no_new_for ps zero i = go (eqb (suc (length ps)) 3 && all_open ps) (eqb i 2 && first_open ps) (eqb (i + 1) (suc (length ps)) && last_open ps)
+no_new_for ps zero i = go (eqb (suc (length ps)) 3 && all_open ps) (eqb i 2 && first_open ps)
+    (eqb (i + 1) (suc (length ps)) && last_open ps)
   where
     go : (u v w : Bool) → new_numbers
         (elim u [ true ↦ Close | false ↦ elim v [ true ↦ Forward | false ↦ elim w [ true ↦ Backward | false ↦ Split (i - 1) ] ] ]) ≡ 0

@@ -12,7 +12,8 @@ use borrow.Author.Tests.{lt-ltb, le-leb, eqb-true}
 use Rattle.rules.specs.declared.Operation.{Operation}
 use Rattle.rules.specs.declared.Operation.TheVariants.{New, Forward, Backward, Border, Split, Close, Union}
 use Rattle.rules.specs.Triangle.{edge}
-use Rattle.rules.specs.Ring.{Node, opened, marked, Ring, vertex, is_open, all_open, start_or, vertex_at, last_open, last_vertex, front, loop_at}
+use Rattle.rules.specs.Ring.{Node, opened, marked, Ring, vertex, is_open, all_open, start_or, vertex_at, last_open, last_vertex, front}
+use Rattle.rules.specs.Ring.{loop_at}
 use Rattle.rules.specs.Ring.{without, reached, shown}
 use Rattle.rules.specs.Table.{glued, fresh, Effect, builds, marks, allowed, in_order, shorter_first, marking, at_edge}
 use Rattle.book.specs.Shown.{shown_all}
@@ -86,7 +87,8 @@ module _ (u : ℕ) (e f : Node) (ws : List Ring) where
   on_f p qs h g =
       let k = suc (length (f ∷ (p ∷ qs))) in
       allowed_true _ (builds (building_of ((opened (vertex e) ∷ (p ∷ qs)) ∷ ws) (triangle_at e f (vertex p)) glued fresh glued 0 0 0))
-      (and_both (leb 3 k && is_open f) (not (eqb k 3 && all_open (f ∷ (p ∷ qs)))) (and_both (leb 3 k) (is_open f) (le-leb 3 k (omega arith)) h)
+      (and_both (leb 3 k && is_open f) (not (eqb k 3 && all_open (f ∷ (p ∷ qs))))
+      (and_both (leb 3 k) (is_open f) (le-leb 3 k (omega arith)) h)
       (not_both (eqb k 3) (all_open (f ∷ (p ∷ qs))) g))
 
   on_b : (qs : List Node) (p : Node) → is_open p ≡ true
@@ -98,7 +100,8 @@ module _ (u : ℕ) (e f : Node) (ws : List Ring) where
       let l = (f ∷ qs) ++ (p ∷ []) in
       let k = suc (length l) in
       let n : length l ≡ length (f ∷ qs) + 1 = length-append (f ∷ qs) (p ∷ []) in
-      allowed_true _ (builds (building_of ((opened (last_vertex l) ∷ front l) ∷ ws) (triangle_at e f (last_vertex l)) glued glued fresh 0 0 0))
+      allowed_true _ (builds (building_of ((opened (last_vertex l) ∷ front l) ∷ ws) (triangle_at e f (last_vertex l)) glued glued fresh 0 0
+      0))
       (and_both (leb 3 k && last_open l) (not (eqb k 3 && all_open l))
       (and_both (leb 3 k) (last_open l) (le-leb 3 k (omega arith)) (last_open_lem (f ∷ qs) p ∙ h))
       (not_both (eqb k 3) (all_open l) g))
@@ -114,7 +117,8 @@ module _ (u : ℕ) (e f : Node) (ws : List Ring) where
 
   on_s : (us : List Node) (p : Node) (vs : List Node) → (is_open f ≡ true → 1 ≤ length us) → (is_open p ≡ true → 1 ≤ length vs)
       → at_edge (Split (suc (length us))) u (vertex e) (f ∷ (us ++ (p ∷ vs))) ws
-      ≡ builds (building_of (shorter_first (opened (vertex p) ∷ (f ∷ us)) (opened (vertex e) ∷ (p ∷ vs)) ws) (triangle_at e f (vertex p)) glued
+      ≡ builds (building_of (shorter_first (opened (vertex p) ∷ (f ∷ us)) (opened (vertex e) ∷ (p ∷ vs)) ws) (triangle_at e f (vertex p))
+      glued
       fresh fresh 0 0 0)
   unfolding at_edge vertex_at
   on_s us p vs lu lv =
@@ -165,7 +169,8 @@ module _ (u : ℕ) (e f : Node) (ws : List Ring) where
 
 -- the effect of an operation that builds
 abbrev pub built : Operation → Node → Node → List Ring → ℕ → Effect
-built o e f ls c = builds (building_of ls (triangle_at e f c) glued (side_of (glues_a o)) (side_of (glues_b o)) (new_numbers o) 0 (unions_of o))
+built o e f ls c = builds
+    (building_of ls (triangle_at e f c) glued (side_of (glues_a o)) (side_of (glues_b o)) (new_numbers o) 0 (unions_of o))
 
 moved : (o : Operation) (e f : Node) {ls ls' : List Ring} {c c' : ℕ} → ls ≡ ls' → c ≡ c' → built o e f ls' c' ≡ built o e f ls c
 moved o e f h k = ap₂ (built o e f) (sym h) (sym k)
@@ -292,6 +297,8 @@ allows_any (Union w j) u e f ps ws ls c g (on_union before us p vs behind sh m i
     ∙ moved (Union w j) e f
     (ap shown_all l ∙ ap₂ (λ (r : List Node) (rs : List Ring). (opened (vertex p) ∷ r) ∷ rs) (shown_union e f ps us p vs behind g')
     (all_shown_append before behind)) k))
+allows_any Border u e f ps ws ls c g x3 n = elim x3 [ ]
+allows_any Rattle.rules.specs.declared.Operation.TheVariants.Start u e f ps ws ls c g x4 n = elim x4 [ ]
 
 -- with the third corner itself as that number
 pub allows : (o : Operation) (e f : Node) (ps : List Node) (ws ls : List Ring) (c : ℕ) → Live ws → Surgery e f ps ws ls c o

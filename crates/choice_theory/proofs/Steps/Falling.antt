@@ -49,6 +49,8 @@ build_opens e f ps ws ls c (Union w j) (on_union before us p vs behind sh n i k 
     let u = all_append before behind in
     let t = all_append before ((us ++ (p ∷ vs)) ∷ behind) in
     rw (l, sh) (omega arith)
+build_opens e f ps ws ls c Rattle.rules.specs.declared.Operation.TheVariants.Border x' = elim x' [ ]
+build_opens e f ps ws ls c Rattle.rules.specs.declared.Operation.TheVariants.Start x'' = elim x'' [ ]
 
 -- border makes one less
 border_by : (e f : Node) (ps : List Node) (ws : List Ring) → is_open e ≡ true → (r : List Node) → after_border e f ps ≡ r

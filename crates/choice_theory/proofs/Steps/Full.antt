@@ -63,3 +63,7 @@ surgery_full {e} {f} {ps} u (Union w j) (on_union before us p vs behind sh m i k
     (sym (without_cut before ring behind))
     ∙ ap (λ (x : ℕ). joined (loop_at all x) (full_index (loop_at all x) false j) (without all x)) pred
     ∙ ap (full_at (Union w j) u e (f ∷ ps)) (sym sh)
+surgery_full {e = e} {f = f} {ps = ps} {ws = ws} {ls = ls} {c = c} u Rattle.rules.specs.declared.Operation.TheVariants.Border x'' n =
+    elim x'' [ ]
+surgery_full {e = e} {f = f} {ps = ps} {ws = ws} {ls = ls} {c = c} u Rattle.rules.specs.declared.Operation.TheVariants.Start x3 n =
+    elim x3 [ ]

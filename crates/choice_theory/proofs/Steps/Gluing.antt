@@ -27,11 +27,11 @@ use Rattle.choice_theory.proofs.Runs.Canonical.{State}
 use Rattle.choice_theory.proofs.Steps.Choice.{Packs, no_step}
 
 -- a path into a vertex that nothing enters
-pub no_entry : {M : List Triangle} {c x y : ℕ} {R : List Triangle} → Unused y c R → (Unused y c M → ⊥) → Turn M c R x y → x ≡ y
+pub no_entry : {M : List Triangle} {c : ℕ} {R : List Triangle} {x y : ℕ} → Unused y c R → (Unused y c M → ⊥) → Turn M c R x y → x ≡ y
 no_entry f g rest = refl
-no_entry {M} {c} {x} {y} {R} f g (turn {z = z} i l) =
+no_entry {M = M} {c = c} {R = R} {x = x} {y = y} f g (turn {z = z} i l) =
     absurd (f x (subst (λ (v : ℕ). In v c x R) (no_entry f g l) (in_last i)))
-no_entry {M} {c} {x} {y} {R} f g (jump {w = w} h k l) = absurd (g (subst (λ (v : ℕ). Unused v c M) (no_entry f g l) k))
+no_entry {M = M} {c = c} {R = R} {x = x} {y = y} f g (jump {w = w} h k l) = absurd (g (subst (λ (v : ℕ). Unused v c M) (no_entry f g l) k))
 
 -- the first step of a path that cannot jump
 pub first_step : {M : List Triangle} {c x y : ℕ} {R : List Triangle} → (Unused c x M → ⊥) → Turn M c R x y
@@ -41,15 +41,15 @@ first_step g (turn {z = z} i l) = inr (z, i, l)
 first_step g (jump h k l) = absurd (g h)
 
 -- the last step of a path that cannot jump there
-pub last_step : {M : List Triangle} {c x y : ℕ} {R : List Triangle} → (Unused y c M → ⊥) → Turn M c R x y
+pub last_step : {M : List Triangle} {c : ℕ} {R : List Triangle} {x y : ℕ} → (Unused y c M → ⊥) → Turn M c R x y
     → (x ≡ y) ⊎ ((z : ℕ) × Turn M c R x z × In c z y R)
 last_step g rest = inl refl
-last_step {M} {c} {x} {y} {R} g (turn {z = z} i l) = go (last_step g l)
+last_step {M = M} {c = c} {R = R} {x = x} {y = y} g (turn {z = z} i l) = go (last_step g l)
   where
     go : (z ≡ y) ⊎ ((w : ℕ) × Turn M c R z w × In c w y R) → (x ≡ y) ⊎ ((w : ℕ) × Turn M c R x w × In c w y R)
     go (inl e) = inr (x, rest, subst (λ (v : ℕ). In c x v R) e i)
     go (inr r) = inr (r.0, turn i r.1, r.2)
-last_step {M} {c} {x} {y} {R} g (jump {w = z} h k l) = go (last_step g l)
+last_step {M = M} {c = c} {R = R} {x = x} {y = y} g (jump {w = z} h k l) = go (last_step g l)
   where
     go : (z ≡ y) ⊎ ((w : ℕ) × Turn M c R z w × In c w y R) → (x ≡ y) ⊎ ((w : ℕ) × Turn M c R x w × In c w y R)
     go (inl e) = absurd (g (subst (λ (v : ℕ). Unused v c M) e k))

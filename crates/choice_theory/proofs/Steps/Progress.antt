@@ -71,6 +71,8 @@ good_step e f ps ws ls c (Split i) (on_split us p vs sh n lu lv k l) g =
 good_step e f ps ws ls c (Union w j) (on_union before us p vs behind sh n i k l) g =
     let h = good_split before ((us ++ (p ∷ vs)) ∷ behind) (subst AllGood sh g.1) in
     rw l ((refl, omega (arith, length-append ps (opened (vertex e) ∷ (p ∷ (vs ++ us))))), good_append before behind h.0 h.1.1)
+good_step e f ps ws ls c Rattle.rules.specs.declared.Operation.TheVariants.Border x'' g = elim x'' [ ]
+good_step e f ps ws ls c Rattle.rules.specs.declared.Operation.TheVariants.Start x3 g = elim x3 [ ]
 
 -- a ring turned to its next open edge has that edge first, and as many places
 opens_first : (ps : List Node) (q : Node) (qs : List Node) → Turned ps (q ∷ qs) → (is_open q ≡ true) × (length (q ∷ qs) ≡ length ps)

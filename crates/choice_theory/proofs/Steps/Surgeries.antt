@@ -14,7 +14,8 @@ use Rattle.rules.specs.declared.Triangle.{Triangle}
 use Rattle.rules.specs.declared.Operation.{Operation}
 use Rattle.rules.specs.declared.Operation.TheVariants.{New, Forward, Backward, Border, Split, Close, Union, Start}
 use Rattle.rules.specs.Triangle.{tri}
-use Rattle.rules.specs.Ring.{Node, opened, marked, Ring, vertex, is_open, first_open, all_open, start_or, vertex_at, last_open, last_vertex, front}
+use Rattle.rules.specs.Ring.{Node, opened, marked, Ring, vertex, is_open, first_open, all_open, start_or, vertex_at, last_open, last_vertex}
+use Rattle.rules.specs.Ring.{front}
 use Rattle.rules.specs.Ring.{onward, reached, shown, loop_at, without}
 use Rattle.rules.specs.Table.{Side, glued, Effect, not_allowed, builds, marks, allowed, shorter_first, marking, at_edge}
 use Rattle.book.specs.Shown.{shown_all}
@@ -335,7 +336,8 @@ law_marking u e f ps ws (p ∷ r) x y = tt
 made : (o : Operation) (u : ℕ) (e f : Node) (ps : List Node) (ws ls : List Ring) (c : ℕ)
     → ((glues_a o ≡ false → end_or (vertex f) ps ≡ c → ⊥) → (glues_b o ≡ false → start_or (vertex e) ps ≡ c → ⊥) → Lifted e f ps ws ls c o)
     → (o ≡ New → c ≡ u)
-    → Builds o u e f ps ws ls (tri (start_or (vertex e) (reached (f ∷ ps) false)) (vertex e) c) glued (side_of (glues_a o)) (side_of (glues_b o))
+    → Builds o u e f ps ws ls (tri (start_or (vertex e) (reached (f ∷ ps) false)) (vertex e) c) glued (side_of (glues_a o))
+    (side_of (glues_b o))
     (new_numbers o) 0 (unions_of o)
 made o u e f ps ws ls c s n = record {
   surgery = s;

@@ -61,3 +61,5 @@ module _ (x y : ℕ) where
       let u = total_append before behind in
       let v = total_append before ((us ++ (p ∷ vs)) ∷ behind) in
       rw (l, sh, k) (omega arith)
+  total_step e f ps ws ls c Rattle.rules.specs.declared.Operation.TheVariants.Border x'' = elim x'' [ ]
+  total_step e f ps ws ls c Rattle.rules.specs.declared.Operation.TheVariants.Start x3 = elim x3 [ ]

@@ -87,6 +87,7 @@ module _ (M R B : List Triangle) (c : ℕ) (part : (x y z : ℕ) → In x y z M 
 run_reach : (c : ℕ) (M : List Triangle) (m : ℕ) (ns : List ℕ) (x z : ℕ) → Linked c M (m ∷ ns) → Pair x z (m ∷ ns) → Links c M m x
 run_reach c M m (n ∷ ns) x z r (inl e) = subst (λ (v : ℕ). Links c M m v) e.0 stop
 run_reach c M m (n ∷ ns) x z r (inr p) = link r.0 (run_reach c M n ns x z r.1 p)
+run_reach c M m mathlib.Core.List.[] x z r x4 = elim x4 [ ]
 
 run_order : (c : ℕ) (M : List Triangle) (ns : List ℕ) (b a m n : ℕ) → Linked c M ns → Pair b a ns → Pair m n ns
     → Links c M a m ⊎ (Links c M n b ⊎ (b ≡ m))
@@ -96,6 +97,8 @@ run_order c M (k ∷ (l ∷ ns)) b a m n r (inl e) (inr q) =
 run_order c M (k ∷ (l ∷ ns)) b a m n r (inr p) (inl g) =
     inr (inl (subst (λ (v : ℕ). Links c M v b) g.1 (run_reach c M l ns b a r.1 p)))
 run_order c M (k ∷ (l ∷ ns)) b a m n r (inr p) (inr q) = run_order c M (l ∷ ns) b a m n r.1 p q
+run_order c M mathlib.Core.List.[] b a m n r x3 _ = elim x3 [ ]
+run_order c M (k ∷ mathlib.Core.List.[]) b a m n r x8 _ = elim x8 [ ]
 
 pub fan_order : (M : List Triangle) (c b a m n : ℕ) → Neighbours M c → In c b a M → In c m n M → Links c M a m ⊎ (Links c M n b ⊎ (b ≡ m))
 fan_order M c b a m n f i j = run_order c M f.fan b a m n f.run (f.whole b a i) (f.whole m n j)

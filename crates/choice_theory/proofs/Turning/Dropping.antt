@@ -35,3 +35,4 @@ drop_others x y z (t ∷ ts) (there i) o = go (in_triangle x y t) (told x y t) (
         → ◌≡◌ {A = List Triangle} (elim m [ Found n k w ↦ ts | Nothing ↦ t ∷ drop_triangle x y ts ]) (t ∷ others i)
     go (Found n k w) h g = absurd (free_rot ts o.0 (told_is x y n k w t h) z i)
     go Nothing h g = ap (λ (l : List Triangle). t ∷ l) g
+drop_others x y z mathlib.Core.List.[] i o = elim i [ ]

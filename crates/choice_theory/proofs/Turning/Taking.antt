@@ -21,18 +21,21 @@ unfolding others
 free_1 (t ∷ ts) (here r) o w j = free_rot ts o.0 r w j
 free_1 (t ∷ ts) (there i) o w (here r) = free_rot ts o.0 r _ i
 free_1 (t ∷ ts) (there i) o w (there j) = free_1 ts i o.2 w j
+free_1 {y = y} {z = z} mathlib.Core.List.[] i o w j = elim i [ ]
 
 free_2 : {x y z : ℕ} (ts : List Triangle) (i : In x y z ts) → Once ts → Unused y z (others i)
 unfolding others
 free_2 (t ∷ ts) (here r) o w j = free_rot ts o.0 (rot_next r) w j
 free_2 (t ∷ ts) (there i) o w (here r) = free_rot ts o.0 r _ (in_next i)
 free_2 (t ∷ ts) (there i) o w (there j) = free_2 ts i o.2 w j
+free_2 {y = y} {z = z} mathlib.Core.List.[] i o w j = elim i [ ]
 
 pub corners : {x y z : ℕ} (ts : List Triangle) → In x y z ts → Once ts → ((x ≡ y) → ⊥) × ((y ≡ z) → ⊥) × ((z ≡ x) → ⊥)
 corners (t ∷ ts) (here (at_p a b c)) o = (λ q. o.1.0 (a ∙ (q ∙ sym b)), λ q. o.1.1 (b ∙ (q ∙ sym c)), λ q. o.1.2 (c ∙ (q ∙ sym a)))
 corners (t ∷ ts) (here (at_q a b c)) o = (λ q. o.1.1 (a ∙ (q ∙ sym b)), λ q. o.1.2 (b ∙ (q ∙ sym c)), λ q. o.1.0 (c ∙ (q ∙ sym a)))
 corners (t ∷ ts) (here (at_r a b c)) o = (λ q. o.1.2 (a ∙ (q ∙ sym b)), λ q. o.1.0 (b ∙ (q ∙ sym c)), λ q. o.1.1 (c ∙ (q ∙ sym a)))
 corners (t ∷ ts) (there i) o = corners ts i o.2
+corners {y = y} {z = z} mathlib.Core.List.[] x3 o = elim x3 [ ]
 
 -- the triangle put before the others
 pub once_taken : {x y z : ℕ} (ts : List Triangle) (i : In x y z ts) → Once ts → Once (tri x y z ∷ others i)
@@ -81,7 +84,7 @@ keeps_take M R B ls rims x y z i k = record {
   apart = λ u v w n j l. k.apart u v w n (back i j) l;
   part = λ u v w j. parts u v w (k.part u v w j);
   marks = k.marks;
-  gaps = rings_map (λ u v w h. turn_map (λ m n j. out i j) h) ls k.gaps;
+  gaps = rings_map (λ u v w h. turn_map {M = M} {c = v} {x = u} {y = w} (λ m n j. out i j) h) ls k.gaps;
   legal = k.legal;
   waits = λ u v w n j l. k.waits u v w n j (back i l);
 }

@@ -112,11 +112,11 @@ pub data Backs (c : ℕ) (ts : List Triangle) : ℕ → ℕ → ℕ → Type 0 w
   b_stop : {x : ℕ} → Backs c ts zero x x
   b_link : {n x z y : ℕ} → In x c z ts → Backs c ts n z y → Backs c ts (suc n) x y
 
-backs_snoc : {c n x y z : ℕ} {ts : List Triangle} → Backs c ts n x y → In y c z ts → Backs c ts (suc n) x z
+backs_snoc : {c : ℕ} {ts : List Triangle} {n x y z : ℕ} → Backs c ts n x y → In y c z ts → Backs c ts (suc n) x z
 backs_snoc b_stop i = b_link i b_stop
 backs_snoc (b_link j b) i = b_link j (backs_snoc b i)
 
-pub steps_back : {c n x y : ℕ} {ts : List Triangle} → Steps c ts n x y → Backs c ts n y x
+pub steps_back : {c : ℕ} {ts : List Triangle} {n x y : ℕ} → Steps c ts n x y → Backs c ts n y x
 steps_back s_stop = b_stop
 steps_back (s_link i s) = backs_snoc (steps_back s) (in_last i)
 
@@ -145,12 +145,14 @@ others_once (t ∷ ts) (there i) o = (
   others_once ts i
       o.2,
 )
+others_once {y = y} {z = z} [] i o = elim i [ ]
 
 pub others_free : {x y z : ℕ} (ts : List Triangle) (i : In x y z ts) → Once ts → Unused z x (others i)
 unfolding others
 others_free (t ∷ ts) (here r) o w j = free_rot ts o.0 (rot_next (rot_next r)) w j
 others_free (t ∷ ts) (there i) o w (here r) = free_rot ts o.0 r _ (in_last i)
 others_free (t ∷ ts) (there i) o w (there j) = others_free ts i o.2 w j
+others_free {y = y} {z = z} [] i o w j = elim i [ ]
 
 pub rot_mid : {t : Triangle} {c x z m n : ℕ} → (((t.p ≡ t.q) → ⊥) × ((t.q ≡ t.r) → ⊥) × ((t.r ≡ t.p) → ⊥))
     → Rot t c x z → Rot t c m n → m ≡ x
@@ -174,18 +176,19 @@ others_in {c} {x} {z} {m} {n} (t ∷ ts) (there i) o (there j) = go (others_in t
     go : In c m n (others i) ⊎ (m ≡ x) → In c m n (t ∷ others i) ⊎ (m ≡ x)
     go (inl k) = inl (there k)
     go (inr e) = inr e
+others_in {c = c} {x = x} {z = z} {m = m} {n = n} [] i o _ = elim i [ ]
 
 -- a path that starts where no triangle enters never comes back
-avoid : {c x z m w y : ℕ} (ts : List Triangle) (i : In c x z ts) → Once ts → Unused x c ts → In m c w ts → Links c ts m y
+avoid : {c x z : ℕ} (ts : List Triangle) {m w y : ℕ} (i : In c x z ts) → Once ts → Unused x c ts → In m c w ts → Links c ts m y
     → Links c (others i) m y
 avoid ts i o f e stop = stop
-avoid {c} {x} {z} {m} {w} {y} ts i o f e (link {z = n} j l) = go (avoid ts i o f (in_last j) l) (others_in ts i o j)
+avoid {c = c} {x = x} {z = z} ts {m = m} {w = w} {y = y} i o f e (link {z = n} j l) = go (avoid ts i o f (in_last j) l) (others_in ts i o j)
   where
     go : Links c (others i) n y → In c m n (others i) ⊎ (m ≡ x) → Links c (others i) m y
     go r (inl k) = link k r
     go r (inr q) = absurd (f w (subst (λ (v : ℕ). In v c w ts) q e))
 
-steps_sub : {c x z n u y : ℕ} {ts : List Triangle} (i : In c x z ts) → Steps c (others i) n u y → Steps c ts n u y
+steps_sub : {c x z : ℕ} {ts : List Triangle} (i : In c x z ts) {n u y : ℕ} → Steps c (others i) n u y → Steps c ts n u y
 steps_sub i s_stop = s_stop
 steps_sub i (s_link j s) = s_link (others_sub i j) (steps_sub i s)
 
@@ -225,7 +228,8 @@ turn_in_by {c} {x} {y} (suc n) ts o f (b_link {z = z} i s) h =
     rw (turn_in, (across_some x c z ts o i).found) (turn_in_by n ts o f s (omega arith))
 
 -- the packer's turning about c from a on ends at y
-pub turn_out_lem : {c x y : ℕ} (ts : List Triangle) → Once ts → Unused x c ts → Unused c y ts → Links c ts x y → turn_out (length ts) c x ts ≡ y
+pub turn_out_lem : {c x y : ℕ} (ts : List Triangle) → Once ts → Unused x c ts → Unused c y ts → Links c ts x y
+    → turn_out (length ts) c x ts ≡ y
 turn_out_lem ts o f g l = let b = bounded ts o f l in turn_out_by (length ts) ts o g b.way b.few
 
 -- and from y back ends at x

@@ -27,7 +27,8 @@ unfoldable pub into : ℕ → ℕ → List ℕ → ℕ → ℕ
 into x y xs zero = 0
 into x y xs (suc c) = hit y x (get_or xs (corner_before c) 0) (get_or xs c 0) + into x y xs c
 
-out_step : (x y : ℕ) (xs : List ℕ) (c k : ℕ) → corner_after c ≡ k → out x y xs (suc c) ≡ hit x y (get_or xs c 0) (get_or xs k 0) + out x y xs c
+out_step : (x y : ℕ) (xs : List ℕ) (c k : ℕ) → corner_after c ≡ k
+    → out x y xs (suc c) ≡ hit x y (get_or xs c 0) (get_or xs k 0) + out x y xs c
 unfolding out
 out_step x y xs c k e = ap (λ (i : ℕ). hit x y (get_or xs c 0) (get_or xs i 0) + out x y xs c) e
 

@@ -131,7 +131,8 @@ module _ (v : ℕ) (ts : List Triangle) (distinct : all_distinct ts ≡ true) (o
       none = omega (arith, w.degrees s, same_no s t differ, same_yes s, w.sum (λ d. same s d.from), apart.starts_once s)
 
       more : (z : ℕ) → 1 ≤ count z s all
-          → ((z : ℕ) (way' rest' : List Edge) → Way all z t way' rest' → length rest' ≡ n → left_back ts v z n ≡ length (turn_back m z rest'))
+          → ((z : ℕ) (way' rest' : List Edge) → Way all z t way' rest' → length rest' ≡ n
+          → left_back ts v z n ≡ length (turn_back m z rest'))
           → Next (λ d. d.to) (λ d. d.from) entering turn_back backward m s rest
           → left_back ts v z n ≡ length (turn_back (suc m) s rest)
       more z h k x =
@@ -152,7 +153,8 @@ module _ (v : ℕ) (ts : List Triangle) (distinct : all_distinct ts ≡ true) (o
           ∙ ap (λ (y : ℕ). length (turn_back m y x.rest)) z_is ∙ sym (ap (length {A = Edge}) x.turns)
 
       go : (a : Across) → across s v ts ≡ a
-          → ((z : ℕ) (way' rest' : List Edge) → Way all z t way' rest' → length rest' ≡ n → left_back ts v z n ≡ length (turn_back m z rest'))
+          → ((z : ℕ) (way' rest' : List Edge) → Way all z t way' rest' → length rest' ≡ n
+          → left_back ts v z n ≡ length (turn_back m z rest'))
           → left_back ts v s (suc n) ≡ length (turn_back (suc m) s rest)
       go Nothing q k =
           let u : ends s rest ≡ 0 = omega (arith, all_ends s, (across_nothing s v ts).0 q, w.sum (λ d. same s d.to)) in

@@ -87,3 +87,4 @@ in_about {v} {x} {y} (t ∷ ts) d (there i) = go (first v t ts) (in_about ts (di
     go : First v t ts → 1 ≤ count x y (about v ts) → 1 ≤ count x y (about v (t ∷ ts))
     go (meets a b s e) k = rw e (omega arith)
     go (misses p q s e) k = rw e k
+in_about {v = v} {x = x} {y = y} [] d x3 = elim x3 [ ]

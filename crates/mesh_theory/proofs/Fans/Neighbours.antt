@@ -65,6 +65,8 @@ along_pair : (x z : ℕ) (ns : List ℕ) → Pair x z ns → 1 ≤ count x z (al
 unfolding count
 along_pair x z (m ∷ (n ∷ ns)) (inl e) = rw (e.0, e.1) (omega (arith, hit_yes x z))
 along_pair x z (m ∷ (n ∷ ns)) (inr p) = omega (arith, along_pair x z (n ∷ ns) p)
+along_pair x z [] x'' = elim x'' [ ]
+along_pair x z (m ∷ []) x5 = elim x5 [ ]
 
 along_in : (v : ℕ) (ts : List Triangle) (x z : ℕ) (ns : List ℕ) → Linked v ts ns → 1 ≤ count x z (along ns) → In v x z ts
 unfolding count

@@ -47,6 +47,7 @@ in_third (t ∷ ts) o (here a) (here b) = rot_third a b
 in_third {x} {y} (t ∷ ts) o (here a) (there j) = absurd (omega (arith, uses_cons x y t ts, rot_sides a, in_uses j))
 in_third {x} {y} (t ∷ ts) o (there i) (here b) = absurd (omega (arith, uses_cons x y t ts, rot_sides b, in_uses i))
 in_third {x} {y} (t ∷ ts) o (there i) (there j) = in_third ts (omega (arith, uses_cons x y t ts)) i j
+in_third {x = x} {y = y} {z = z} {w = w} [] o x4 _ = elim x4 [ ]
 
 one_place : {x y z w : ℕ} (ts : List Triangle) (d : Triangle) → uses x y ts ≤ 1 → (m n : ℕ) → m < length ts → n < length ts
     → Rot (get_or ts m d) x y z → Rot (get_or ts n d) x y w → m ≡ n

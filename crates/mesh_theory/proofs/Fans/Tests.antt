@@ -71,6 +71,7 @@ all_distinct_lem ts = (λ h x y z i. each ts h i, all ts)
     each : {x y z : ℕ} (us : List Triangle) → all_distinct us ≡ true → In x y z us → Different x y z
     each (t ∷ us) h (here r) = rot_different (distinct_first t us h) r
     each (t ∷ us) h (there i) = each us (distinct_rest t us h) i
+    each {y = y} {z = z} [] h x3 = elim x3 [ ]
 
     all : (us : List Triangle) → ((x y z : ℕ) → In x y z us → Different x y z) → all_distinct us ≡ true
     all [] h = refl

@@ -120,5 +120,6 @@ out_fuel (suc s) c x ts e o f (suc m) (suc n) a b =
 pub in_enough : (n c x : ℕ) (ts : List Triangle) → length ts ≤ n → Once ts → Unused c x ts → turn_in n c x ts ≡ turn_in (length ts) c x ts
 in_enough n c x ts e o f = in_fuel (length ts) c x ts (omega arith) o f n (length ts) e (omega arith)
 
-pub out_enough : (n c y : ℕ) (ts : List Triangle) → length ts ≤ n → Once ts → Unused y c ts → turn_out n c y ts ≡ turn_out (length ts) c y ts
+pub out_enough : (n c y : ℕ) (ts : List Triangle) → length ts ≤ n → Once ts → Unused y c ts
+    → turn_out n c y ts ≡ turn_out (length ts) c y ts
 out_enough n c y ts e o f = out_fuel (length ts) c y ts (omega arith) o f n (length ts) e (omega arith)

@@ -13,7 +13,8 @@ use Rattle.rules.specs.declared.Operation.{Operation}
 use Rattle.rules.specs.declared.Operation.TheVariants.{Forward, Backward, Border, Split, Close}
 use Rattle.rules.specs.Limits.{max_places}
 use Rattle.rules.specs.Ring.{Node, opened, marked, Ring, first_open, all_open, last_open}
-use Rattle.rules.specs.Choice.{Spot, nowhere, spot, spot_of, operation_for, following, size_of, turn_in, turn_out, choose_place, after_current}
+use Rattle.rules.specs.Choice.{Spot, nowhere, spot, spot_of, operation_for, following, size_of, turn_in, turn_out, choose_place}
+use Rattle.rules.specs.Choice.{after_current}
 use Rattle.choice_theory.proofs.Turning.Spotting.{spot_none}
 use Rattle.mesh_theory.specs.Chains.Linked.{Linked}
 use Rattle.cutborder.specs.declared.Loops.{Loops}

@@ -27,7 +27,8 @@ use Rattle.border_theory.proofs.Memory.Standing.{Hop, Trail, Trails, trails, tra
 use Rattle.border_theory.proofs.Memory.Waiting.{waits_at}
 use Rattle.cutborder.specs.declared.Seat.{Seat}
 use Rattle.cutborder.specs.declared.Seat.TheVariants.{Nowhere, At}
-use Rattle.pack_theory.specs.Choosing.Seeking.{starts_at, gone_by, seat_among, waiting_seat, walked_seat, seat_in, seat_of, Inside, Seekable}
+use Rattle.pack_theory.specs.Choosing.Seeking.{starts_at, gone_by, seat_among, waiting_seat, walked_seat, seat_in, seat_of, Inside}
+use Rattle.pack_theory.specs.Choosing.Seeking.{Seekable}
 use Rattle.counting.proofs.Bools.{and_true}
 
 and_same : (a a' b b' c c' : Bool) → a ≡ a' → b ≡ b' → c ≡ c' → a && b && c ≡ (a' && b' && c')
@@ -56,7 +57,8 @@ edge_below : (first i x y : ℕ) (ps : List Node) → Below (i + length ps) (edg
 unfolding edge_in
 edge_below first i x y [] = tt
 edge_below first i x y (p ∷ ps) =
-    below_by i (i + suc (length ps)) (edge_in first (suc i) x y ps) (is_open p && eqb (vertex p) x && eqb (start_or first ps) y) (omega arith)
+    below_by i (i + suc (length ps)) (edge_in first (suc i) x y ps) (is_open p && eqb (vertex p) x && eqb (start_or first ps) y)
+    (omega arith)
     (below_more (suc i + length ps) (i + suc (length ps)) (edge_in first (suc i) x y ps) (omega arith) (edge_below first (suc i) x y ps))
 
 -- one ring, if the edge is in it, else the others
@@ -87,7 +89,8 @@ module _ (n : ℕ) (m : List ℕ) where
       (ap (λ (v : ℕ). eqb v y) (ap (vertex_of m) h.fore ∙ vertex_at_lem z k))
 
   starts_first : (b : ℕ) → b < n → (p : Node) (ps : List Node) (x y : ℕ) → Trail n m (p ∷ ps) b
-      → starts_at m (vertex p) x y ≡ (is_open (named vs p) && eqb (vertex (named vs p)) x && eqb (start_or (get_or vs b 0) (named_ring vs ps)) y)
+      → starts_at m (vertex p) x y
+      ≡ (is_open (named vs p) && eqb (vertex (named vs p)) x && eqb (start_or (get_or vs b 0) (named_ring vs ps)) y)
   starts_first b k p ps x y t =
       starts_is p (start_or b ps) x y t.0 (start_below b k ps t.1)
       ∙ ap (λ (v : ℕ). is_open (named vs p) && eqb (vertex (named vs p)) x && eqb v y) (sym (named_start vs b ps))
@@ -161,7 +164,8 @@ match_by s r ws (at j) t u h = (refl, refl, (0, omega arith, refl))
 match_ring : (n : ℕ) (m : List ℕ) (s k p x y : ℕ) (r : Ring) (ws : List Ring) (t : Seat) → k ≡ length r → p ≡ start_or 0 r
     → Trail n m r (start_or 0 r)
     → Match (suc s) ws t (spot_of (suc s) x y ws)
-    → Match s (named_ring (vertices_of n m) r ∷ ws) (seat_among s k (gone_by m k 0 p x y) t) (spot_of s x y (named_ring (vertices_of n m) r ∷ ws))
+    → Match s (named_ring (vertices_of n m) r ∷ ws) (seat_among s k (gone_by m k 0 p x y) t)
+    (spot_of s x y (named_ring (vertices_of n m) r ∷ ws))
 unfolding spot_of
 match_ring n m s k p x y r ws t ek ep h g =
     let vs = vertices_of n m in
@@ -171,7 +175,8 @@ match_ring n m s k p x y r ws t ek ep h g =
     ap₂ (λ (j i : ℕ). gone_by m j 0 i x y) ek ep ∙ (gone_ring n m r x y h ∙ ap (λ (j : ℕ). pos_or j q) (sym ek)) in
     let b : Below k q = below_more _ _ q (omega (arith, z)) (edge_below (start_or 0 (named_ring vs r)) 0 x y (named_ring vs r)) in
     subst (λ (u : Seat). Match s (named_ring vs r ∷ ws) u (spot_of s x y (named_ring vs r ∷ ws)))
-    (ap (λ (j : ℕ). elim q [ absent ↦ t | at i ↦ At s j i ]) z ∙ (sym (seat_among_lem s k q t b) ∙ ap (λ (j : ℕ). seat_among s k j t) (sym e)))
+    (ap (λ (j : ℕ). elim q [ absent ↦ t | at i ↦ At s j i ]) z
+    ∙ (sym (seat_among_lem s k q t b) ∙ ap (λ (j : ℕ). seat_among s k j t) (sym e)))
     (match_by s (named_ring vs r) ws q t (spot_of (suc s) x y ws) g)
 
 -- all waiting loops

@@ -71,7 +71,8 @@ module _ (xs cs flags : List ℕ) (linked : Linked xs cs) where
   none_of x y e = (free_unused x y M).1 ((across_nothing x y M).0 e)
 
   -- back from a triangle that has c→x: the turn is at x, with j steps left
-  pub in_none : (c s x j : ℕ) (r : Across) → turn_in j c x ts ≡ turn_in (length xs / 3) c s ts → (x ≡ c → ⊥) → Finds xs cs x c r → r ≡ Nothing
+  pub in_none : (c s x j : ℕ) (r : Across) → turn_in j c x ts ≡ turn_in (length xs / 3) c s ts → (x ≡ c → ⊥) → Finds xs cs x c r
+      → r ≡ Nothing
       → EndsIn xs flags c s (turned x false)
   in_none c s x j r i d f e =
       let q : Unused x c M = none_of x c (sym (linked_found xs cs linked x c r f d) ∙ e) in

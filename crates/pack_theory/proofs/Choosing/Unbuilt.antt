@@ -83,7 +83,8 @@ module _ (flags : List ℕ) where
       go false k = omega (arith, k)
 
   -- the triangle of an edge, if its flag is 0
-  pub unbuilt_has : {x y z : ℕ} (i n : ℕ) (ts : List Triangle) → Stand x y z n ts → flag_of flags (i + n) ≡ 0 → In x y z (unbuilt flags i ts)
+  pub unbuilt_has : {x y z : ℕ} (i n : ℕ) (ts : List Triangle) → Stand x y z n ts → flag_of flags (i + n) ≡ 0
+      → In x y z (unbuilt flags i ts)
   unfolding unbuilt
   unbuilt_has i zero (t ∷ ts) (first r) e =
       let z : i + 0 ≡ i = omega arith in
@@ -97,6 +98,8 @@ module _ (flags : List ℕ) where
           → In x y z (elim b [ true ↦ t ∷ unbuilt flags (suc i) ts | false ↦ unbuilt flags (suc i) ts ])
       go true k = there k
       go false k = k
+  unbuilt_has {x = x} {y = y} {z = z} i zero [] x5 e = elim x5 [ ]
+  unbuilt_has {x = x} {y = y} {z = z} i (suc n) [] x6 e = elim x6 [ ]
 
   -- no triangle has the edge, if it is built
   pub unbuilt_gone : {x y z : ℕ} (i n : ℕ) (ts : List Triangle) → Once ts → Stand x y z n ts → (flag_of flags (i + n) ≡ 0 → ⊥)
@@ -117,3 +120,5 @@ module _ (flags : List ℕ) where
       go true rest (here r) = free_rot ts o.0 r _ (stand_in s)
       go true rest (there k) = rest k
       go false rest k = rest k
+  unbuilt_gone {x = x} {y = y} {z = z} i zero [] o x9 h w j = elim x9 [ ]
+  unbuilt_gone {x = x} {y = y} {z = z} i (suc n) [] o x10 h w j = elim x10 [ ]

@@ -21,7 +21,8 @@ use Rattle.rules.specs.Check.{passes, check_triangles, check}
 use Rattle.rules.specs.Answer.{Answer, refusal, accepted, triangle, no_triangle, numbers, packed, unpacked, packed_answer}
 use Rattle.rules.specs.Buffer.{cleared}
 use Rattle.rules.specs.Pack.{Chosen, stopped, chosen, most, nothing_built, chosen_for, order_for, PackBuffers, PackResult, turned_down}
-use Rattle.rules.specs.Pack.{PackContents, pack_refused, pack_done, pack_stored, contents_of, pack_chosen, pack_long_enough, order_long_enough, pack}
+use Rattle.rules.specs.Pack.{PackContents, pack_refused, pack_done, pack_stored, contents_of, pack_chosen, pack_long_enough}
+use Rattle.rules.specs.Pack.{order_long_enough, pack}
 use Rattle.choice_theory.proofs.Runs.Whole as whole
 use Rattle.choice_theory.proofs.Runs.Accepted.{accepted_packs}
 use Rattle.pack_theory.specs.Packing.Lent.{cleared_by}

@@ -285,7 +285,8 @@ module _ (v : ℕ) (xs cs : List ℕ) (t : Course) (ns m : List ℕ) (h : Begins
 
     ends : Ends v xs (chosen_for most (triangles_of xs)) (4 * k + 1) bs end fs' ns' (drop v ns) bs' m'
     ends =
-        subst (λ (i : ℕ). Ends v xs (choose_all (4 * i + 1) (nothing_built most (triangles_of xs))) (4 * k + 1) bs end fs' ns' (drop v ns) bs'
+        subst (λ (i : ℕ). Ends v xs (choose_all (4 * i + 1) (nothing_built most (triangles_of xs))) (4 * k + 1) bs end fs' ns' (drop v ns)
+        bs'
         m') is
         (run v (nothing_built most (triangles_of xs)) (drop v ns) h.holds)
 
@@ -313,7 +314,8 @@ module _ (v : ℕ) (xs cs : List ℕ) (t : Course) (ns m : List ℕ) (h : Begins
 
       pub run_gives : length bs' ≡ length bs → (r : Packed) → r ≡ finish_answer end (length bs') → (ns'' : List ℕ)
           → ns'' ≡ finish_numbers end v (length bs') ns' → (bs'' : List ℕ) → bs'' ≡ finish_pack end v k bs' → (os'' : List ℕ)
-          → os'' ≡ finish_numbers end k (length bs') os' → (ns₀ : List ℕ) → drop v ns ≡ drop v ns₀ → RunGives v xs ns₀ bs os r ns'' bs'' os''
+          → os'' ≡ finish_numbers end k (length bs') os' → (ns₀ : List ℕ) → drop v ns ≡ drop v ns₀
+          → RunGives v xs ns₀ bs os r ns'' bs'' os''
       unfolding result
       run_gives l r er ns'' en bs'' eb os'' eo ns₀ past n =
           let e₀ = subst (λ (rest : List ℕ). Ends v xs (chosen_for most (triangles_of xs)) (4 * k + 1) bs end fs' ns' rest bs' m') past

@@ -54,7 +54,8 @@ unfolding across
 across_by x y t ts r e = rw (across, e) refl
 
 -- a triangle that has not x→y is kept, if it is left
-drop_keep : (x y : ℕ) (fs gs : List ℕ) (i : ℕ) (t : Triangle) (ts : List Triangle) → in_triangle x y t ≡ Nothing → flag_of gs i ≡ flag_of fs i
+drop_keep : (x y : ℕ) (fs gs : List ℕ) (i : ℕ) (t : Triangle) (ts : List Triangle) → in_triangle x y t ≡ Nothing
+    → flag_of gs i ≡ flag_of fs i
     → unbuilt gs (suc i) ts ≡ drop_triangle x y (unbuilt fs (suc i) ts) → unbuilt gs i (t ∷ ts) ≡ drop_triangle x y (unbuilt fs i (t ∷ ts))
 drop_keep x y fs gs i t ts w q ih = go (eqb (flag_of fs i) 0) refl
   where
@@ -119,7 +120,8 @@ flag_drops x y fs i [] n k z o h l = absurd (no_found n k z h)
 flag_drops x y fs i (t ∷ ts) n k z o h l = go (across x y ts) refl (λ m j w e. flag_drops x y fs (suc i) ts m j w o.2 e (omega arith))
   where
     go : (r : Across) → across x y ts ≡ r
-        → ((m j w : ℕ) → across x y ts ≡ Found m j w → unbuilt (set fs (suc i + m) 1) (suc i) ts ≡ drop_triangle x y (unbuilt fs (suc i) ts))
+        → ((m j w : ℕ) → across x y ts ≡ Found m j w
+        → unbuilt (set fs (suc i + m) 1) (suc i) ts ≡ drop_triangle x y (unbuilt fs (suc i) ts))
         → unbuilt (set fs (i + n) 1) i (t ∷ ts) ≡ drop_triangle x y (unbuilt fs i (t ∷ ts))
     go (Found m j w) e ih =
         let q : suc m ≡ n = found_number (suc m) j w n k z (sym (across_by x y t ts (Found m j w) e) ∙ h) in
@@ -204,7 +206,8 @@ unbuilt_from fs k ts f = let e : 0 + k ≡ k = omega arith in
 
 -- the lowest triangle left is k, and those left without it
 module _ (fs xs : List ℕ) (k : ℕ) (below : (j : ℕ) → j < k → flag_of fs j ≡ 0 → ⊥) (within : k < length (triangles_of xs)) where
-  pub lowest_first : flag_of fs k ≡ 0 → unbuilt fs 0 (triangles_of xs) ≡ triangle_at xs k ∷ unbuilt fs (suc k) (drop (suc k) (triangles_of xs))
+  pub lowest_first : flag_of fs k ≡ 0
+      → unbuilt fs 0 (triangles_of xs) ≡ triangle_at xs k ∷ unbuilt fs (suc k) (drop (suc k) (triangles_of xs))
   lowest_first h =
       unbuilt_from fs k (triangles_of xs) below ∙ ap (unbuilt fs k) (triangle_drop k xs within)
       ∙ unbuilt_by fs k (triangle_at xs k) (drop (suc k) (triangles_of xs)) true (eq-eqb (flag_of fs k) 0 h)

@@ -95,6 +95,8 @@ surgery_grows e f ps ws ls c (Union w j) g (on_union before us p vs behind sh n 
       length-append W U,
       length-append U (p ∷ W),
     ))
+surgery_grows e f ps ws ls c Rattle.rules.specs.declared.Operation.TheVariants.Border g x'' = elim x'' [ ]
+surgery_grows e f ps ws ls c Rattle.rules.specs.declared.Operation.TheVariants.Start g x3 = elim x3 [ ]
 
 -- marking an edge adds none
 with_places_lem : (r : List Node) (ws : List Ring)
@@ -148,7 +150,8 @@ unfolding limited
 limited_ten o s h k = rw (limited, le-leb (places s.loops) s.limit_places h, lt-leb (length s.loops) s.limit_loops k) refl
 
 -- an operation that exceeds a limit: 9 where no place was free
-pub limited_refuses : (o : Operation) (s : Packing) (before : List Ring) (free : ℕ) → s.limit_places ≡ max_places → s.limit_loops ≡ max_loops
+pub limited_refuses : (o : Operation) (s : Packing) (before : List Ring) (free : ℕ) → s.limit_places ≡ max_places
+    → s.limit_loops ≡ max_loops
     → free + places before ≡ max_places → length before ≤ max_loops → Grows before s.loops
     → (places s.loops ≤ max_places → length s.loops ≤ max_loops → ⊥) → limited o s ≡ refuses (refusal_at free)
 limited_refuses o s before free hp hl r few (inl g) x = absurd (x (omega (arith, g.0, r)) (omega (arith, g.1, few)))

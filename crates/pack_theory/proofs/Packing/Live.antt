@@ -51,7 +51,8 @@ use Rattle.cutborder.specs.declared.Done.{Done}
 use Rattle.cutborder.specs.declared.Done.TheVariants.{Going, Refused}
 use Rattle.pack_theory.specs.Packing.Numbers.{unnumbered, entries}
 use Rattle.pack_theory.specs.Packing.Doing.{readied, done_of, memory_of}
-use Rattle.pack_theory.specs.Packing.Course.{Holds, start_of, end_of, is_numbered, placed_by, flags_by, move_by, move_of, flags_of, given_by}
+use Rattle.pack_theory.specs.Packing.Course.{Holds, start_of, end_of, is_numbered, placed_by, flags_by, move_by, move_of, flags_of}
+use Rattle.pack_theory.specs.Packing.Course.{given_by}
 use Rattle.pack_theory.specs.Packing.Course.{numbers_by}
 use Rattle.pack_theory.specs.Packing.Steps.{StepsTo}
 use Rattle.pack_theory.proofs.Packing.Numbers.{entry_read, entry_none, entry_some, number_stored}

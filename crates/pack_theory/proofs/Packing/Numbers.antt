@@ -77,7 +77,8 @@ entries_new n vs c h d =
     (length-set (entries n vs) c (length vs) ∙ entries_length n vs ∙ sym (entries_length n (vs ++ (c ∷ []))))
     (λ i l. go i (omega (arith, l, length-set (entries n vs) c (length vs), entries_length n vs)) (eqb i c) refl)
   where
-    go : (i : ℕ) → i < n → (t : Bool) → eqb i c ≡ t → get_or (set (entries n vs) c (length vs)) i 0 ≡ get_or (entries n (vs ++ (c ∷ []))) i 0
+    go : (i : ℕ) → i < n → (t : Bool) → eqb i c ≡ t
+        → get_or (set (entries n vs) c (length vs)) i 0 ≡ get_or (entries n (vs ++ (c ∷ []))) i 0
     go i l true e =
         let q : i ≡ c = eqb-true i c e in
         ap (λ (k : ℕ). get_or (set (entries n vs) c (length vs)) k 0) q

@@ -98,7 +98,8 @@ abbrev found : List ℕ → List ℕ → List ℕ → ℕ → ℕ → Taken
 found fs ts gs n zero = no_edge
 found fs ts gs n (suc i) = taken (edge_at fs ts i) (kept fs ts (set gs i 1) n)
 
-found_keep : (fs ts gs : List ℕ) (n i : ℕ) → i ≤ n → get_or gs n 0 ≡ 0 → keep (edge_at fs ts n) (found fs ts gs n i) ≡ found fs ts gs (suc n) i
+found_keep : (fs ts gs : List ℕ) (n i : ℕ) → i ≤ n → get_or gs n 0 ≡ 0
+    → keep (edge_at fs ts n) (found fs ts gs n i) ≡ found fs ts gs (suc n) i
 found_keep fs ts gs n zero h e = refl
 found_keep fs ts gs n (suc i) h e =
     ap (taken (edge_at fs ts i))

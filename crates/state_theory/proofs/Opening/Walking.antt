@@ -75,7 +75,8 @@ module _ (ps : List Place) (v : ℕ) (s : List ℕ) (i : ℕ) where
       → Marked (markable ps v s i) x true x
   unfolding markable
   mark_it x r h g e t = (
-    sym (and_both _ (place_fits ps v i) (and_both (ltb i max_places) (eqb (get_or s i 0) 0) (lt-ltb i max_places h) (eq-eqb (get_or s i 0) 0 g))
+    sym (and_both _ (place_fits ps v i)
+        (and_both (ltb i max_places) (eqb (get_or s i 0) 0) (lt-ltb i max_places h) (eq-eqb (get_or s i 0) 0 g))
         (sym e ∙ t)),
     λ _. refl,
   )

@@ -80,7 +80,8 @@ module _ (f : ℕ → Place) (all : List ℕ → List Place → List Place) (non
   out_of [] ps i h = ap (λ (qs : List Place). place_at qs i) (none ps)
   out_of (x ∷ is) ps i h = go (eqb i x) refl (λ e. out_of is ps i e)
     where
-      go : (t : Bool) → eqb i x ≡ t → (occurs i is ≡ 0 → place_at (all is ps) i ≡ place_at ps i) → place_at (all (x ∷ is) ps) i ≡ place_at ps i
+      go : (t : Bool) → eqb i x ≡ t → (occurs i is ≡ 0 → place_at (all is ps) i ≡ place_at ps i)
+          → place_at (all (x ∷ is) ps) i ≡ place_at ps i
       go true e r = absurd (omega (arith, h, in_first i x is (eqb-true i x e)))
       go false e r =
           let d : i ≡ x → ⊥ = eqb-false i x e in
@@ -128,5 +129,6 @@ freed_in = in_them (λ x. free_place) freed_list freed_none freed_more length_fr
 pub linked_out : (m is : List ℕ) (ps : List Place) (i : ℕ) → occurs i is ≡ 0 → place_at (linked_list m is ps) i ≡ place_at ps i
 linked_out m = out_of (record_at m) (linked_list m) (linked_none m) (linked_more m) (length_linked m)
 
-pub linked_in : (m is : List ℕ) (ps : List Place) (i : ℕ) → 1 ≤ occurs i is → i < length ps → place_at (linked_list m is ps) i ≡ record_at m i
+pub linked_in : (m is : List ℕ) (ps : List Place) (i : ℕ) → 1 ≤ occurs i is → i < length ps
+    → place_at (linked_list m is ps) i ≡ record_at m i
 linked_in m = in_them (record_at m) (linked_list m) (linked_none m) (linked_more m) (length_linked m)

@@ -193,7 +193,8 @@ module _ (b : Builder) (o : Operation) (xs ys : List ℕ) (ps : List Place) (M :
   low_place i h = in_below max_places (places_of b ps b.live) (links_low b ps links) i h
 
   -- beyond the first 1,024 nothing is written
-  high_by : (i k l : ℕ) → occurs i (to_link m') ≡ k → occurs i (to_free m') ≡ l → max_places ≤ i → place_at (written_back m' ps) i ≡ place_at ps i
+  high_by : (i k l : ℕ) → occurs i (to_link m') ≡ k → occurs i (to_free m') ≡ l → max_places ≤ i
+      → place_at (written_back m' ps) i ≡ place_at ps i
   high_by i zero zero e z h = back_at i ∙ freed_out (to_free m') (linked_list m' (to_link m') ps) i z ∙ linked_out m' (to_link m') ps i e
   high_by i (suc k) l e z h = absurd (omega (arith, h, w.near i (omega (arith, e))))
   high_by i zero (suc l) e z h = absurd (omega (arith, h, low_place i (omega (arith, was i, (w.left i (omega (arith, z))).0))))
@@ -329,7 +330,8 @@ module _ (b : Builder) (o : Operation) (xs : List ℕ) (ps : List Place) (b' : B
         (
           a.noted.low,
           λ k g h.
-              let z = (a.written.left (freed_place m' k) (freed_part_lem m' (at m' 5326) (at m' 5327 - at m' 5326) k g (omega (arith, g, h)))).0
+              let z = (a.written.left (freed_place m' k)
+              (freed_part_lem m' (at m' 5326) (at m' 5327 - at m' 5326) k g (omega (arith, g, h)))).0
               in
               omega (
                 arith,

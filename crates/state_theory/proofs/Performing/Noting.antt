@@ -46,7 +46,8 @@ module _ (m : List ℕ) (t : Touched) (k l : ℕ) where
   pub noted_before : (i : ℕ) → i < core_size → at (noted m t k l) i ≡ at m i
   unfolding noted
   noted_before i h =
-      get_or-set_other n₇ (core_size + 7) i l 0 (λ e. omega (arith, e, h)) ∙ get_or-set_other n₆ (core_size + 6) i k 0 (λ e. omega (arith, e, h))
+      get_or-set_other n₇ (core_size + 7) i l 0 (λ e. omega (arith, e, h))
+      ∙ get_or-set_other n₆ (core_size + 6) i k 0 (λ e. omega (arith, e, h))
       ∙ get_or-set_other n₅ (core_size + 5) i t.fifth 0 (λ e. omega (arith, e, h))
       ∙ get_or-set_other n₄ (core_size + 4) i t.fourth 0 (λ e. omega (arith, e, h))
       ∙ get_or-set_other n₃ (core_size + 3) i t.third 0 (λ e. omega (arith, e, h))

@@ -79,7 +79,8 @@ module _ (n : ℕ) (m : List ℕ) where
   followed_trail (p ∷ ps) b t =
       ap (followed (records n m) (length ps)) (hop_after (vertex p) (start_or b ps) (is_open p) t.0) ∙ followed_trail ps b t.1
 
-  node_trail : (p : Node) (y : ℕ) → Hop n m (vertex p) y (is_open p) → node_of (place_at (records n m) (vertex p)) ≡ named (vertices_of n m) p
+  node_trail : (p : Node) (y : ℕ) → Hop n m (vertex p) y (is_open p)
+      → node_of (place_at (records n m) (vertex p)) ≡ named (vertices_of n m) p
   node_trail p y h =
       node_at n m (vertex p) h.near (subst (λ (x : ℕ). x ≤ 1) (sym h.mark) (num_le (is_open p)))
       ∙ ap (λ (f : ℕ). named (vertices_of n m) (node_from f (vertex p))) (column_at m 3 n (vertex p) h.near ∙ h.mark)
