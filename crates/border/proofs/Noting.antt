@@ -43,7 +43,8 @@ module _ (n : ℕ) (l : Loops) (m : List ℕ) where
   pub performs_as : (u : ℕ) (o o' : Operation) (c : ℕ) → o ≡ o' → Performs n l m u o c → Performs n l m u o' c
   performs_as u o o' c e h = subst (λ (x : Operation). Performs n l m u x c) e h
 
-  pub touched_as : (o o' : Operation) (c : ℕ) (t : Touched) → o ≡ o' → t ≡ listed (touched_by n l m o' c) → t ≡ listed (touched_by n l m o c)
+  pub touched_as : (o o' : Operation) (c : ℕ) (t : Touched) → o ≡ o' → t ≡ listed (touched_by n l m o' c)
+      → t ≡ listed (touched_by n l m o c)
   touched_as o o' c t e h = h ∙ ap (λ (x : Operation). listed (touched_by n l m x c)) (sym e)
 
 pub noted_as : (m : List ℕ) (t t' : Touched) (k l : ℕ) (m' : List ℕ) → t ≡ t' → m' ≡ noted m t k l → m' ≡ noted m t' k l

@@ -1,6 +1,8 @@
 // The cut-border in memory, and the eight operations on it: an operation is decided, which changes nothing, the edge rule is tested by
 // the caller, and then it is done. The contracts cite border_theory/specs/Memory/; the theorem `decides` (border_theory/proofs/Memory)
 // joins them to the machine of the rules.
+#![tactic(auto)]
+
 pub mod alter; // the surgery of a planned operation
 pub mod count; // the counts after an operation
 pub mod finish; // the end of a building

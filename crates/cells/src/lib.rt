@@ -1,5 +1,7 @@
 // The memory of the furnace's own reader, one lent byte array: places, the stack of free places and the waiting loops. The contracts say
 // what each function does to the numbers that the bytes stand for (cells_theory/specs/Bytes), in the words of the plain memory.
+#![tactic(auto)]
+
 pub mod place; // the records of the places
 pub mod stack; // the stacks
 

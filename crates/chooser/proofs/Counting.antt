@@ -23,14 +23,17 @@ module _ (m : List ℕ) (p x y : ℕ) where
   unfolding starts_at
   start_other o v e h q d =
       sym
-      (ap₂ (λ (a b : Bool). a && b && eqb (vertex_of m (after_of m p)) y) (sym e ∙ not-false o h) (ne_eqb (vertex_of m p) x (λ z. d (q ∙ z))))
+      (ap₂ (λ (a b : Bool). a && b && eqb (vertex_of m (after_of m p)) y) (sym e ∙ not-false o h)
+      (ne_eqb (vertex_of m p) x (λ z. d (q ∙ z))))
 
-  pub start_ends : (o : Bool) (v f w : ℕ) → o ≡ is_open_at m p → not o ≡ false → v ≡ vertex_of m p → v ≡ x → f ≡ after_of m p → w ≡ vertex_of m f
+  pub start_ends : (o : Bool) (v f w : ℕ) → o ≡ is_open_at m p → not o ≡ false → v ≡ vertex_of m p → v ≡ x → f ≡ after_of m p
+      → w ≡ vertex_of m f
       → eqb w y ≡ starts_at m p x y
   unfolding starts_at
   start_ends o v f w e h q d g k =
       ap (λ (z : ℕ). eqb z y) (k ∙ ap (vertex_of m) g)
-      ∙ sym (ap₂ (λ (a b : Bool). a && b && eqb (vertex_of m (after_of m p)) y) (sym e ∙ not-false o h) (eq-eqb (vertex_of m p) x (sym q ∙ d)))
+      ∙ sym (ap₂ (λ (a b : Bool). a && b && eqb (vertex_of m (after_of m p)) y) (sym e ∙ not-false o h)
+      (eq-eqb (vertex_of m p) x (sym q ∙ d)))
 
 -- a search of k places from p on: at place z, i are gone by
 pub record Counting (m : List ℕ) (k p x y i z : ℕ) : Type 0 where

@@ -1,5 +1,7 @@
 // The packer's choice of the place of c, at an edge from a to b with the triangle b a c, where c has a place already.
 // The meaning of the contracts stands in rules/specs/Choice.antt and pack_theory/specs/Choosing/.
+#![tactic(auto)]
+
 mod name;
 mod seek;
 mod turn;

@@ -1,5 +1,7 @@
 // The look-up of the triangle that has a directed edge, by chains of the corners that a vertex has in a list.
 // Corner c is position c of the list. The meaning of the contracts stands in mesh_theory/specs/Chains/.
+#![tactic(auto)]
+
 ghost use Rattle.std.specs.Prelude.{◌+◌, ◌*◌, ◌/◌, ◌≤◌, ◌<◌, ◌≡◌, length};
 ghost use Rattle.rules.specs.Limits.{max_numbers, max_vertices};
 ghost use Rattle.mesh_theory.specs.Chains.Corner.{corner_after, corner_before, seen_from};

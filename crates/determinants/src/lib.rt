@@ -1,5 +1,7 @@
 // Six times the volume that triangles enclose, as an exact sum of signed determinants. Positions stand as bytes, as a pack's field holds
 // them. The contracts cite rules/specs/Grid.antt and Volume.antt.
+#![tactic(auto)]
+
 ghost use Rattle.std.specs.Prelude.{◌≡◌, ◌+◌, ◌*◌, ◌≤◌, ◌<◌, pos, nat_abs, ◌+ℤ◌, ◌-ℤ◌, ◌*ℤ◌, length, take, get_or};
 ghost use Rattle.rules.specs.Grid.{signed_of, positions_from};
 ghost use Rattle.rules.specs.Triangle.{triangles_of};

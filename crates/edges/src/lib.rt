@@ -1,5 +1,7 @@
 // The edge rule, tested over the triangles that are built so far: a plain search of the triangle buffer.
 // The contracts cite specs/Joined.antt, and `edge_rule` and `triangles_built` of the crate rules.
+#![tactic(auto)]
+
 ghost use Rattle.std.specs.Prelude.{◌≡◌, not, ◌+◌, ◌*◌, ◌≤◌, ◌<◌, length};
 ghost use Rattle.rules.specs.Table.{side_rule, edge_rule};
 ghost use Rattle.rules.specs.View.{triangles_built};

@@ -1,5 +1,7 @@
 // The cut-border of the furnace's own reader: crate border over one byte array, with the same contracts for the numbers that the bytes
 // stand for. What asks for no memory is border's own: 17 and the counts.
+#![tactic(auto)]
+
 mod alter; // the surgery of a planned operation
 mod plan; // what each operation would do
 mod verdict; // whether it is allowed

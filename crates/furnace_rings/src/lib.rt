@@ -1,8 +1,11 @@
 // The eight operations on the linked places of the furnace's own reader: crate rings over one byte array, with the same contracts for the
 // numbers that the bytes stand for. Each is given what it needs: it is decided before.
+#![tactic(auto)]
+
 ghost use Rattle.std.specs.Prelude.{◌≡◌, ◌+◌, ◌*◌, ◌-◌, ◌≤◌, ◌<◌};
 ghost use Rattle.rules.specs.Limits.{furnace_places, furnace_loops, max_vertices};
-ghost use Rattle.border_theory.specs.Memory.Moves.{new_held, forward_held, backward_held, ended_held, turned_held, next_cut, last_cut, marked_held};
+ghost use Rattle.border_theory.specs.Memory.Moves.{new_held, forward_held, backward_held, ended_held, turned_held, next_cut, last_cut};
+ghost use Rattle.border_theory.specs.Memory.Moves.{marked_held};
 ghost use Rattle.border_theory.specs.Memory.Moves.{doubled, split_held, union_held, start_held};
 ghost use Rattle.border_theory.specs.Memory.Near.{Near, Borders, Doubles, Starts};
 ghost use Rattle.cells_theory.specs.Bytes.{numbers, Whole};

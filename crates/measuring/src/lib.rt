@@ -1,5 +1,7 @@
 // The volume call: a pack is unpacked, and six times its volume is summed up. 24 is tested last. What the contracts cite stands in
 // positions_theory/specs/ and notes_theory/specs/.
+#![tactic(auto)]
+
 ghost use Rattle.std.specs.Prelude.{◌≡◌, ℕ, ◌*◌, ◌≤◌, length};
 ghost use Rattle.rules.specs.declared.Unpacked.TheVariants as Unpacks;
 ghost use Rattle.rules.specs.declared.Measured.TheVariants as Measures;

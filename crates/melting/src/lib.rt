@@ -1,5 +1,7 @@
 // The furnace's own reader: a pack is read in one lent byte array, its operations run on the cut-border without the edge rule, and the
 // volume added up while it builds. What the contracts cite stands in rules/specs/Furnace and melting_theory/specs/.
+#![tactic(auto)]
+
 mod conclude; // 19, 23 to 25, and the answer
 mod run; // one operation, and the run of them
 

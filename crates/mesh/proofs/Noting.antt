@@ -130,7 +130,8 @@ module _ (xs cs : List ℕ) (linked : Linked xs cs) (v : ℕ) where
 
   -- one corner more: the triangle v y z
   module _ (c y z : ℕ) (ns : List ℕ) (going : Noting xs v ns (suc c)) (is : get_or xs c 0 ≡ v) (y_is : get_or xs (corner_after c) 0 ≡ y)
-      (z_is : get_or xs (corner_before c) 0 ≡ z) (seen : In v y z (triangles_of xs)) (y-below : y < max_vertices) (z-below : z < max_vertices)
+      (z_is : get_or xs (corner_before c) 0 ≡ z) (seen : In v y z (triangles_of xs)) (y-below : y < max_vertices)
+      (z-below : z < max_vertices)
     where
       abbrev once : List ℕ
       once = noted ns v (2 * y) z

@@ -73,7 +73,12 @@ module _ (xs : List ℕ) (n v : ℕ) where
         go : (z : ℕ) (b : Bool) → eqb z y ≡ b → get_or (set ss y (v + 1)) z 0 ≤ v + 1
         go z true e =
             let k = eqb-true z y e in
-            omega (arith, ap (λ (i : ℕ). get_or (set ss y (v + 1)) i 0) k, get_or-set_same ss y (v + 1) 0 (omega (arith, going.stamps.long)))
+            omega (
+              arith,
+              ap (λ (i : ℕ). get_or (set ss y (v + 1)) i 0) k,
+              get_or-set_same ss y (v + 1) 0
+                  (omega (arith, going.stamps.long)),
+            )
         go z false e = omega (arith, get_or-set_other ss y z (v + 1) 0 (eqb-false z y e), going.stamps.most z)
 
     once_more : y < max_vertices → (get_or ss y 0 ≡ v + 1 → ⊥) → (z : ℕ)
@@ -153,7 +158,8 @@ module _ {xs cs : List ℕ} (sound : Sound xs) (chains : Chains xs (length xs) c
         stamps = s.stamps;
       }
     where
-      go : (y : ℕ) → 2 ≤ out v y xs m → (b : Bool) → none_twice (edges_of (triangles_of xs)) ≡ b → none_twice (edges_of (triangles_of xs)) ≡ false
+      go : (y : ℕ) → 2 ≤ out v y xs m → (b : Bool) → none_twice (edges_of (triangles_of xs)) ≡ b
+          → none_twice (edges_of (triangles_of xs)) ≡ false
       go y two true q = absurd (omega (arith, two, leaves v y, (none_twice_lem (edges_of (triangles_of xs))).0 q v y))
       go y two false q = q
 

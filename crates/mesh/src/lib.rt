@@ -1,4 +1,6 @@
 // Triangle lists: why one is refused, 1 to 7. The meaning of the contracts stands in rules/specs/ and mesh_theory/specs/.
+#![tactic(auto)]
+
 pub mod fans; // 7 and 20
 mod once; // 5
 

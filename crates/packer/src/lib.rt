@@ -1,5 +1,7 @@
 // Packing: the packer chooses one operation after the other, does each on the cut-border, whose vertices are the list's own numbers,
 // and writes it. What the contracts cite stands in pack_theory/specs/Packing/.
+#![tactic(auto)]
+
 mod choose; // what is taken at the current edge
 mod finish; // 11, and the answer
 mod operate; // an operation on the loops

@@ -1,5 +1,7 @@
 // The list of place records that a caller lends: thin functions over it, and the way to the core's plain memory and back.
 // The contracts cite border_theory/specs/Records/, and `place_at` of the crate rules.
+#![tactic(auto)]
+
 pub mod buffers; // filling lent buffers of numbers and bytes
 
 ghost use Rattle.std.specs.Prelude.{◌≡◌, ℕ, ◌+◌, ◌*◌, ◌<◌, ◌≤◌, length, get_or};
@@ -46,6 +48,7 @@ pub fn free(s: &mut [Place], i: usize)
 }
 
 // The first n records become zero, their edges not open.
+#[tactic(auto, unfolding(border_theory::specs::Records::Changes::cleared_to))]
 pub fn clear(s: &mut [Place], n: usize)
     requires { n ≤ length s.old }
     ensures { s.new ≡ cleared_to n s.old }
@@ -72,6 +75,7 @@ pub fn is_one(x: u16) -> bool
 }
 
 // The plain memory that holds nothing.
+#[tactic(auto, unfolding(border_theory::specs::Records::Plain::blank))]
 pub fn empty() -> Memory
     ensures { result ≡ blank }
 {
@@ -79,6 +83,7 @@ pub fn empty() -> Memory
 }
 
 // Record i of the plain memory becomes p.
+#[tactic(auto, unfolding(border_theory::specs::Records::Plain::stored_at))]
 pub fn store_record(m: &mut Memory, i: usize, p: Place)
     requires { i < max_places }
     ensures { m.new ≡ stored_at m.old i p }
@@ -119,6 +124,7 @@ pub fn settle(m: &mut Memory)
 }
 
 // How many of n records are read: all, or the first 1,024.
+#[tactic(auto, unfolding(border_theory::specs::Records::Plain::count_of))]
 pub fn count(n: usize) -> usize
     ensures { result ≡ count_of n }
 {
@@ -129,6 +135,7 @@ pub fn count(n: usize) -> usize
 }
 
 // The list's first n records go into the plain memory; its other numbers stay.
+#[tactic(auto, unfolding(border_theory::specs::Records::Plain::loaded))]
 pub fn load(s: &[Place], m: &mut Memory, n: usize)
     requires { (n ≤ length s.now) × (n ≤ max_places) }
     ensures { m.new ≡ loaded n s.now m.old }
@@ -184,6 +191,7 @@ pub fn freed_at(m: &Memory, k: usize) -> usize
 }
 
 // The records that an operation linked go into the list, out of the plain memory.
+#[tactic(auto, unfolding(border_theory::specs::Records::Notes::linked_to))]
 pub fn link_all(m: &Memory, s: &mut [Place])
     requires { Linkable m.now (length s.old) }
     ensures { s.new ≡ linked_all m.now s.old }
@@ -198,6 +206,7 @@ pub fn link_all(m: &Memory, s: &mut [Place])
 }
 
 // The records that an operation freed become zero, their edges not open.
+#[tactic(auto, unfolding(border_theory::specs::Records::Notes::freed_to))]
 pub fn free_all(m: &Memory, s: &mut [Place])
     requires { Freeable m.now (length s.old) }
     ensures { s.new ≡ freed_all m.now s.old }

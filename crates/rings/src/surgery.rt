@@ -1,7 +1,8 @@
 // The eight operations on the linked places. Each is given what it needs: it is decided before.
 ghost use Rattle.std.specs.Prelude.{◌≡◌, ◌+◌, ◌*◌, ◌-◌, ◌≤◌, ◌<◌, length};
 ghost use Rattle.rules.specs.Limits.{max_vertices};
-ghost use Rattle.border_theory.specs.Memory.Moves.{new_held, forward_held, backward_held, ended_held, turned_held, next_cut, last_cut, marked_held};
+ghost use Rattle.border_theory.specs.Memory.Moves.{new_held, forward_held, backward_held, ended_held, turned_held, next_cut, last_cut};
+ghost use Rattle.border_theory.specs.Memory.Moves.{marked_held};
 ghost use Rattle.border_theory.specs.Memory.Moves.{doubled, split_held, union_held, start_held};
 ghost use Rattle.border_theory.specs.Memory.Near.{Near, Borders, Doubles, Starts};
 

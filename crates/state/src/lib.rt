@@ -1,6 +1,8 @@
 // A builder's state and the core's. The way there is refusal 21: whether a building can go on with a state and the buffers that it is
 // lent. The way back gives the core's state and its plain memory as a builder's state. The contracts cite rules/specs/Sound.antt and
 // state_theory/specs/.
+#![tactic(auto)]
+
 mod counts; // the counts, the sums, the triangles' numbers
 mod front; // the core's state and the numbers of its own in the memory
 mod marks; // the loops, walked place by place

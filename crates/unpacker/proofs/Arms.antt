@@ -1,7 +1,7 @@
 -- The last arm of a match over the operations, which stands for all that no other arm names; these are listed by their tags.
 -- Assumes nothing.
 use Prim.Native.Nat.{ℕ}
-use mathlib.Core.Bool.{true, false}
+use mathlib.Core.Bool.{false}
 use mathlib.Core.List.{List, [], ◌∷◌}
 use mathlib.Core.Path.{◌≡◌, refl}
 use types.Run.{OneOf, miss}

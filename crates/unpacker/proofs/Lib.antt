@@ -1,4 +1,3 @@
-pub mod Again
 pub mod Arms
 pub mod Fielding
 pub mod Reading

@@ -1,5 +1,7 @@
 // Unpacking: a pack's operations are run on the cut-border, and the model is tested. What the contracts cite stands in
 // unpack_theory/specs/.
+#![tactic(auto)]
+
 mod tidy; // what the triangle buffer is left with
 mod common; // deciding and doing, new and forward at hand
 mod conclude; // 19, 20, and the answer

@@ -62,7 +62,8 @@ module _ (bs : List ℕ) where
   left : (at : ℕ) → length (drop at (bits_of_bytes bs)) ≡ 8 * length bs - at
   left at = length-drop at (bits_of_bytes bs) ∙ ap (λ (k : ℕ). k - at) (length_bits_of_bytes bs)
 
-  within : (n at : ℕ) → length bs ≤ most_bytes → number_at n bs at ≡ number_in (8 * length bs) (read_number n 0 (drop at (bits_of_bytes bs)))
+  within : (n at : ℕ) → length bs ≤ most_bytes
+      → number_at n bs at ≡ number_in (8 * length bs) (read_number n 0 (drop at (bits_of_bytes bs)))
   unfolding number_at
   within n at h = rw (le-leb (length bs) most_bytes h)
 
@@ -186,7 +187,8 @@ module _ (bs : List ℕ) (at : ℕ) where
     by_union e r f =
         let n : Numbered 3 bs at c next = numbered bs 3 at c next (omega arith) first in
         f ∙ union_by n (number_at 7 bs next) refl
-        ∙ sym (by_code c next n ∙ ap (λ (k : ℕ). operation_in (8 * length bs) (read_indices (kind_in k kinds) (drop next (bits_of_bytes bs)))) e)
+        ∙ sym (by_code c next n ∙ ap
+        (λ (k : ℕ). operation_in (8 * length bs) (read_indices (kind_in k kinds) (drop next (bits_of_bytes bs)))) e)
 
     pub by_kind : (c ≡ 4 → ⊥) → (c ≡ 6 → ⊥) → (o : Operation) → o ≡ kind_in c kinds → Found o next ≡ operation_at bs at
     by_kind h k o e =

@@ -1,8 +1,6 @@
-pub mod Asking
 pub mod Codes
 pub mod Contents
 pub mod Header
-pub mod Held
 pub mod Notes
 pub mod Reading
 pub mod Told

@@ -128,7 +128,8 @@ module _ (buffer : List ℕ) (at : ℕ) (o : Operation) (n next : ℕ) (wide : n
       let p : written_at buffer at xs
       ≡ paste buffer (at / 8) (four_bytes (word_of (get_or buffer (at / 8) 0) (at % 8) (length xs) (value_of 0 xs)))
       (bytes_for (at % 8 + length xs)) =
-      written_word buffer at xs (below_all 256 buffer (λ i. (all i).fits)) (operation_bits_are o) (omega (arith, width_most o)) (omega arith)
+      written_word buffer at xs (below_all 256 buffer (λ i. (all i).fits)) (operation_bits_are o) (omega (arith, width_most o))
+      (omega arith)
       (omega arith) in
       let q : word_of b (at % 8) n v ≡ word_of (get_or buffer (at / 8) 0) (at % 8) (length xs) (value_of 0 xs) = rw (eb, ev, m) in
       let r : paste buffer (at / 8) (four_bytes w) ((at % 8 + n + 7) / 8) ≡ written_at buffer at xs =

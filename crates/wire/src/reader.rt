@@ -14,14 +14,14 @@ use rules::Operation;
 const MOST_BYTES: usize = 65535;
 
 // A number that was read, and the bit position after it; or the bytes end before it does.
-#[derive(Drop)]
+#[derive(Clone, Copy)]
 pub enum Number {
     Value(u16, usize),
     BrokenOff,
 }
 
 // An operation that was read, and the bit position after it; or the bytes end inside its code or an index.
-#[derive(Drop)]
+#[derive(Clone, Copy)]
 pub enum OperationRead {
     Found(Operation, usize),
     BreaksOff,
@@ -77,7 +77,7 @@ fn ten_at(bytes: &[u8], at: usize) -> Number
 }
 
 // The operation reader: the bytes it was lent and a bit position.
-#[derive(Drop)]
+#[derive(Clone, Copy)]
 pub struct OperationReader<'a> {
     pub bytes: &'a [u8],
     pub at: usize,
@@ -105,6 +105,7 @@ pub fn read10<'a>(r: OperationReader<'a>) -> Number
 }
 
 // The kind of an operation, by its code; its indices are read apart.
+#[tactic(auto, unfolding(rules::specs::Code::kind_in))]
 pub fn kind_of(code: u16) -> Operation
     ensures { result ≡ kind_in code kinds }
 {

@@ -1,0 +1,13 @@
+use native.Mathlib.Omega.{arith}
+use Rattle.volume_theory.proofs.Fitting.{told}
+use Rattle.volume_theory.proofs.Measuring.{none_summed, more_summed}
+use Rattle.determinants.proofs.six_of.Goals as goal
+
+pub loop-t-init : goal.loop-t-init
+loop-t-init c = none_summed _ _ _
+
+pub loop-t-preserved : goal.loop-t-preserved
+loop-t-preserved c = more_summed _ _ _ _ _ _ c.requires.few c.loop-t-test.true c.loop-t.invariant
+    (told (record { sfits = c.of_triangle.type_inv }) c.of_triangle.ensures) c.plus-sum.result
+    (c.requires.each _ (omega (arith, c.loop-t-test.true, c.loop-t.invariant.within))).long (record { sfits = c.plus-sum.type_inv })
+    c.plus-sum.ensures
