@@ -1,3 +1,2 @@
-pub mod Laws
 pub mod Meaning
 pub mod Numbers

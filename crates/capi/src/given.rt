@@ -6,6 +6,7 @@ use rules::{Counts, Operation};
 use wire::reader::kind_of;
 
 // A number of 16 bits; a larger one is 65,535, which is above every limit of the rules.
+#[tactic(auto, unfolding(crate::specs::Given::within16))]
 fn within_16(n: u32) -> u16
     ensures { result ≡ within16 n }
 {
@@ -28,6 +29,7 @@ pub(crate) fn counts_of(vertices: u32, triangles: u32, places: u32, loops: u32) 
 }
 
 // A split to place i; to one above 65,535 it is the split to place 0, which the table never allows.
+#[tactic(auto, unfolding(crate::specs::Given::split_of))]
 fn split_of(i: u32) -> Operation
     ensures { result ≡ split_of i }
 {
@@ -38,6 +40,7 @@ fn split_of(i: u32) -> Operation
 }
 
 // A union with place j of loop p; one of an index above 65,535 is the split to place 0.
+#[tactic(auto, unfolding(crate::specs::Given::union_of))]
 fn union_of(p: u32, j: u32) -> Operation
     ensures { result ≡ union_of p j }
 {
@@ -51,6 +54,7 @@ fn union_of(p: u32, j: u32) -> Operation
 }
 
 // The operation of a code that has no index; a code above 7 is the split to place 0.
+#[tactic(auto, unfolding(crate::specs::Given::plain_of))]
 fn plain_of(code: u32) -> Operation
     ensures { result ≡ plain_of code }
 {
@@ -61,6 +65,7 @@ fn plain_of(code: u32) -> Operation
 }
 
 // The operation of a code with its indices, which split (4) and union (6) have.
+#[tactic(auto, unfolding(crate::specs::Given::operation_of))]
 pub(crate) fn operation_of(code: u32, p: u32, j: u32) -> Operation
     ensures { result ≡ operation_of code p j }
 {

@@ -3,6 +3,8 @@
 // stands, which is always written. A slice is a pointer and a count of entries. Place records and builders lie in memory as C lays them
 // out (`repr(C)`): a record is 8 bytes, its `open` a bool, so 0 or 1; a builder is 213 numbers of 16 bits. What a caller's numbers cannot
 // mean is refused by a rule: specs/Given.antt says by which. The contracts cite specs/Exported.antt.
+#![tactic(auto)]
+
 mod answered; // answers as numbers
 mod given; // counts and operations from numbers
 

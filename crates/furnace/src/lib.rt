@@ -1,5 +1,7 @@
 // The furnace's own reader, for C and Rust, on the workshop's box and on the furnace's part: a library of one function. Its contract cites
 // specs/Reading.antt.
+#![tactic(auto)]
+
 ghost use Rattle.furnace.specs.Reading.{Reads};
 
 use cells::BYTES;

@@ -7,7 +7,7 @@ use lib.ListN.{length, take, get_or}
 use lib.Seq.{take-suc, take-length}
 use Rattle.rules.specs.declared.Counts.{Counts}
 use Rattle.rules.specs.declared.Operation.{Operation}
-use Rattle.rules.specs.declared.Operation.TheVariants.{Start}
+use Rattle.rules.specs.declared.Operation.TheVariants.{New}
 use Rattle.rules.specs.declared.Place.{Place}
 use Rattle.rules.specs.declared.Builder.{Builder}
 use Rattle.rules.specs.declared.Checked.{Checked}
@@ -97,11 +97,11 @@ module _ (s : Counts) (ts : List ℕ) (ps : List Place) (b : Builder) (ts₁ : L
 
   -- operation i of the list
   pub reached_more : (os : List Operation) (i : ℕ) → i < length os → (r : Performed) (ts₂ : List ℕ) (ps₂ : List Place)
-      → Reached s (take i os) ts ps b ts₁ ps₁ → Operating b (get_or os i Start) ts₁ ps₁ r ts₂ ps₂
+      → Reached s (take i os) ts ps b ts₁ ps₁ → Operating b (get_or os i New) ts₁ ps₁ r ts₂ ps₂
       → Reached s (take (suc i) os) ts ps r.state ts₂ ps₂
   reached_more os i l r ts₂ ps₂ g h =
-      subst (λ (zs : List Operation). Reached s zs ts ps r.state ts₂ ps₂) (sym (take-suc os i Start l))
-      (reached_on (take i os) (get_or os i Start) r ts₂ ps₂ g h)
+      subst (λ (zs : List Operation). Reached s zs ts ps r.state ts₂ ps₂) (sym (take-suc os i New l))
+      (reached_on (take i os) (get_or os i New) r ts₂ ps₂ g h)
 
   pub reached_end : (os : List Operation) (r : Finished) → Reached s (take (length os) os) ts ps b ts₁ ps₁ → Finishing b ts₁ ps₁ r
       → Rehearsed s os ts ps r ts₁ ps₁

@@ -57,12 +57,14 @@ rehearsal_meets_the_book s os ts ps r ts' ps' h l k x =
           last_same x.answers (accepted ∷ answers n (empty_book s) (operations os)) (finished_answer r) (answer n (book_of n s os) finish)
           (e ∙ ap (λ (xs : List Answer). accepted ∷ xs) (b.each_answer ∙ answers_more n (empty_book s) (operations os) finish));
       book =
-          subst (λ (xs : List Answer). KeepsTheBook (lent_world ts ps) s (calls_of os) xs (left_by x) (after_all n (empty_book s) (calls_of os)))
+          subst (λ (xs : List Answer).
+          KeepsTheBook (lent_world ts ps) s (calls_of os) xs (left_by x) (after_all n (empty_book s) (calls_of os)))
           b.each_answer b;
     }
 
 pub tetrahedron_rehearsed : TetrahedronRehearsed
-unfolding corners edges_of same hit occurs count different pairs about leaving entering turn_on turn_back one_run one_fan_each all_open vertex_at
+unfolding corners edges_of same hit occurs count different pairs about leaving entering turn_on turn_back one_run one_fan_each all_open
+    vertex_at
     last_open last_vertex front onward reached places loop_at without allowed in_order at_edge at_rest effect test done finishing operations
     after_all
 tetrahedron_rehearsed ts ps r ts' ps' l k x = (rehearsal_meets_the_book _ _ ts ps r ts' ps' refl l k x).answer

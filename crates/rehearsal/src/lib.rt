@@ -1,6 +1,8 @@
 // The service's building calls in a row, on buffers that are lent once: a beginning, any operations, a finish. What they come to is
 // stated by the run of demand 3 (crate promises), so that the theorem on lists of calls speaks of the functions that are called here.
 // The contract cites specs/Rehearsal.antt.
+#![tactic(auto)]
+
 ghost use Rattle.std.specs.Prelude.{◌≡◌};
 ghost use Rattle.rehearsal.specs.Rehearsal.{Rehearsed};
 

@@ -3,18 +3,17 @@
 use Prim.Native.Nat.{ℕ, ◌≤◌, ◌<◌}
 use native.Mathlib.Omega.{arith}
 use mathlib.Core.List.{List}
-use mathlib.Core.Path.{◌≡◌, refl, sym, ap, ◌∙◌, subst}
+use mathlib.Core.Path.{◌≡◌, refl, sym, ap, ◌∙◌}
 use lib.ListN.{length}
 use borrow.Author.Tests.{le-leb, lt-leb}
-use Rattle.rules.specs.declared.Across.{Across}
 use Rattle.rules.specs.declared.Checked.{Checked}
 use Rattle.rules.specs.declared.Checked.TheVariants.{Accepted, Refused}
 use Rattle.rules.specs.Check.{check}
 use Rattle.mesh_theory.specs.Chains.Checks.{check_numbers}
-use Rattle.mesh_theory.specs.Chains.Linked.{Chains, Finds}
+use Rattle.mesh_theory.specs.Chains.Linked.{Chains}
 use Rattle.mesh_theory.proofs.Fans.Checks.{four_passed}
 use Rattle.mesh_theory.proofs.Chains.Checking.{numbers_refuse, numbers_low, numbers_four}
-use Rattle.search.specs.Searching.{of_four, LinkGives, told, found_in, SearchGives}
+use Rattle.search.specs.Searching.{of_four, LinkGives}
 
 -- `of_four` of a refusal of 1 to 4, and of any other answer
 of_four_lem : (n : ℕ) → n ≤ 4 → n ≡ of_four (Refused n)
@@ -38,14 +37,4 @@ link_passed v xs cs cs' h k = record {
   number = no_four (check v xs) ((four_passed v xs).0 (numbers_four v xs h));
   linked = λ e. k;
   kept = λ e. absurd (e refl);
-}
-
--- an answer that is told
-pub searching : {xs cs : List ℕ} {x y : ℕ} (r a : Across) (before : List ℕ) → Finds xs cs x y r → r ≡ a
-    → SearchGives xs cs x y before (told a) (found_in a before)
-searching {xs} {cs} {x} {y} r a before f e = record {
-  answer = a;
-  right = (subst (Finds xs cs x y) e f).searched;
-  number = refl;
-  written = refl;
 }

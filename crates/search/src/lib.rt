@@ -1,5 +1,7 @@
 // The search for the triangle that has a directed edge (C-12), alone, for C and Rust: a list is linked once and searched for any number
 // of edges. 5 to 7 are not tested. The contracts cite specs/Searching.antt.
+#![tactic(auto)]
+
 ghost use Rattle.search.specs.Searching.{LinkGives, SearchGives};
 
 use corners::{Links, across, link_each};

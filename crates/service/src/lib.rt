@@ -2,6 +2,8 @@
 // record: each calls its core and clears as many as the answer says. An operation and a finish load the records into a plain memory and
 // call the core that works there; of these the operation then links and frees those that it touched, the finish changes nothing. What
 // each call promises stands on one page, promises/specs/Promises.antt.
+#![tactic(auto)]
+
 ghost use Rattle.std.specs.Prelude.{◌≡◌, ◌+◌, ◌≤◌, length, take, drop};
 ghost use Rattle.rules.specs.Later.{not_given, given};
 ghost use Rattle.rules.specs.PackWhole.{extras};
