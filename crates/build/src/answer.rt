@@ -9,21 +9,21 @@ use builder::operation::operation_on;
 use cutborder::Memory;
 use places::settle;
 use rules::{Builder, Checked, Counts, Finished, Operated, Operation, Totals, Triangle};
+use std::io::Stdout;
 use text::show::print_refusal;
 use text::streams::{Output, say};
 use text::words::{is_same, word_end, word_start};
 
-// A builder, how long the buffers are that it is lent, and where the answers go.
-#[derive(Drop)]
+// A builder, and how long the buffers are that it is lent.
+#[derive(Clone, Copy)]
 pub struct Session {
     pub state: Builder,
     pub entries: usize,
     pub records: usize,
-    pub out: Output,
 }
 
 // What a line's first word calls.
-#[derive(Drop)]
+#[derive(Clone, Copy)]
 enum Call {
     Begin,
     Op,
@@ -39,42 +39,30 @@ pub(crate) fn fresh() -> Session
         state: Builder::empty(),
         entries: 0,
         records: 0,
-        out: Output::fresh(),
     }
 }
 
-// A session after an answer.
-fn answered(s: Session, out: Output) -> Session
-    ensures { (result.entries ≡ s.entries) × (result.records ≡ s.records) }
-{
-    let state = s.state;
-    Session {
-        state,
-        entries: s.entries,
-        records: s.records,
-        out,
-    }
-}
-
-fn print(out: Output, line: &[u8]) -> Output {
-    out.bytes(line).bytes(b"\n")
+fn print(out: &mut Output<Stdout>, line: &[u8]) {
+    out.bytes(line);
+    out.bytes(b"\n");
 }
 
 // A line as the answer.
-fn told(s: Session, line: &[u8]) -> Session
+fn told(out: &mut Output<Stdout>, s: Session, line: &[u8]) -> Session
     ensures { (result.entries ≡ s.entries) × (result.records ≡ s.records) }
 {
-    let out = s.out;
-    answered(s, print(out, line))
+    print(out, line);
+    s
 }
 
-// A line that is no call: the answer is `error` and why, which is said too.
-fn no_call(s: Session, why: &[u8]) -> Session
+// A line that is no call: the answer is `error` and why, which is said too, after the answers before it.
+fn no_call(rt: &HostRuntime, out: &mut Output<Stdout>, s: Session, why: &[u8]) -> Session
     ensures { (result.entries ≡ s.entries) × (result.records ≡ s.records) }
 {
-    say(b"build", why);
-    let out = s.out;
-    answered(s, print(out.bytes(b"error "), why))
+    out.flush();
+    say(rt, b"build", why);
+    out.bytes(b"error ");
+    told(out, s, why)
 }
 
 // The smaller of a length and the most that there is.
@@ -88,14 +76,14 @@ fn at_most(n: u16, most: usize) -> usize
     wide
 }
 
-fn print_triangle(out: Output, t: Triangle) -> Output {
-    out.bytes(b"ok ")
-        .number(t.p, b' ')
-        .number(t.q, b' ')
-        .number(t.r, b'\n')
+fn print_triangle(out: &mut Output<Stdout>, t: Triangle) {
+    out.bytes(b"ok ");
+    out.number(t.p, b' ');
+    out.number(t.q, b' ');
+    out.number(t.r, b'\n');
 }
 
-fn print_operated(out: Output, a: Operated) -> Output {
+fn print_operated(out: &mut Output<Stdout>, a: Operated) {
     match a {
         Operated::Built(t) => print_triangle(out, t),
         Operated::Marked => print(out, b"ok"),
@@ -103,25 +91,16 @@ fn print_operated(out: Output, a: Operated) -> Output {
     }
 }
 
-// Prints a number that may be below zero.
-fn print_signed(out: Output, n: i32) -> Output {
-    let wide = n as i64;
-    if wide < 0 {
-        return out.bytes(b"-").decimal((0 - wide) as u64);
-    }
-    out.decimal(wide as u64)
+fn print_totals(out: &mut Output<Stdout>, t: Totals) {
+    out.bytes(b"ok ");
+    out.number(t.edges, b' ');
+    out.number(t.rims, b' ');
+    out.number(t.unions, b' ');
+    out.signed(t.euler as i64);
+    out.bytes(b"\n");
 }
 
-fn print_totals(start: Output, t: Totals) -> Output {
-    let out = start
-        .bytes(b"ok ")
-        .number(t.edges, b' ')
-        .number(t.rims, b' ')
-        .number(t.unions, b' ');
-    print_signed(out, t.euler).bytes(b"\n")
-}
-
-fn print_finished(out: Output, f: Finished) -> Output {
+fn print_finished(out: &mut Output<Stdout>, f: Finished) {
     match f {
         Finished::Totals(t) => print_totals(out, t),
         Finished::Refused(n) => print_refusal(out, n),
@@ -129,7 +108,13 @@ fn print_finished(out: Output, f: Finished) -> Output {
 }
 
 // A beginning: the model that is begun, or the one as it was.
-fn begin(n: Numbers, s: Session, triangles: &mut [u16], m: &mut Memory) -> Session
+fn begin(
+    out: &mut Output<Stdout>,
+    n: Numbers,
+    s: Session,
+    triangles: &mut [u16],
+    m: &mut Memory,
+) -> Session
     requires { (s.entries ≤ length triangles.old) × (s.records ≤ max_places) }
     ensures { (result.entries ≤ length triangles.old) × (result.records ≤ max_places) }
 {
@@ -143,37 +128,48 @@ fn begin(n: Numbers, s: Session, triangles: &mut [u16], m: &mut Memory) -> Sessi
     let entries = at_most(v[4], triangles.len());
     let records = at_most(v[5], Builder::MAX_PLACES);
     let r = begin_on(stated, &mut triangles[..entries], records);
-    let a = r.answer;
-    let state = r.state;
-    let out = s.out;
-    if let Checked::Refused(k) = a {
-        return answered(s, print_refusal(out, k));
+    if let Checked::Refused(k) = r.answer {
+        print_refusal(out, k);
+        return s;
     }
     *m = places::empty();
+    print(out, b"ok");
     Session {
-        state,
+        state: r.state,
         entries,
         records,
-        out: print(out, b"ok"),
     }
 }
 
 // The line of a beginning.
-fn begin_line(n: Numbers, s: Session, triangles: &mut [u16], m: &mut Memory) -> Session
+fn begin_line(
+    rt: &HostRuntime,
+    out: &mut Output<Stdout>,
+    n: Numbers,
+    s: Session,
+    triangles: &mut [u16],
+    m: &mut Memory,
+) -> Session
     requires { (s.entries ≤ length triangles.old) × (s.records ≤ max_places) }
     ensures { (result.entries ≤ length triangles.old) × (result.records ≤ max_places) }
 {
     if n.count != 6 {
-        return no_call(s, b"no such call");
+        return no_call(rt, out, s, b"no such call");
     }
     if !n.valid {
-        return no_call(s, b"not a number");
+        return no_call(rt, out, s, b"not a number");
     }
-    begin(n, s, triangles, m)
+    begin(out, n, s, triangles, m)
 }
 
 // An operation.
-fn operate(o: Operation, s: Session, triangles: &mut [u16], m: &mut Memory) -> Session
+fn operate(
+    out: &mut Output<Stdout>,
+    o: Operation,
+    s: Session,
+    triangles: &mut [u16],
+    m: &mut Memory,
+) -> Session
     requires { (s.entries ≤ length triangles.old) × (s.records ≤ max_places) }
     ensures { (result.entries ≤ length triangles.old) × (result.records ≤ max_places) }
 {
@@ -181,61 +177,78 @@ fn operate(o: Operation, s: Session, triangles: &mut [u16], m: &mut Memory) -> S
     let records = s.records;
     settle(m);
     let r = operation_on(s.state, o, &mut triangles[..entries], m, records);
-    let a = r.answer;
-    let state = r.state;
-    let out = s.out;
+    print_operated(out, r.answer);
     Session {
-        state,
+        state: r.state,
         entries,
         records,
-        out: print_operated(out, a),
     }
 }
 
 // The line of an operation.
-fn operation_line(o: Named, s: Session, triangles: &mut [u16], m: &mut Memory) -> Session
+fn operation_line(
+    rt: &HostRuntime,
+    out: &mut Output<Stdout>,
+    o: Named,
+    s: Session,
+    triangles: &mut [u16],
+    m: &mut Memory,
+) -> Session
     requires { (s.entries ≤ length triangles.old) × (s.records ≤ max_places) }
     ensures { (result.entries ≤ length triangles.old) × (result.records ≤ max_places) }
 {
     match o {
-        Named::Found(o) => operate(o, s, triangles, m),
-        Named::NoNumber => no_call(s, b"not a number"),
-        Named::Nothing => no_call(s, b"no such operation"),
+        Named::Found(o) => operate(out, o, s, triangles, m),
+        Named::NoNumber => no_call(rt, out, s, b"not a number"),
+        Named::Nothing => no_call(rt, out, s, b"no such operation"),
     }
 }
 
 // A finish, where nothing follows the word.
-fn finish_line(n: Numbers, s: Session, triangles: &[u16], m: &mut Memory) -> Session
+fn finish_line(
+    rt: &HostRuntime,
+    out: &mut Output<Stdout>,
+    n: Numbers,
+    s: Session,
+    triangles: &[u16],
+    m: &mut Memory,
+) -> Session
     requires { (s.entries ≤ length triangles.now) × (s.records ≤ max_places) }
     ensures { (result.entries ≡ s.entries) × (result.records ≡ s.records) }
 {
     if n.count != 0 {
-        return no_call(s, b"no such call");
+        return no_call(rt, out, s, b"no such call");
     }
     let entries = s.entries;
     let records = s.records;
     settle(m);
     let r = finish_on(s.state, &triangles[..entries], m, records);
-    let out = s.out;
-    answered(s, print_finished(out, r))
+    print_finished(out, r);
+    s
 }
 
 // Answers a line.
-pub(crate) fn answer_line(line: &[u8], s: Session, triangles: &mut [u16], m: &mut Memory) -> Session
+pub(crate) fn answer_line(
+    rt: &HostRuntime,
+    out: &mut Output<Stdout>,
+    line: &[u8],
+    s: Session,
+    triangles: &mut [u16],
+    m: &mut Memory,
+) -> Session
     requires { (s.entries ≤ length triangles.old) × (s.records ≤ max_places) }
     ensures { (result.entries ≤ length triangles.old) × (result.records ≤ max_places) }
 {
     if is_remark(line) {
-        return told(s, line);
+        return told(out, s, line);
     }
     let start = word_start(line, 0);
     let end = word_end(line, start);
-    let c = call_of(&line[start..end]);
-    match c {
-        Call::Begin => begin_line(numbers_from(line, end), s, triangles, m),
-        Call::Op => operation_line(operation_from(line, end), s, triangles, m),
-        Call::Finish => finish_line(numbers_from(line, end), s, triangles, m),
-        Call::Nothing => no_call(s, b"no such call"),
+    match call_of(&line[start..end]) {
+        Call::Begin => begin_line(rt, out, numbers_from(line, end), s, triangles, m),
+        Call::Op => operation_line(rt, out, operation_from(line, end), s, triangles, m),
+        Call::Finish => finish_line(rt, out, numbers_from(line, end), s, triangles, m),
+        Call::Nothing => no_call(rt, out, s, b"no such call"),
     }
 }
 

@@ -1,3 +1,5 @@
+#![tactic(auto)]
+
 // Reads building calls from standard input, or from the file that an argument names, a line for each, and prints the answers, a line for
 // each:
 //     begin V T PLACES LOOPS ENTRIES RECORDS     a beginning with these counts, in buffers of these lengths
@@ -14,10 +16,10 @@ ghost use Rattle.rules.specs.Limits.{max_places};
 
 use crate::answer::{Session, answer_line, fresh};
 use cutborder::Memory;
-use libc::{STDERR_FILENO, STDIN_FILENO};
 use rules::CORNERS;
+use std::io::{Error, Stdout, Write};
 use text::arguments::{Wish, wish_of};
-use text::inputs::open_input;
+use text::inputs::{Source, open_input};
 use text::streams::{Output, Read, read_more, say, say_failed};
 use text::words::line_end;
 
@@ -25,14 +27,14 @@ use text::words::line_end;
 const MOST_BYTES: usize = 65536;
 
 // After the lines that are whole: where the next begins.
-#[derive(Drop)]
+#[derive(Clone, Copy)]
 struct Answered {
     session: Session,
     next: usize,
 }
 
 // After a turn: how many bytes are held of a line that has not ended, and whether the program is over.
-#[derive(Drop)]
+#[derive(Clone, Copy)]
 struct Turn {
     session: Session,
     held: usize,
@@ -50,22 +52,22 @@ fn over(s: Session) -> Turn
 }
 
 // Input that cannot be read is not at its end: the line that has begun is not run.
-fn unread(fd: i32, s: Session) -> Turn
+fn unread(rt: &HostRuntime, source: &Source, why: Error, s: Session) -> Turn
     ensures { (result.held ≡ 0) × (result.session.entries ≡ s.entries) × (result.session.records ≡ s.records) }
 {
-    if fd == STDIN_FILENO {
-        say_failed(b"build", b"cannot read standard input");
-    } else {
-        say_failed(b"build", b"cannot read the calls");
+    match source {
+        Source::Standard(_) => say_failed(rt, b"build", b"cannot read standard input", why),
+        Source::File(_) => say_failed(rt, b"build", b"cannot read the calls", why),
     }
     over(s)
 }
 
 // A line that the buffer cannot hold is not run.
-fn too_long(s: Session) -> Turn
+fn too_long(rt: &HostRuntime, s: Session) -> Turn
     ensures { (result.held ≡ 0) × (result.session.entries ≡ s.entries) × (result.session.records ≡ s.records) }
 {
     say(
+        rt,
         b"build",
         b"a line of more than 65,536 bytes is not run, nor is what follows it",
     );
@@ -74,6 +76,8 @@ fn too_long(s: Session) -> Turn
 
 // Answers each line that has ended; none ends before a position.
 fn answer_whole(
+    rt: &HostRuntime,
+    out: &mut Output<Stdout>,
     input: &[u8],
     from: usize,
     start: Session,
@@ -88,7 +92,7 @@ fn answer_whole(
     let mut at = 0;
     let mut end = line_end(input, from);
     while end < input.len() {
-        s = answer_line(&input[at..end], s, triangles, m);
+        s = answer_line(rt, out, &input[at..end], s, triangles, m);
         at = end + 1;
         end = line_end(input, at);
     }
@@ -99,14 +103,21 @@ fn answer_whole(
 }
 
 // Answers what the input ends with: a line with no line feed, or nothing.
-fn answer_last(line: &[u8], s: Session, triangles: &mut [u16], m: &mut Memory) -> Turn
+fn answer_last(
+    rt: &HostRuntime,
+    out: &mut Output<Stdout>,
+    line: &[u8],
+    s: Session,
+    triangles: &mut [u16],
+    m: &mut Memory,
+) -> Turn
     requires { (s.entries ≤ length triangles.old) × (s.records ≤ max_places) }
     ensures { (result.held ≡ 0) × (result.session.entries ≤ length triangles.old) × (result.session.records ≤ max_places) }
 {
     if line.len() == 0 {
         return over(s);
     }
-    over(answer_line(line, s, triangles, m))
+    over(answer_line(rt, out, line, s, triangles, m))
 }
 
 // Moves the bytes between two positions to the front, and answers how many they are.
@@ -118,26 +129,30 @@ fn keep(input: &mut [u8], from: usize, to: usize) -> usize
     if from == 0 {
         return n;
     }
-    let mut i = 0;
-    while i < n {
+    for i in 0..n {
         input[i] = input[from + i];
-        i += 1;
     }
     n
 }
 
 // Keeps what was read of a line that has not ended.
-fn keep_rest(next: usize, n: usize, s: Session, input: &mut [u8]) -> Turn
+fn keep_rest(
+    rt: &HostRuntime,
+    out: &Output<Stdout>,
+    next: usize,
+    n: usize,
+    s: Session,
+    input: &mut [u8],
+) -> Turn
     requires { (next ≤ n) × (n ≤ length input.old) × (0 < length input.old) }
     ensures { (result.held < length input.old) × (result.session.entries ≡ s.entries) × (result.session.records ≡ s.records) }
 {
-    let out = s.out;
-    if out.failed {
+    if out.has_failed() {
         return over(s);
     }
     let held = keep(input, next, n);
     if held == input.len() {
-        return too_long(s);
+        return too_long(rt, s);
     }
     Turn {
         session: s,
@@ -148,6 +163,8 @@ fn keep_rest(next: usize, n: usize, s: Session, input: &mut [u8]) -> Turn
 
 // Answers the lines that have ended by a position, of which the first has not ended in what was held.
 fn answer_read(
+    rt: &HostRuntime,
+    out: &mut Output<Stdout>,
     n: usize,
     held: usize,
     s: Session,
@@ -159,15 +176,16 @@ fn answer_read(
     ensures { (result.held < length input.old) × (result.session.entries ≤ length triangles.old)
         × (result.session.records ≤ max_places) }
 {
-    let a = answer_whole(&input[..n], held, s, triangles, m);
-    let next = a.next;
-    let session = a.session;
-    keep_rest(next, n, session, input)
+    let a = answer_whole(rt, out, &input[..n], held, s, triangles, m);
+    out.flush();
+    keep_rest(rt, out, a.next, n, a.session, input)
 }
 
 // Reads once and answers the lines that have ended by then. There is room, so that nothing read is the end of the input.
 fn take_turn(
-    fd: i32,
+    rt: &HostRuntime,
+    source: &mut Source,
+    out: &mut Output<Stdout>,
     held: usize,
     s: Session,
     input: &mut [u8],
@@ -178,70 +196,83 @@ fn take_turn(
     ensures { (result.held < length input.old) × (result.session.entries ≤ length triangles.old)
         × (result.session.records ≤ max_places) }
 {
-    let r = read_more(fd, input, held);
-    let Read::To(n) = r else {
-        return unread(fd, s);
+    let n = match read_more(source, input, held) {
+        Read::To(n) => n,
+        Read::Failed(why) => return unread(rt, source, why, s),
     };
     if n == held {
-        return answer_last(&input[..n], s, triangles, m);
+        return answer_last(rt, out, &input[..n], s, triangles, m);
     }
-    answer_read(n, held, s, input, triangles, m)
+    answer_read(rt, out, n, held, s, input, triangles, m)
 }
 
 // Input that does not end.
-fn endless(s: Session) -> Output {
-    say(b"build", b"the input is too long");
-    s.out
+fn endless(rt: &HostRuntime) {
+    say(rt, b"build", b"the input is too long");
 }
 
 // Reads the calls and answers them. The count of turns is one that no input uses up.
-fn answer_all(fd: i32, input: &mut [u8], triangles: &mut [u16], m: &mut Memory) -> Output
+fn answer_all(
+    rt: &HostRuntime,
+    source: &mut Source,
+    out: &mut Output<Stdout>,
+    input: &mut [u8],
+    triangles: &mut [u16],
+    m: &mut Memory,
+)
     requires { 0 < length input.old }
 {
     let mut s = fresh();
     let mut held = 0;
-    let mut left = u64::MAX;
-    while 0 < left {
-        let t = take_turn(fd, held, s, input, triangles, m);
+    for _ in 0..u64::MAX {
+        let t = take_turn(rt, source, out, held, s, input, triangles, m);
         held = t.held;
         s = t.session;
         if t.over {
-            return s.out;
+            return;
         }
-        left -= 1;
     }
-    endless(s)
+    endless(rt);
 }
 
 // Opens the calls and answers them.
-fn run() -> Output {
-    let fd = open_input(b"build", 1);
-    if fd < 0 {
-        return Output::fresh();
-    }
+fn run(rt: &HostRuntime) {
+    let Ok(mut source) = open_input(rt, b"build", 1) else {
+        return;
+    };
     let mut input = [0u8; MOST_BYTES + 1];
     let mut triangles = [0u16; CORNERS];
     let mut m = places::empty();
-    answer_all(fd, &mut input, &mut triangles, &mut m)
+    let mut out = Output::fresh(rt);
+    answer_all(
+        rt,
+        &mut source,
+        &mut out,
+        &mut input,
+        &mut triangles,
+        &mut m,
+    );
+    out.end(rt, b"build");
 }
 
-fn print_use(out: Output) -> Output {
-    out.bytes(b"usage: build [CALLS]\n")
-        .bytes(b"Answers building calls, of a file or of standard input (-), a line for each:\n")
-        .bytes(b"  begin V T PLACES LOOPS ENTRIES RECORDS\n")
-        .bytes(b"  op new | forward | backward | border | split I | close | union P J | start\n")
-        .bytes(b"  finish\n")
-        .bytes(
-            b"by ok and what the call gives; or by refused and the number, which the program explain explains; or by error\n",
-        )
-        .bytes(b"if the line is none of these. A line that starts with # is its own answer.\n")
+fn print_use<W: Write + Drop>(rt: &HostRuntime, to: W) {
+    let mut out = Output::to(to);
+    out.bytes(b"usage: build [CALLS]\n");
+    out.bytes(b"Answers building calls, of a file or of standard input (-), a line for each:\n");
+    out.bytes(b"  begin V T PLACES LOOPS ENTRIES RECORDS\n");
+    out.bytes(b"  op new | forward | backward | border | split I | close | union P J | start\n");
+    out.bytes(b"  finish\n");
+    out.bytes(
+        b"by ok and what the call gives; or by refused and the number, which the program explain explains; or by error\n",
+    );
+    out.bytes(b"if the line is none of these. A line that starts with # is its own answer.\n");
+    out.end(rt, b"build");
 }
 
-fn main() {
-    let w = wish_of(1, 1);
-    match w {
-        Wish::Run => run().end(b"build"),
-        Wish::Help => print_use(Output::fresh()).end(b"build"),
-        Wish::Wrong => print_use(Output::to(STDERR_FILENO)).end(b"build"),
+fn main(rt: HostRuntime) {
+    match wish_of(&rt, 1, 1) {
+        Wish::Run => run(&rt),
+        Wish::Help => print_use(&rt, rt.stdout()),
+        Wish::Wrong => print_use(&rt, rt.stderr()),
     }
 }

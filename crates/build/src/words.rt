@@ -6,7 +6,7 @@ use text::words::{is_same, number_of, word_end, word_start};
 
 // The numbers after a line's first words: how many there are, 7 where there are more than six; whether all are numbers; and the
 // first six.
-#[derive(Drop)]
+#[derive(Clone, Copy)]
 pub struct Numbers {
     pub count: usize,
     pub valid: bool,
@@ -14,7 +14,7 @@ pub struct Numbers {
 }
 
 // The operation that a line names, or why it names none.
-#[derive(Drop)]
+#[derive(Clone, Copy)]
 pub enum Named {
     Found(Operation),
     NoNumber,

@@ -1,3 +1,5 @@
+#![tactic(auto)]
+
 // Reads a model as text from standard input: V, then the vertex numbers, decimal, with white space between. It prints `ok` if the list
 // passes 1 to 7, or `refused` and the number. With arguments it does so for each in turn: the model of the file that it names, or for "-"
 // that of standard input. A text that is no model, and what cannot be read, gets a line on standard error and prints nothing; after a
@@ -5,8 +7,8 @@
 ghost use Rattle.std.specs.Prelude.{◌≤◌, length};
 ghost use Rattle.text.specs.Reads.{Holds};
 
-use libc::STDERR_FILENO;
 use rules::Checked;
+use std::io::{Stdout, Write};
 use text::arguments::{Wish, input_count, wish_of};
 use text::inputs::read_input_numbers;
 use text::numbers::{NUMBERS, PART, Told, say_no_model};
@@ -18,79 +20,78 @@ fn wide(x: u16) -> usize {
     x as usize
 }
 
-fn print_checked(out: Output, r: Checked) -> Output {
+fn print_checked(out: &mut Output<Stdout>, r: Checked) {
     match r {
         Checked::Accepted => out.bytes(b"ok\n"),
         Checked::Refused(n) => print_refusal(out, n),
     }
 }
 
-fn no_model(out: Output) -> Output {
-    say_no_model(b"check_list");
-    out
+fn no_model(rt: &HostRuntime) {
+    say_no_model(rt, b"check_list");
 }
 
 // Checks the list of n numbers, the first of which is V.
-fn check_numbers(out: Output, numbers: &[u16], n: usize) -> Output
+fn check_numbers(rt: &HostRuntime, out: &mut Output<Stdout>, numbers: &[u16], n: usize)
     requires { n ≤ length numbers.now }
 {
     if n < 1 {
-        return no_model(out);
+        no_model(rt);
+        return;
     }
     let v = wide(numbers[0]);
     let r = mesh::check(v, &numbers[1..n]);
-    print_checked(out, r)
+    print_checked(out, r);
 }
 
 // Checks what was read, if it was.
-fn check_told(out: Output, t: Told, numbers: &[u16]) -> Output
+fn check_told(rt: &HostRuntime, out: &mut Output<Stdout>, t: Told, numbers: &[u16])
     requires { Holds t numbers.now }
 {
     match t {
-        Told::Numbers(n) => check_numbers(out, numbers, n),
-        Told::NoNumbers => no_model(out),
-        Told::Unread => out,
-        Told::TooLong => out,
+        Told::Numbers(n) => check_numbers(rt, out, numbers, n),
+        Told::NoNumbers => no_model(rt),
+        Told::Unread(_) => {}
+        Told::TooLong => {}
     }
 }
 
 // Reads each model and checks it.
-fn check_each(part: &mut [u8], numbers: &mut [u16]) -> Output {
-    let n = input_count(1);
-    let mut out = Output::fresh();
-    let mut i = 0;
-    while i < n {
-        i += 1;
-        let t = read_input_numbers(b"check_list", i, false, part, numbers);
-        out = check_told(out, t, numbers);
-        if out.failed {
-            return out;
+fn check_each(rt: &HostRuntime, out: &mut Output<Stdout>, part: &mut [u8], numbers: &mut [u16]) {
+    for i in 0..input_count(rt, 1) {
+        let t = read_input_numbers(rt, b"check_list", i + 1, false, part, numbers);
+        check_told(rt, out, t, numbers);
+        out.flush();
+        if out.has_failed() {
+            return;
         }
     }
-    out
 }
 
-fn run() -> Output {
+fn run(rt: &HostRuntime) {
     let mut part = [0u8; PART];
     let mut numbers = [0u16; NUMBERS];
-    check_each(&mut part, &mut numbers)
+    let mut out = Output::fresh(rt);
+    check_each(rt, &mut out, &mut part, &mut numbers);
+    out.end(rt, b"check_list");
 }
 
-fn print_use(out: Output) -> Output {
-    out.bytes(b"usage: check_list [MODEL ..]\n")
-        .bytes(
-            b"Checks each model, of a file or of standard input (-): V, then the vertex numbers of its triangles, decimal.\n",
-        )
-        .bytes(
-            b"Prints ok; or refused and the number of the refusal, which the program explain explains.\n",
-        )
+fn print_use<W: Write + Drop>(rt: &HostRuntime, to: W) {
+    let mut out = Output::to(to);
+    out.bytes(b"usage: check_list [MODEL ..]\n");
+    out.bytes(
+        b"Checks each model, of a file or of standard input (-): V, then the vertex numbers of its triangles, decimal.\n",
+    );
+    out.bytes(
+        b"Prints ok; or refused and the number of the refusal, which the program explain explains.\n",
+    );
+    out.end(rt, b"check_list");
 }
 
-fn main() {
-    let w = wish_of(1, usize::MAX);
-    match w {
-        Wish::Run => run().end(b"check_list"),
-        Wish::Help => print_use(Output::fresh()).end(b"check_list"),
-        Wish::Wrong => print_use(Output::to(STDERR_FILENO)).end(b"check_list"),
+fn main(rt: HostRuntime) {
+    match wish_of(&rt, 1, usize::MAX) {
+        Wish::Run => run(&rt),
+        Wish::Help => print_use(&rt, rt.stdout()),
+        Wish::Wrong => print_use(&rt, rt.stderr()),
     }
 }

@@ -1,11 +1,12 @@
 // The sentence of each refusal, as docs/FORMAT.md has it.
+use std::io::Write;
 use text::streams::Output;
 
 // The highest number of a refusal.
 pub const LAST: u16 = 26;
 
 // Refusals of lists and of packing.
-fn print_first(out: Output, n: u16) -> Output {
+fn print_first<W: Write>(out: &mut Output<W>, n: u16) {
     match n {
         1 => out.bytes(
             b"the list is empty, has over 24,576 numbers, or not three for each triangle\n",
@@ -22,12 +23,12 @@ fn print_first(out: Output, n: u16) -> Output {
         9 => out.bytes(b"an operation of the packing would exceed 1,024 places\n"),
         10 => out.bytes(b"an operation of the packing would exceed 100 live loops\n"),
         11 => out.bytes(b"the pack buffer is shorter than the pack\n"),
-        _ => out,
+        _ => {}
     }
 }
 
 // Refusals of packs and of building.
-fn print_later(out: Output, n: u16) -> Output {
+fn print_later<W: Write>(out: &mut Output<W>, n: u16) {
     match n {
         12 => out.bytes(b"the bytes are not the fields of a pack, each whole and in order\n"),
         13 => out.bytes(b"a count is out of its range\n"),
@@ -54,14 +55,15 @@ fn print_later(out: Output, n: u16) -> Output {
         24 => out.bytes(b"there is no volume: the pack has no positions, or the model has a rim\n"),
         25 => out.bytes(b"the note has no byte or over 64\n"),
         26 => out.bytes(b"over 200 places or over 12 loops are stated\n"),
-        _ => out,
+        _ => {}
     }
 }
 
 // Writes the sentence of a refusal.
-pub fn print_sentence(out: Output, n: u16) -> Output {
+pub fn print_sentence<W: Write>(out: &mut Output<W>, n: u16) {
     if n < 12 {
-        return print_first(out, n);
+        print_first(out, n);
+    } else {
+        print_later(out, n);
     }
-    print_later(out, n)
 }

@@ -1,3 +1,5 @@
+#![tactic(auto)]
+
 // Reads a model as text, from standard input or from the file that an argument names: V, then the vertex numbers, decimal, with white
 // space between. It writes the model's pack to standard output, or a line: `refused` and the number. A text that is no model, what cannot
 // be read, and a text that is too long, gets a line on standard error and nothing else; a write that fails gets such a line too. With
@@ -13,12 +15,12 @@ mod packing; // packing with what is given besides
 ghost use Rattle.std.specs.Prelude.{◌≤◌, length};
 
 use grid::POSITIONS;
-use libc::STDERR_FILENO;
 use note::{NOTE_BUFFER, read_note};
 use options::{Options, print_use, read_options, wish};
 use order::write_order;
 use packing::pack_list;
 use rules::{Packed, TRIANGLES, VERTICES};
+use std::io::Stdout;
 use text::arguments::Wish;
 use text::inputs::read_input_numbers;
 use text::numbers::{NUMBERS, PART, Told, say_no_model};
@@ -26,24 +28,31 @@ use text::packs::MOST_BYTES;
 use text::show::{print_part, print_refusal};
 use text::streams::{Output, Read, say};
 
-fn print_refused(out: Output, r: Packed) -> Output {
+fn print_refused(out: &mut Output<Stdout>, r: Packed) {
     match r {
-        Packed::Length(_) => out,
+        Packed::Length(_) => {}
         Packed::Refused(n) => print_refusal(out, n),
     }
 }
 
 // Writes what a packing of t triangles answered: first the order, if a file is named for it, and then the pack; or the refusal. Where
 // the order cannot be written, neither is the pack.
-fn print_answer(r: Packed, buffer: &[u8], order: &[u16], t: usize, named: usize) -> Output {
-    let out = Output::fresh();
+fn print_answer(
+    rt: &HostRuntime,
+    out: &mut Output<Stdout>,
+    r: Packed,
+    buffer: &[u8],
+    order: &[u16],
+    t: usize,
+    named: usize,
+) {
     let Packed::Length(n) = r else {
-        return print_refused(out, r);
+        print_refused(out, r);
+        return;
     };
-    if !write_order(order, t, named) {
-        return out;
+    if write_order(rt, order, t, named) {
+        print_part(out, buffer, 0, n as usize);
     }
-    print_part(out, buffer, 0, n as usize)
 }
 
 // A number that was read, as a count.
@@ -52,11 +61,20 @@ fn wide(x: u16) -> usize {
 }
 
 // Packs the list of n numbers, the first of which is V, with what is given besides.
-fn pack_numbers(numbers: &[u16], n: usize, given: Options, positions: &[u16], note: &[u8]) -> Output
+fn pack_numbers(
+    rt: &HostRuntime,
+    out: &mut Output<Stdout>,
+    numbers: &[u16],
+    n: usize,
+    given: Options,
+    positions: &[u16],
+    note: &[u8],
+)
     requires { n ≤ length numbers.now }
 {
     if n < 1 {
-        return no_model();
+        no_model(rt);
+        return;
     }
     let mut numbering = [0u16; VERTICES];
     let mut buffer = [0u8; MOST_BYTES];
@@ -72,67 +90,78 @@ fn pack_numbers(numbers: &[u16], n: usize, given: Options, positions: &[u16], no
         &mut buffer,
         &mut order,
     );
-    print_answer(r, &buffer, &order, (n - 1) / 3, given.order)
+    print_answer(rt, out, r, &buffer, &order, (n - 1) / 3, given.order);
 }
 
 // What is no model, and what are no positions, has no pack.
-fn no_model() -> Output {
-    say_no_model(b"pack");
-    Output::fresh()
+fn no_model(rt: &HostRuntime) {
+    say_no_model(rt, b"pack");
 }
 
-fn no_positions() -> Output {
+fn no_positions(rt: &HostRuntime) {
     say(
+        rt,
         b"pack",
         b"no positions: three numbers for each vertex are expected, decimal, with white space between",
     );
-    Output::fresh()
 }
 
 // Reads a model and packs it, with what is given besides.
-fn pack_model(part: &mut [u8], given: Options, positions: &[u16], note: &[u8]) -> Output {
+fn pack_model(
+    rt: &HostRuntime,
+    out: &mut Output<Stdout>,
+    part: &mut [u8],
+    given: Options,
+    positions: &[u16],
+    note: &[u8],
+) {
     let mut numbers = [0u16; NUMBERS];
-    let t = read_input_numbers(b"pack", given.model, false, part, &mut numbers);
-    match t {
-        Told::Numbers(n) => pack_numbers(&numbers, n, given, positions, note),
-        Told::NoNumbers => no_model(),
-        Told::Unread => Output::fresh(),
-        Told::TooLong => Output::fresh(),
+    match read_input_numbers(rt, b"pack", given.model, false, part, &mut numbers) {
+        Told::Numbers(n) => pack_numbers(rt, out, &numbers, n, given, positions, note),
+        Told::NoNumbers => no_model(rt),
+        Told::Unread(_) => {}
+        Told::TooLong => {}
     }
 }
 
 // Reads the positions, if a file is named for them, then a model, and packs it, with a note if it is given.
-fn run_noted(given: Options, note: &[u8]) -> Output {
+fn run_noted(rt: &HostRuntime, out: &mut Output<Stdout>, given: Options, note: &[u8]) {
     let mut part = [0u8; PART];
     let mut positions = [0u16; POSITIONS];
     if given.positions == 0 {
-        return pack_model(&mut part, given, &positions, note);
+        pack_model(rt, out, &mut part, given, &positions, note);
+        return;
     }
-    let t = read_input_numbers(b"pack", given.positions, true, &mut part, &mut positions);
-    match t {
-        Told::Numbers(n) => pack_model(&mut part, given, &positions[..n], note),
-        Told::NoNumbers => no_positions(),
-        Told::Unread => Output::fresh(),
-        Told::TooLong => Output::fresh(),
+    match read_input_numbers(
+        rt,
+        b"pack",
+        given.positions,
+        true,
+        &mut part,
+        &mut positions,
+    ) {
+        Told::Numbers(n) => pack_model(rt, out, &mut part, given, &positions[..n], note),
+        Told::NoNumbers => no_positions(rt),
+        Told::Unread(_) => {}
+        Told::TooLong => {}
     }
 }
 
 // Reads the note, if a file is named for it, then the positions and a model, and packs it.
-fn run(given: Options) -> Output {
+fn run(rt: &HostRuntime, given: Options) {
     let mut note = [0u8; NOTE_BUFFER];
-    let r = read_note(given.note, &mut note);
-    let Read::To(n) = r else {
-        return Output::fresh();
-    };
-    run_noted(given, &note[..n])
+    let mut out = Output::fresh(rt);
+    if let Read::To(n) = read_note(rt, given.note, &mut note) {
+        run_noted(rt, &mut out, given, &note[..n]);
+    }
+    out.end(rt, b"pack");
 }
 
-fn main() {
-    let given = read_options();
-    let w = wish(given);
-    match w {
-        Wish::Run => run(given).end(b"pack"),
-        Wish::Help => print_use(Output::fresh()).end(b"pack"),
-        Wish::Wrong => print_use(Output::to(STDERR_FILENO)).end(b"pack"),
+fn main(rt: HostRuntime) {
+    let given = read_options(&rt);
+    match wish(&rt, given) {
+        Wish::Run => run(&rt, given),
+        Wish::Help => print_use(&rt, rt.stdout()),
+        Wish::Wrong => print_use(&rt, rt.stderr()),
     }
 }

@@ -5,7 +5,7 @@ use text::streams::{MOST_NAME, Output};
 
 // Writes the order of t triangles to the file that an argument names, or says why it cannot be written. Without a name (0) there is
 // nothing to write.
-pub fn write_order(order: &[u16], t: usize, named: usize) -> bool {
+pub fn write_order(rt: &HostRuntime, order: &[u16], t: usize, named: usize) -> bool {
     if named == 0 {
         return true;
     }
@@ -13,9 +13,10 @@ pub fn write_order(order: &[u16], t: usize, named: usize) -> bool {
         return false;
     }
     let mut name = [0u8; MOST_NAME];
-    let opened = open_output(b"pack", named, &mut name);
-    let Opened::At(fd, n) = opened else {
+    let Opened::At(file, n) = open_output(rt, b"pack", named, &mut name) else {
         return false;
     };
-    print_rows(Output::to(fd), &order[..t], 1).close(b"pack", &name[..n])
+    let mut out = Output::to(file);
+    print_rows(&mut out, &order[..t], 1);
+    out.close(rt, b"pack", &name[..n])
 }

@@ -13,13 +13,13 @@ use Rattle.text.specs.declared.streams.Read.TheVariants.{To, Failed}
 -- A buffer that was filled up to some position is filled up to there or further, or a read failed.
 abbrev pub Fills : Read → ℕ → List ℕ → Type 0
 Fills (To n) from xs = (from ≤ n) × (n ≤ length xs)
-Fills Failed from xs = Unit
+Fills (Failed why) from xs = Unit
 
 -- A buffer has all the numbers that were told.
 abbrev pub Holds : Told → List ℕ → Type 0
 Holds (Numbers n) xs = n ≤ length xs
 Holds NoNumbers xs = Unit
-Holds Unread xs = Unit
+Holds (Unread why) xs = Unit
 Holds TooLong xs = Unit
 
 -- A buffer has the whole name of a file.
@@ -29,5 +29,5 @@ Names Standard xs = Unit
 Names Nothing xs = Unit
 
 abbrev pub Opens : Opened → List ℕ → Type 0
-Opens (At fd n) xs = n ≤ length xs
+Opens (At file n) xs = n ≤ length xs
 Opens Nowhere xs = Unit

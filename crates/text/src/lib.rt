@@ -1,3 +1,5 @@
+#![tactic(auto)]
+
 // Texts of the programs: what they read, and what they print.
 pub mod arguments; // what the arguments ask for
 pub mod inputs; // what is read, from standard input or from files
@@ -7,3 +9,5 @@ pub mod packs; // packs
 pub mod show; // answers
 pub mod streams; // reading and writing whose failures are noticed
 pub mod words; // words and numbers
+#[cfg(test)]
+mod tests; // reading and writing that fail in the midst

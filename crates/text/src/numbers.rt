@@ -4,6 +4,8 @@ ghost use Rattle.text.specs.Reads.{Holds};
 use crate::streams::{Read, read_full, say};
 use crate::words::{clamped, is_space, more};
 use rules::CORNERS;
+use std::io;
+use std::io::Error;
 
 // A text is read in parts of so many bytes, and fewer than so many whole ones.
 pub const PART: usize = 65536;
@@ -15,7 +17,7 @@ pub const NUMBERS: usize = CORNERS + 2;
 
 // How far a text is read: whether its numbers may have a sign, how many have ended, the one that is being read, whether it has a sign
 // and whether it has a digit, and whether the text is not one of such numbers.
-#[derive(Drop)]
+#[derive(Clone, Copy)]
 struct Text {
     signed: bool,
     count: usize,
@@ -26,11 +28,11 @@ struct Text {
 }
 
 // What a text is: so many numbers, or not one of numbers; or it was not read whole.
-#[derive(Drop)]
+#[derive(Clone, Copy)]
 pub enum Told {
     Numbers(usize),
     NoNumbers,
-    Unread,
+    Unread(Error),
     TooLong,
 }
 
@@ -150,10 +152,8 @@ fn feed(t: Text, b: u8, numbers: &mut [u16]) -> Text {
 // The bytes of a part.
 fn feed_all(start: Text, part: &[u8], numbers: &mut [u16]) -> Text {
     let mut t = start;
-    let mut i = 0;
-    while i < part.len() {
-        t = feed(t, part[i], numbers);
-        i += 1;
+    for b in part {
+        t = feed(t, *b, numbers);
     }
     t
 }
@@ -172,29 +172,33 @@ fn judged(t: Text, numbers: &[u16]) -> Told
 }
 
 // Reads a text: its numbers, as many as fit.
-pub fn read_numbers(fd: i32, signed: bool, part: &mut [u8], numbers: &mut [u16]) -> Told
+pub fn read_numbers<R: io::Read>(
+    source: &mut R,
+    signed: bool,
+    part: &mut [u8],
+    numbers: &mut [u16],
+) -> Told
     ensures { Holds result numbers.new }
 {
     let mut t = unbegun(signed);
-    let mut left = PARTS;
-    while 0 < left {
-        let r = read_full(fd, part);
-        let Read::To(n) = r else {
-            return Told::Unread;
+    for _ in 0..PARTS {
+        let n = match read_full(source, part) {
+            Read::To(n) => n,
+            Read::Failed(why) => return Told::Unread(why),
         };
         t = feed_all(t, &part[..n], numbers);
         if n < part.len() {
             t = end_number(t, numbers);
             return judged(t, numbers);
         }
-        left -= 1;
     }
     Told::TooLong
 }
 
 // Says that a text is no model.
-pub fn say_no_model(program: &[u8]) {
+pub fn say_no_model(rt: &HostRuntime, program: &[u8]) {
     say(
+        rt,
         program,
         b"no model: V and the vertex numbers are expected, decimal, with white space between",
     );

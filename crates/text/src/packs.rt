@@ -15,15 +15,15 @@ pub const BUFFER: usize = MOST_BYTES + 1;
 fn is_too_long(r: Read) -> bool {
     match r {
         Read::To(n) => MOST_BYTES < n,
-        Read::Failed => false,
+        Read::Failed(_) => false,
     }
 }
 
 // Reads the pack that argument i names. An input that is too long counts as an empty one: 12 refuses both.
-pub fn read_pack(program: &[u8], i: usize, buffer: &mut [u8]) -> Read
+pub fn read_pack(rt: &HostRuntime, program: &[u8], i: usize, buffer: &mut [u8]) -> Read
     ensures { Fills result 0 buffer.new }
 {
-    let r = read_input(program, i, buffer);
+    let r = read_input(rt, program, i, buffer);
     if is_too_long(r) {
         return Read::To(0);
     }

@@ -3,73 +3,76 @@ ghost use Rattle.std.specs.Prelude.{◌<◌};
 
 use crate::streams::Output;
 use rules::{Measured, Model, Unpacked};
+use std::io::Write;
 
 // Prints a refusal by its number.
-pub fn print_refusal(out: Output, n: u8) -> Output {
-    out.bytes(b"refused ").number(n as u16, b'\n')
+pub fn print_refusal<W: Write>(out: &mut Output<W>, n: u8) {
+    out.bytes(b"refused ");
+    out.number(n as u16, b'\n');
 }
 
 // Writes n bytes from byte `from` on, as they are; none if there are not so many.
-pub fn print_part(out: Output, bytes: &[u8], from: usize, n: usize) -> Output {
+pub fn print_part<W: Write>(out: &mut Output<W>, bytes: &[u8], from: usize, n: usize) {
     if bytes.len() < from {
-        return out;
+        return;
     }
     if bytes.len() - from < n {
-        return out;
+        return;
     }
     let end = from + n;
-    out.bytes(&bytes[from..end])
+    out.bytes(&bytes[from..end]);
 }
 
 // Writes numbers, so many to a line.
-pub fn print_rows(start: Output, numbers: &[u16], row: usize) -> Output
+pub fn print_rows<W: Write>(out: &mut Output<W>, numbers: &[u16], row: usize)
     requires { 0 < row }
 {
-    let mut out = start;
-    let mut i = 0;
-    while i < numbers.len() {
+    for i in 0..numbers.len() {
         let end = if i % row == row - 1 { b'\n' } else { b' ' };
-        out = out.number(numbers[i], end);
-        i += 1;
+        out.number(numbers[i], end);
     }
-    out
 }
 
-fn print_counts(start: Output, m: Model) -> Output {
+fn print_counts<W: Write>(out: &mut Output<W>, m: Model) {
     let t = m.totals;
-    let out = start
-        .bytes(b"model ")
-        .number(m.vertices, b' ')
-        .number(m.triangles, b' ');
-    out.number(t.edges, b' ')
-        .number(t.rims, b' ')
-        .number(t.unions, b'\n')
+    out.bytes(b"model ");
+    out.number(m.vertices, b' ');
+    out.number(m.triangles, b' ');
+    out.number(t.edges, b' ');
+    out.number(t.rims, b' ');
+    out.number(t.unions, b'\n');
 }
 
 // Prints what an unpacking answered, with the triangles that it wrote.
-pub fn print_unpacked(out: Output, r: Unpacked, triangles: &[u16]) -> Output {
+pub fn print_unpacked<W: Write>(out: &mut Output<W>, r: Unpacked, triangles: &[u16]) {
     let Unpacked::Model(m) = r else {
-        return print_refused(out, r);
+        print_refused(out, r);
+        return;
     };
     let n = 3 * (m.triangles as usize);
     if triangles.len() < n {
-        return out;
+        return;
     }
-    print_rows(print_counts(out, m), &triangles[..n], 3)
+    print_counts(out, m);
+    print_rows(out, &triangles[..n], 3);
 }
 
 // Prints the refusal that an unpacking answered, if it did.
-pub fn print_refused(out: Output, r: Unpacked) -> Output {
+pub fn print_refused<W: Write>(out: &mut Output<W>, r: Unpacked) {
     match r {
-        Unpacked::Model(_) => out,
+        Unpacked::Model(_) => {}
         Unpacked::Refused(n) => print_refusal(out, n),
     }
 }
 
 // Prints what the volume call answered: six times the volume.
-pub fn print_measured(out: Output, r: Measured) -> Output {
+pub fn print_measured<W: Write>(out: &mut Output<W>, r: Measured) {
     match r {
-        Measured::Volume(_, six) => out.bytes(b"six ").signed(six).bytes(b"\n"),
+        Measured::Volume(_, six) => {
+            out.bytes(b"six ");
+            out.signed(six);
+            out.bytes(b"\n");
+        }
         Measured::Refused(n) => print_refusal(out, n),
     }
 }

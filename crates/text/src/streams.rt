@@ -1,155 +1,241 @@
 // Reading and writing whose failures are noticed: each gets a line on standard error.
-ghost use Rattle.std.specs.Prelude.{◌≡◌, ◌≤◌, nat_abs, length};
+ghost use Rattle.std.specs.Prelude.{◌+◌, ◌≤◌, length};
 ghost use Rattle.text.specs.Reads.{Fills};
 
-use libc::{STDERR_FILENO, STDOUT_FILENO};
+use itoa::Buffer;
+use std::fmt::InlineText;
+use std::fs::OpenFile;
+use std::io;
+use std::io::{Error, ErrorKind, Stdout, Write};
 
 // The longest name of a file that the system opens.
 pub const MOST_NAME: usize = 4095;
 
-// Up to where a buffer is filled; or it holds nothing of use: a read failed, which is not the end of the input, or an argument is none
-// that the program takes.
-#[derive(Drop)]
+// The most bytes of what the system says of a failure; no text of it has so many.
+const REASON: usize = 120;
+
+// So many bytes are held before they are written.
+const HELD: usize = 4096;
+
+// Up to where a buffer is filled; or it holds nothing of use: a read failed, which is not the end of the input, and why, or an argument is
+// none that the program takes.
+#[derive(Clone, Copy)]
 pub enum Read {
     To(usize),
-    Failed,
+    Failed(Error),
 }
 
 // Reads once, into a buffer that is filled up to some position. Where it is filled no further the input has ended, or the buffer is
 // full.
-pub fn read_more(fd: i32, buffer: &mut [u8], from: usize) -> Read
+pub fn read_more<R: io::Read>(source: &mut R, buffer: &mut [u8], from: usize) -> Read
     requires { from ≤ length buffer.old }
     ensures { Fills result from buffer.new }
 {
-    let got = libc::read(fd, &mut buffer[from..]);
-    if got < 0 {
-        return Read::Failed;
+    match source.read(&mut buffer[from..]) {
+        Ok(n) => Read::To(from + n),
+        Err(why) => Read::Failed(why),
     }
-    let n = io::count(got, &buffer[from..]);
-    Read::To(from + n)
 }
 
 // Reads until the buffer is full or the input ends.
-pub fn read_full(fd: i32, buffer: &mut [u8]) -> Read
+pub fn read_full<R: io::Read>(source: &mut R, buffer: &mut [u8]) -> Read
     ensures { Fills result 0 buffer.new }
 {
     let mut done = 0;
     while done < buffer.len() {
-        let r = read_more(fd, buffer, done);
+        let r = read_more(source, buffer, done);
         let Read::To(n) = r else {
-            return Read::Failed;
+            return r;
         };
         if n == done {
-            return Read::To(n);
+            return r;
         }
         done = n;
     }
     Read::To(done)
 }
 
-// Says on standard error what a program cannot do; the system tells why, of the call that failed last.
-pub fn say_failed(program: &[u8], what: &[u8]) {
-    io::write_all(STDERR_FILENO, program);
-    io::write_all(STDERR_FILENO, b": ");
-    os::fail(what);
+// Says on standard error what a program cannot do, and why.
+pub fn say_failed(rt: &HostRuntime, program: &[u8], what: &[u8], why: Error) {
+    let mut line = Output::to(rt.stderr());
+    line.bytes(program);
+    line.bytes(b": ");
+    line.bytes(what);
+    line.bytes(b": ");
+    line.reason(why);
+    line.bytes(b"\n");
+    let _ = line.ended();
 }
 
 // The same of a file that a program cannot write.
-pub fn say_unwritten(program: &[u8], name: &[u8]) {
-    io::write_all(STDERR_FILENO, program);
-    io::write_all(STDERR_FILENO, b": cannot write ");
-    os::fail(name);
+pub fn say_unwritten(rt: &HostRuntime, program: &[u8], name: &[u8], why: Error) {
+    let mut line = Output::to(rt.stderr());
+    line.bytes(program);
+    line.bytes(b": cannot write ");
+    line.bytes(name);
+    line.bytes(b": ");
+    line.reason(why);
+    line.bytes(b"\n");
+    let _ = line.ended();
 }
 
 // Says on standard error why a program stops, or what it leaves out.
-pub fn say(program: &[u8], line: &[u8]) {
-    io::write_all(STDERR_FILENO, program);
-    io::write_all(STDERR_FILENO, b": ");
-    io::write_all(STDERR_FILENO, line);
-    io::write_all(STDERR_FILENO, b"\n");
+pub fn say(rt: &HostRuntime, program: &[u8], line: &[u8]) {
+    let mut out = Output::to(rt.stderr());
+    out.bytes(program);
+    out.bytes(b": ");
+    out.bytes(line);
+    out.bytes(b"\n");
+    let _ = out.ended();
 }
 
-// A number without its sign.
-fn magnitude(n: i64) -> u64
-    ensures { result ≡ nat_abs n }
-{
-    if n < 0 {
-        return ((-1 - n) as u64) + 1;
-    }
-    n as u64
+// What is open for writing: the bytes that are held to be written together, and why a write failed, if one has, after which nothing more
+// is written. It cannot be let go but by `end`, `close` or `ended`, so that no byte that is held is forgotten.
+pub struct Output<W> {
+    to: W,
+    held: [u8; HELD],
+    count: usize,
+    failure: Option<Error>,
+    ghost fits: { count ≤ 4096 },
 }
 
-// A file that is open for writing: whether a write has failed, after which nothing more is written.
-#[derive(Drop)]
-pub struct Output {
-    fd: i32,
-    pub failed: bool,
-}
-
-impl Output {
-    // A file that was just opened.
-    pub fn to(fd: i32) -> Output {
-        Output { fd, failed: false }
-    }
-
+impl Output<Stdout> {
     // Standard output, before any write.
-    pub fn fresh() -> Output {
-        Output::to(STDOUT_FILENO)
+    pub fn fresh(rt: &HostRuntime) -> Output<Stdout> {
+        Output::to(rt.stdout())
+    }
+}
+
+impl<W: Write> Output<W> {
+    // A file that was just opened.
+    pub fn to(to: W) -> Output<W> {
+        Output {
+            to,
+            held: [0; HELD],
+            count: 0,
+            failure: None,
+        }
     }
 
-    pub fn bytes(self, text: &[u8]) -> Output {
-        if self.failed {
-            return self;
+    // Whether a write has failed.
+    pub fn has_failed(&self) -> bool {
+        self.failure.is_some()
+    }
+
+    // Writes what is held. A program does so before it reads and before it says something.
+    pub fn flush(&mut self) {
+        let n = self.count;
+        self.count = 0;
+        if self.has_failed() {
+            return;
         }
-        let written = io::write_all(self.fd, text);
-        Output {
-            fd: self.fd,
-            failed: !written,
+        if let Err(why) = self.to.write_all(&self.held[..n]) {
+            self.failure = Some(why);
         }
+    }
+
+    // Writes what is held, and gives back what was open for writing, and why a write failed, if one has.
+    pub(crate) fn ended(self) -> (W, Option<Error>) {
+        let mut out = self;
+        out.flush();
+        let Output {
+            to,
+            held: _,
+            count: _,
+            failure,
+        } = out;
+        (to, failure)
+    }
+
+    pub fn bytes(&mut self, text: &[u8]) {
+        if HELD - self.count < text.len() {
+            self.flush();
+        }
+        if HELD - self.count < text.len() {
+            self.write(text);
+        } else {
+            self.hold(text);
+        }
+    }
+
+    // Writes bytes at once, where none are held.
+    fn write(&mut self, text: &[u8]) {
+        if self.has_failed() {
+            return;
+        }
+        if let Err(why) = self.to.write_all(text) {
+            self.failure = Some(why);
+        }
+    }
+
+    // Holds bytes for which there is room.
+    fn hold(&mut self, text: &[u8])
+        requires { self.old.count + length text.now ≤ 4096 }
+    {
+        let end = self.count + text.len();
+        self.held[self.count..end].copy_from_slice(text);
+        self.count = end;
     }
 
     // Writes a number in decimal.
-    pub fn decimal(self, n: u64) -> Output {
-        let mut text = [0u8; 20];
-        let k = io::decimal(n, &mut text);
-        self.bytes(&text[..k])
+    pub fn decimal(&mut self, n: u64) {
+        let mut text = Buffer::new();
+        self.bytes(text.format(n).as_bytes());
     }
 
     // Writes a signed number in decimal.
-    pub fn signed(self, n: i64) -> Output {
-        if n < 0 {
-            return self.bytes(b"-").decimal(magnitude(n));
-        }
-        self.decimal(magnitude(n))
+    pub fn signed(&mut self, n: i64) {
+        let mut text = Buffer::new();
+        self.bytes(text.format(n).as_bytes());
     }
 
     // Writes a number and the byte after it.
-    pub fn number(self, n: u16, end: u8) -> Output {
-        let mut text = [0u8; 1];
-        text[0] = end;
-        self.decimal(n as u64).bytes(&text)
+    pub fn number(&mut self, n: u16, end: u8) {
+        self.decimal(n as u64);
+        self.bytes(&[end]);
     }
 
-    // Ends standard output: says so if a write failed. No other call may stand between, as above.
-    pub fn end(self, program: &[u8]) {
-        if self.failed {
-            say_unwritten(program, b"standard output");
+    // Writes what the system says of a failure, without the number that std puts after it.
+    fn reason(&mut self, why: Error) {
+        let text = InlineText::<{ REASON }>::of(why);
+        let said = text.as_str();
+        match said.split_once(" (os error ") {
+            Some((words, _)) => self.bytes(words.as_bytes()),
+            None => self.bytes(said.as_bytes()),
         }
     }
+}
 
+impl<W: Write + Drop> Output<W> {
+    // Ends standard output: says so if a write failed.
+    pub fn end(self, rt: &HostRuntime, program: &[u8]) {
+        let (_, failure) = self.ended();
+        if let Some(why) = failure {
+            say_unwritten(rt, program, b"standard output", why);
+        }
+    }
+}
+
+impl<F: Write + OpenFile + Drop> Output<F> {
     // Ends a file of this name and closes it: whether all was written. If not, it says so and leaves the file empty, where that can be
-    // done, so that no part is taken for the whole. No other call may stand between, as above.
-    pub fn close(self, program: &[u8], name: &[u8]) -> bool {
-        if self.failed {
-            say_unwritten(program, name);
-            libc::ftruncate(self.fd, 0);
-            libc::close(self.fd);
-            return false;
-        }
-        if libc::close(self.fd) < 0 {
-            say_unwritten(program, name);
-            return false;
-        }
-        true
+    // done, so that no part is taken for the whole.
+    pub fn close(self, rt: &HostRuntime, program: &[u8], name: &[u8]) -> bool {
+        let (file, failure) = self.ended();
+        let Some(why) = failure.or_else(|| unsettled(&file)) else {
+            return true;
+        };
+        say_unwritten(rt, program, name, why);
+        let _ = file.set_len(0);
+        false
+    }
+}
+
+// Has the system write what it was given, and answers why it cannot, for a failure of that would else be told nowhere: std closes a file
+// without a word. A pipe, a terminal and the like have nothing of the sort, which is no failure.
+fn unsettled<F: OpenFile>(file: &F) -> Option<Error> {
+    let why = file.sync_data().err()?;
+    match why.kind() {
+        ErrorKind::InvalidInput | ErrorKind::Unsupported => None,
+        _ => Some(why),
     }
 }

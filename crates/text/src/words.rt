@@ -2,7 +2,7 @@
 ghost use Rattle.std.specs.Prelude.{◌≤◌, length};
 
 // A part of a text that is to be a decimal number: whether it is one, and the number, or 65,535 if it is larger.
-#[derive(Drop)]
+#[derive(Clone, Copy)]
 pub struct Number {
     pub valid: bool,
     pub value: u16,
@@ -24,14 +24,12 @@ pub fn word_start(text: &[u8], from: usize) -> usize
     requires { from ≤ length text.now }
     ensures { (from ≤ result) × (result ≤ length text.now) }
 {
-    let mut at = from;
-    while at < text.len() {
+    for at in from..text.len() {
         if !is_space(text[at]) {
             return at;
         }
-        at += 1;
     }
-    at
+    text.len()
 }
 
 // Where a word ends.
@@ -39,14 +37,12 @@ pub fn word_end(text: &[u8], from: usize) -> usize
     requires { from ≤ length text.now }
     ensures { (from ≤ result) × (result ≤ length text.now) }
 {
-    let mut at = from;
-    while at < text.len() {
+    for at in from..text.len() {
         if is_space(text[at]) {
             return at;
         }
-        at += 1;
     }
-    at
+    text.len()
 }
 
 // Where a line ends: at its line feed, or at the text's end.
@@ -54,14 +50,12 @@ pub fn line_end(text: &[u8], from: usize) -> usize
     requires { from ≤ length text.now }
     ensures { (from ≤ result) × (result ≤ length text.now) }
 {
-    let mut at = from;
-    while at < text.len() {
+    for at in from..text.len() {
         if text[at] == b'\n' {
             return at;
         }
-        at += 1;
     }
-    at
+    text.len()
 }
 
 // Whether two texts are the same.
@@ -69,12 +63,10 @@ pub fn is_same(a: &[u8], b: &[u8]) -> bool {
     if a.len() != b.len() {
         return false;
     }
-    let mut i = 0;
-    while i < a.len() {
+    for i in 0..a.len() {
         if a[i] != b[i] {
             return false;
         }
-        i += 1;
     }
     true
 }
@@ -102,23 +94,20 @@ pub fn clamped(n: u32) -> u16 {
 // The number that a text is.
 pub fn number_of(text: &[u8]) -> Number {
     let mut value = 0;
-    let mut i = 0;
-    while i < text.len() {
-        let b = text[i];
-        if b < b'0' {
+    for b in text {
+        if *b < b'0' {
             return Number {
                 valid: false,
                 value: 0,
             };
         }
-        if b'9' < b {
+        if b'9' < *b {
             return Number {
                 valid: false,
                 value: 0,
             };
         }
-        value = more(value, b - b'0');
-        i += 1;
+        value = more(value, *b - b'0');
     }
     Number {
         valid: 0 < text.len(),

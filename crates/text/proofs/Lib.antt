@@ -1,2 +1,0 @@
-pub mod Fills
-mod Signed

@@ -1,0 +1,143 @@
+// Reading and writing that fail in the midst.
+use crate::numbers::{Told, read_numbers};
+use crate::streams::{Output, Read, read_full};
+use std::io;
+use std::io::{Error, ErrorKind};
+
+// Gives this text, one byte at each turn, and then fails or is at its end.
+#[derive(Drop)]
+struct Slow<'a> {
+    text: &'a [u8],
+    at: usize,
+    fails: bool,
+}
+
+impl<'a> io::Read for Slow<'a> {
+    fn read(&mut self, buffer: &mut [u8]) -> io::Result<usize> {
+        if self.at < self.text.len() {
+            if 0 < buffer.len() {
+                buffer[0] = self.text[self.at];
+                self.at += 1;
+                return Ok(1);
+            }
+        }
+        if self.fails {
+            return Err(Error::from(ErrorKind::TimedOut));
+        }
+        Ok(0)
+    }
+}
+
+// Takes so many bytes, one at each turn, and then fails.
+#[derive(Drop)]
+struct Full {
+    taken: [u8; 16],
+    count: usize,
+    room: usize,
+    tries: usize,
+}
+
+impl io::Write for Full {
+    fn write(&mut self, bytes: &[u8]) -> io::Result<usize> {
+        self.tries = self.tries.saturating_add(1);
+        if bytes.is_empty() || self.room <= self.count || 16 <= self.count {
+            return Err(Error::from(ErrorKind::StorageFull));
+        }
+        self.taken[self.count] = bytes[0];
+        self.count += 1;
+        Ok(1)
+    }
+
+    fn flush(&mut self) -> io::Result<()> {
+        Ok(())
+    }
+}
+
+fn bytes_of(text: &[u8], fails: bool) -> Slow<'_> {
+    Slow { text, at: 0, fails }
+}
+
+#[test]
+fn a_read_that_fails_is_no_end(rt: HostRuntime) {
+    let mut buffer = [0u8; 8];
+    let whole = read_full(&mut bytes_of(b"3 0", false), &mut buffer);
+    assert!(rt; matches!(whole, Read::To(3)));
+    assert_eq!(rt; buffer[2], b'0');
+    let cut = read_full(&mut bytes_of(b"3 0", true), &mut buffer);
+    let Read::Failed(why) = cut else {
+        panic!(rt; "a read that fails is taken for the end");
+    };
+    assert!(rt; why.kind() == ErrorKind::TimedOut);
+    let full = read_full(&mut bytes_of(b"3 0 1 2 ", true), &mut buffer);
+    assert!(rt; matches!(full, Read::To(8)));
+}
+
+#[test]
+fn numbers_in_pieces(rt: HostRuntime) {
+    let mut part = [0u8; 4];
+    let mut numbers = [0u16; 3];
+    let told = read_numbers(
+        &mut bytes_of(b"4096 0\n17", false),
+        false,
+        &mut part,
+        &mut numbers,
+    );
+    assert!(rt; matches!(told, Told::Numbers(3)));
+    assert_eq!(rt; numbers[0], 4096);
+    assert_eq!(rt; numbers[2], 17);
+    let unread = read_numbers(
+        &mut bytes_of(b"4096 0\n17", true),
+        false,
+        &mut part,
+        &mut numbers,
+    );
+    assert!(rt; matches!(unread, Told::Unread(_)));
+    let signed = read_numbers(
+        &mut bytes_of(b"-1 -0 9", false),
+        true,
+        &mut part,
+        &mut numbers,
+    );
+    assert!(rt; matches!(signed, Told::Numbers(3)));
+    assert_eq!(rt; numbers[0], 65535);
+    let bad = read_numbers(
+        &mut bytes_of(b"-1 -0 9", false),
+        false,
+        &mut part,
+        &mut numbers,
+    );
+    assert!(rt; matches!(bad, Told::NoNumbers));
+}
+
+// Whether a write has failed by the first flush, before the second, and after it.
+fn print_some(to: &mut Full) -> (bool, bool, bool) {
+    let mut out = Output::to(to);
+    out.bytes(b"six ");
+    out.signed(-125);
+    out.bytes(b"\n");
+    out.flush();
+    let first = out.has_failed();
+    out.number(65535, b' ');
+    let before = out.has_failed();
+    out.flush();
+    let after = out.has_failed();
+    out.bytes(b"more");
+    let _ = out.ended();
+    (first, before, after)
+}
+
+#[test]
+fn nothing_more_after_a_write_that_fails(rt: HostRuntime) {
+    let mut to = Full {
+        taken: [0; 16],
+        count: 0,
+        room: 10,
+        tries: 0,
+    };
+    let (first, before, after) = print_some(&mut to);
+    assert!(rt; !first && !before && after);
+    assert_eq!(rt; to.count, 10);
+    assert_eq!(rt; to.taken[8], b'\n');
+    assert_eq!(rt; to.taken[9], b'6');
+    assert_eq!(rt; to.tries, 11);
+}
