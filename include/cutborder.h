@@ -40,7 +40,7 @@
  * that is longer is as it was beyond what is named. Aligned: to so many bytes; what is not named may lie anywhere. Accepted, refused: what
  * the buffers hold afterwards. Stack: below so much on x86-64, with all that is called beneath; measured by tests/c/stack.c.
  *
- * Proved of the functions: crates/capi. Link with target/staticlib/libcapi.a, which `rt staticlib capi` writes (x86-64). The formats are in
+ * Proved of the functions: crates/capi. Link with target/staticlib/libcapi.a, which `tools/build capi` writes (x86-64). The formats are in
  * docs/FORMAT.md; a first program is examples/ring.c.
  */
 #ifndef CUTBORDER_H
@@ -186,7 +186,7 @@ uint32_t cutborder_bench(const uint8_t *pack, size_t pack_bytes, uint16_t *trian
  * Aligned   to 2: triangles, places, state
  * Accepted  *state: a builder of these counts that holds nothing; the first 1,024 places are zero; triangles is as it was
  * Refused   all is as it was
- * Stack     below 2 KiB */
+ * Stack     below 1 KiB */
 uint32_t cutborder_begin(uint32_t v, uint32_t t, uint32_t most_places, uint32_t most_loops, uint16_t *triangles, size_t triangles_entries,
                          struct cutborder_place *places, size_t records, struct cutborder_builder *state);
 

@@ -4,7 +4,7 @@
  * a list that cutborder_check refuses with 5, 6 or 7 can be searched by whoever mends it.
  *
  * The refusals, what a caller owes and how to read the comments are in cutborder.h. Proved of the functions: crates/search. Link with
- * target/staticlib/libsearch.a, which `rt staticlib search` writes (x86-64).
+ * target/staticlib/libsearch.a, which `tools/build search` writes (x86-64).
  */
 #ifndef CUTBORDER_SEARCH_H
 #define CUTBORDER_SEARCH_H

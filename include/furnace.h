@@ -21,7 +21,7 @@
  * none of them is null, even where there are no bytes; no two of them overlap, and nobody else writes them meanwhile. Whatever the bytes
  * are, the call ends with one of these answers. Nothing is kept between two calls, and no memory is allocated.
  *
- * Proved of the function: crates/furnace. Link with target/staticlib/libfurnace.a, which `rt staticlib furnace` writes (x86-64), or with
+ * Proved of the function: crates/furnace. Link with target/staticlib/libfurnace.a, which `tools/build furnace` writes (x86-64), or with
  * the object that tests/avr/build writes (AVR). A main loop around it is examples/furnace_main.c.
  */
 #ifndef FURNACE_H

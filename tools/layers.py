@@ -13,7 +13,7 @@ def read(path):
     uses, parts, part = {}, {}, ''
     for line in path.read_text().splitlines():
         heading = re.match(r'## (\w+)', line)
-        crate = re.match(r'(\w+):([^#]*)', line)
+        crate = re.match(r'(\w+)(?: staticlib)?:([^#]*)', line)
         if heading:
             part = heading[1]
         elif crate:

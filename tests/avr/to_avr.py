@@ -26,8 +26,8 @@ def replaced(pattern, by, text, wanted):
 def rewritten(text, part):
     text = replaced(r'^target datalayout = ".*"\n', "", text, True)
     text = replaced(r'^target triple = ".*"$', 'target triple = "avr-unknown-unknown"', text, True)
-    text = replaced(r'"probe-stack"="inline-asm" ?', "", text, False)
-    text = replaced(r'"target-cpu"="x86-64"', f'"target-cpu"="{part}"', text, True)
+    text = replaced(r'"(?:probe-stack"="inline-asm|stack-probe-size"="\d+)" ?', "", text, False)
+    text = replaced(r'"target-cpu"="x86-64(?:-v\d)?"', f'"target-cpu"="{part}"', text, True)
     text = replaced(r", align \d+", "", text, False)
     for name in (r"@llvm\.mem(?:move|cpy)\.p0\.p0\.", r"@llvm\.memset\.p0\."):
         text = replaced(rf"({name})i64\((.*?), i64 (\d+), i1", r"\1i16(\2, i16 \3, i1", text, False)

@@ -52,7 +52,7 @@ def aliases(top, names):
 
 def in_source(text):
     """The exported functions of a source: parameters, what is returned, and the comment."""
-    found = re.findall(r'((?:^//.*\n)+)#\[no_mangle\]\npub extern "C" fn (\w+)\(([^)]*)\) -> (\w+)', text, re.M)
+    found = re.findall(r'((?:^//.*\n)+)#\[unsafe\(no_mangle\)\]\npub extern "C" fn (\w+)\(([^)]*)\) -> (\w+)', text, re.M)
     return {name: ([tuple(p.strip().split(': ', 1)) for p in re.split(r',(?![^\[]*\])', ps) if p.strip()], gives,
                    ' '.join(comment.replace('//', '').split())) for comment, name, ps, gives in found}
 
@@ -122,7 +122,7 @@ def fields(top, name, names, at=0, before=''):
     """The fields of a struct of the sources with where each lies and its size, by C's rules; the struct's end; and its alignment. One that
     is not laid out as C does has no fields."""
     text = (top / 'crates/rules/src/lib.rt').read_text()
-    body = re.search(rf'#\[repr\(C\)\]\npub struct {name} {{\n(.*?)\n}}', text, re.S)
+    body = re.search(rf'#\[repr\(C\)\]\n(?:#\[derive\(.*\)\]\n)?pub struct {name} {{\n(.*?)\n}}', text, re.S)
     out, most = [], 1
     for field, kind in re.findall(r'pub (\w+): (.+),', body[1] if body else ''):
         array = re.fullmatch(r'\[(\w+); (.+)\]', kind)

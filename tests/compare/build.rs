@@ -1,4 +1,4 @@
-//! Links the static libraries that `rt staticlib` writes of `capi`, `search` and `furnace`.
+//! Links the static libraries that `tools/build` writes of `capi`, `search` and `furnace`.
 
 fn main() {
     let top = concat!(env!("CARGO_MANIFEST_DIR"), "/../../target/staticlib");

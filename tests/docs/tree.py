@@ -47,18 +47,19 @@ class Tree:
     def __init__(self):
         self.files, self.stated, self.names, self.parts, self.ends = {}, {}, {}, {}, {}
         for folder, below, files in os.walk(TOP):
-            below[:] = [b for b in below if b not in ('target', '.git')]
+            below[:] = [b for b in below if b not in ('target', 'out', '.git')]
             for path in [folder + '/'] + [f'{folder}/{f}' for f in files]:
                 self.read(path[len(TOP) + 1:])
         text = ''.join(t for f, t in self.files.items() if f.endswith(('.rt', '.rs', '.py', '.antt')))
-        lines = re.findall(r'^(\w+):(.*)', self.files['crates.txt'], re.M)
-        kit = ' '.join(re.findall(r'use (?!Rattle)[\w.]+\.\{([^}]*)\}', text) + [uses for _, uses in lines])
+        lines = re.findall(r'^(\w+)(?: staticlib)?:(.*)', self.files['crates.txt'], re.M)
+        kit = ' '.join(re.findall(r'use (?!Rattle\.(?!std\.))[\w.]+\.\{([^}]*)\}', text) + [uses for _, uses in lines])
         self.crates = {name for name, _ in lines}
         self.edits = [f for f in self.files if f.endswith('.edit')]
         self.known = self.crates.union(re.split('[ ,]+', kit), *self.names.values(), (os.path.basename(f)[:-5] for f in self.edits))
         self.literals = set(re.findall(r'''["']((?<=")[^"\n]+|--[^'\n]+)''', text))
         self.rows = re.findall(r'^    -- (.*)', self.files['crates/rules/proofs/Models.antt'], re.M)
-        self.help = subprocess.run(['rt', '--help'], capture_output=True, text=True).stdout
+        self.help = subprocess.run(['rt', 'help'], stdout=subprocess.PIPE, stderr=subprocess.STDOUT, text=True).stdout
+        self.commands = {c for cs in re.findall(r'^(?:usage:)? +rt ([a-z|-]+)', self.help, re.M) for c in cs.split('|')}
 
     def read(self, path):
         self.files[path] = '' if not os.path.isfile(f'{TOP}/{path}') else open(f'{TOP}/{path}', errors='replace').read()
@@ -71,6 +72,10 @@ class Tree:
         for p in {path.rstrip('/'), re.sub(r'\.(antt|rt)$', '', path)}:
             for i in range(p.count('/') + 1):
                 self.ends.setdefault(p.split('/', i)[i], []).append(path)
+
+    def declares(self, name):
+        """Whether a page of the crates declares it."""
+        return any(name in self.names[f] for f in self.names if f.endswith('.antt'))
 
     def paths(self, name):
         """The files and folders that a path means: from the top or from crates/; where it begins at neither, all that end so."""

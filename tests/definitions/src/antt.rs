@@ -54,11 +54,11 @@ fn places(ps: &[Place]) -> String {
 }
 
 fn pack_buffers(r: &PackBuffers) -> String {
-    format!("packLent {} {} {} {}", numbers(&r.numbering), places(&r.places), numbers(&r.pack), numbers(&r.order))
+    format!("pack_lent {} {} {} {}", numbers(&r.numbering), places(&r.places), numbers(&r.pack), numbers(&r.order))
 }
 
 fn unpack_buffers(r: &UnpackBuffers) -> String {
-    format!("unpackLent {} {}", numbers(&r.triangles), places(&r.places))
+    format!("unpack_lent {} {}", numbers(&r.triangles), places(&r.places))
 }
 
 fn signed(n: i64) -> String {
@@ -78,7 +78,7 @@ pub fn packing(x: &Packing) -> String {
 /// A packing with positions and a note, if they are given.
 pub fn whole_packing(x: &Packing) -> String {
     let [limits, vertices, list, lent, answer, left] = packing_fields(x);
-    let given = |value: Option<String>| value.map_or("not-given".into(), |shown| format!("given {shown}"));
+    let given = |value: Option<String>| value.map_or("not_given".into(), |shown| format!("given {shown}"));
     let positions = given(x.extras.positions.as_ref().map(|p| self::list(p, |&n| signed(n.into()))));
     let note = given(x.extras.note.as_ref().map(|n| numbers(n)));
     record(&[limits, vertices, list, ("positions", positions), ("note", note), lent, answer, left])
@@ -116,7 +116,7 @@ pub fn look(list: &[u16], p: u16, q: u16) -> String {
 }
 
 fn model(a: &Answer) -> String {
-    format!("modelOf {} {} (totalsOf {} {} {} {})", a.v, a.t, a.edges, a.rims, a.unions, integer(a.euler.into()))
+    format!("model_of {} {} (totals_of {} {} {} {})", a.v, a.t, a.edges, a.rims, a.unions, integer(a.euler.into()))
 }
 
 fn model_or_refusal(answer: Result<&Answer, Refusal>) -> String {
@@ -132,12 +132,12 @@ pub fn unpacking(x: &Unpacking) -> String {
 pub fn whole(x: &Whole) -> String {
     let unpacked = model_or_refusal(x.unpacked.as_ref().map_err(|n| *n));
     let measured = model_or_refusal(x.measured.as_ref().map(|m| &m.0).map_err(|n| *n));
-    let six = x.measured.as_ref().map_or("not-given".into(), |m| format!("(given {})", integer(m.1)));
+    let six = x.measured.as_ref().map_or("not_given".into(), |m| format!("(given {})", integer(m.1)));
     record(&[
         ("bytes", numbers(&x.bytes)),
         ("lent", unpack_buffers(&x.lent)),
-        ("unpacking", format!("unpackTold ({unpacked}) ({})", unpack_buffers(&x.left))),
-        ("measuring", format!("volumeTold ({measured}) {six} ({})", unpack_buffers(&x.left_measured))),
+        ("unpacking", format!("unpack_told ({unpacked}) ({})", unpack_buffers(&x.left))),
+        ("measuring", format!("volume_told ({measured}) {six} ({})", unpack_buffers(&x.left_measured))),
         ("note", numbers(&x.note)),
         ("start", x.start.to_string()),
     ])
@@ -167,9 +167,9 @@ fn answer(call: &str, told: &str) -> String {
     match w.as_slice() {
         ["refused", n] => format!("refusal {n}"),
         ["ok"] if call.starts_with("begin") => "accepted".into(),
-        ["ok"] => "no-triangle".into(),
+        ["ok"] => "no_triangle".into(),
         ["ok", p, q, r] => format!("triangle (tri {p} {q} {r})"),
-        ["ok", e, r, u, x] => format!("numbers (totalsOf {e} {r} {u} {})", integer(x.parse().unwrap())),
+        ["ok", e, r, u, x] => format!("numbers (totals_of {e} {r} {u} {})", integer(x.parse().unwrap())),
         _ => panic!("no answer: {told}"),
     }
 }

@@ -3,7 +3,7 @@
 
 use crate::antt;
 use crate::expected::{self, LIMITS};
-use crate::prelude::{prelude, Home};
+use crate::prelude::prelude;
 use crate::second::{Building, Extras, Melting, PackBuffers, Packing, UnpackBuffers, Unpacking, Whole};
 use cutborder::gen::{self, Model};
 use cutborder::rng::Rng;
@@ -137,20 +137,20 @@ pub fn looks(rng: &mut Rng) -> String {
 
 /// A theorem for each case, so that a refusal names it.
 pub fn module(seed: u64, count: usize) -> String {
-    let (uses, unfolding) = prelude(&Home::Outside, &[]);
+    let (uses, unfolding) = prelude(&[]);
     let mut out = format!("-- Cases of seed {seed}, drawn by tests/definitions.\n-- Assumes nothing.\n{uses}");
     let mut rng = Rng::new(seed);
     for i in 0..count {
         let mut r = rng.fork();
         let max_t = [4, 8, 14, 20][r.below(4)];
         let (kind, right, row) = match i % 7 {
-            0 => ("PackRow", "packRight", antt::packing(&packing(&mut r, max_t))),
-            1 => ("UnpackRow", "unpackRight", antt::unpacking(&unpacking(&mut r, max_t))),
-            2 => ("CallRow", "callsRight", antt::building(&building(&mut r, max_t))),
-            3 => ("WholePackRow", "wholePackRight", antt::whole_packing(&whole_packing(&mut r, max_t))),
-            4 => ("WholeRow", "wholeRight", antt::whole(&whole(&mut r))),
-            5 => ("MeltRow", "meltRight", antt::melting(&melting(&mut r))),
-            _ => ("List LookRow", "allRight lookRight", looks(&mut r)),
+            0 => ("PackRow", "pack_right", antt::packing(&packing(&mut r, max_t))),
+            1 => ("UnpackRow", "unpack_right", antt::unpacking(&unpacking(&mut r, max_t))),
+            2 => ("CallRow", "calls_right", antt::building(&building(&mut r, max_t))),
+            3 => ("WholePackRow", "whole_pack_right", antt::whole_packing(&whole_packing(&mut r, max_t))),
+            4 => ("WholeRow", "whole_right", antt::whole(&whole(&mut r))),
+            5 => ("MeltRow", "melt_right", antt::melting(&melting(&mut r))),
+            _ => ("List LookRow", "all_right look_right", looks(&mut r)),
         };
         out += &format!("\nabbrev row{i} : {kind}\nrow{i} =\n    {row}\n\npub case{i} : T ({right} row{i})\n{unfolding}\ncase{i} = tt\n");
     }

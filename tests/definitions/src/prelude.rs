@@ -4,19 +4,9 @@ use crate::lines;
 use std::fs;
 use std::path::PathBuf;
 
-/// Where a module of rows stands: in the crate of the definitions, or in one that uses it.
-pub enum Home {
-    Rules,
-    Outside,
-}
-
-/// The specs and the proofs of the rules, as the module names them.
-fn roots(home: &Home) -> (&'static str, &'static str) {
-    match home {
-        Home::Rules => ("Rattle·rules·specs.specs", "Rattle·rules·proofs.proofs"),
-        Home::Outside => ("Rattle·rules.specs", "Rattle·rules.proofs"),
-    }
-}
+/// The specs and the proofs of the rules.
+const SPECS: &str = "Rattle.rules.specs";
+const PROOFS: &str = "Rattle.rules.proofs";
 
 fn rules() -> PathBuf {
     PathBuf::from(env!("CARGO_MANIFEST_DIR")).join("../../crates/rules")
@@ -35,32 +25,31 @@ fn modules() -> Vec<String> {
 }
 
 /// The `use` lines, and the line that opens the definitions and these rows under a theorem.
-pub fn prelude(home: &Home, rows: &[&str]) -> (String, String) {
-    let (specs, proofs) = roots(home);
+pub fn prelude(rows: &[&str]) -> (String, String) {
     let mut uses = format!(
         "use Prim.Native.Nat.{{ℕ}}
-use mathlib.Core.Bool.{{Bool, true, false, _&&_}}
-use mathlib.Core.List.{{List, [], _∷_, _++_}}
+use mathlib.Core.Bool.{{Bool, true, false, ◌&&◌}}
+use mathlib.Core.List.{{List, [], ◌∷◌, ◌++◌}}
 use lib.ListN.{{replicate}}
 use lib.Dec.{{T}}
 use lib.IntN.{{pos, negsuc}}
-use {specs}.declared.Operation.the-variants.{{New, Forward, Backward, Border, Split, Close, Union, Start}}
-use {specs}.declared.Melted.the-variants.{{Six, Refused}}
-use {specs}.Triangle.{{tri}}
-use {specs}.Answer.{{refusal, accepted, triangle, no-triangle, numbers, packed}}
-use {specs}.Book.{{begin, operate, finish}}
-use {specs}.Pack.{{most}}
-use {specs}.Later.{{not-given, given}}
-use {proofs}.Rows.{{PackRow, UnpackRow, CallRow, FieldsRow, LookRow, WholePackRow, WholeRow, MeltRow}}
-use {proofs}.Rows.{{place, packLent, unpackLent, unpackTold, volumeTold, lengths, counts, totalsOf, modelOf}}
+use {SPECS}.declared.Operation.TheVariants.{{New, Forward, Backward, Border, Split, Close, Union, Start}}
+use {SPECS}.declared.Melted.TheVariants.{{Six, Refused}}
+use {SPECS}.Triangle.{{tri}}
+use {SPECS}.Answer.{{refusal, accepted, triangle, no_triangle, numbers, packed}}
+use {SPECS}.Book.{{begin, operate, finish}}
+use {SPECS}.Pack.{{most}}
+use {SPECS}.Later.{{not_given, given}}
+use {PROOFS}.Rows.{{PackRow, UnpackRow, CallRow, FieldsRow, LookRow, WholePackRow, WholeRow, MeltRow}}
+use {PROOFS}.Rows.{{place, pack_lent, unpack_lent, unpack_told, volume_told, lengths, counts, totals_of, model_of}}
 "
     );
     let mut names = unfoldable("proofs", "Rows");
-    uses += &lines::uses(&format!("{proofs}.Rows"), &names);
+    uses += &lines::uses(&format!("{PROOFS}.Rows"), &names);
     for m in modules() {
         let found = unfoldable("specs", &m);
         if !found.is_empty() {
-            uses += &lines::uses(&format!("{specs}.{m}"), &found);
+            uses += &lines::uses(&format!("{SPECS}.{m}"), &found);
             names.extend(found);
         }
     }

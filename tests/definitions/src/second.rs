@@ -124,7 +124,7 @@ pub struct Unpacking {
 }
 
 impl Unpacking {
-    /// The definition `unpack` is that of packs of two fields, on which `unpackWhole` is built: to it a third field is 12, as in the base.
+    /// The definition `unpack` is that of packs of two fields, on which `unpack_whole` is built: to it a third field is 12, as in the base.
     pub fn new(bytes: &[u8], lent: UnpackBuffers) -> Unpacking {
         let mut left = lent.clone();
         let two = Fields::split(Level::BASE, bytes);

@@ -6,7 +6,7 @@ use crate::furnace;
 use crate::lines;
 use crate::notes;
 use crate::positions;
-use crate::prelude::{prelude, Home};
+use crate::prelude::prelude;
 use crate::second::{Building, PackBuffers, Packing, UnpackBuffers, Unpacking};
 use cutborder::gen::op_words;
 use cutborder::ops::Counts;
@@ -321,16 +321,16 @@ fn section(name: &str, kind: &str, rows: &[(String, String)]) -> String {
 
 pub fn module() -> String {
     let sections = [
-        ("packRows", "PackRow", "packRight", packings()),
-        ("unpackRows", "UnpackRow", "unpackRight", unpackings()),
-        ("callRows", "CallRow", "callsRight", buildings()),
-        ("fieldsRows", "FieldsRow", "fieldsRight", packs()),
-        ("lookRows", "LookRow", "lookRight", looks()),
-        ("wholePackRows", "WholePackRow", "wholePackRight", [positions::packings(), notes::packings()].concat()),
-        ("wholeRows", "WholeRow", "wholeRight", [positions::packs(), notes::packs()].concat()),
-        ("meltRows", "MeltRow", "meltRight", furnace::packs()),
+        ("pack_rows", "PackRow", "pack_right", packings()),
+        ("unpack_rows", "UnpackRow", "unpack_right", unpackings()),
+        ("call_rows", "CallRow", "calls_right", buildings()),
+        ("fields_rows", "FieldsRow", "fields_right", packs()),
+        ("look_rows", "LookRow", "look_right", looks()),
+        ("whole_pack_rows", "WholePackRow", "whole_pack_right", [positions::packings(), notes::packings()].concat()),
+        ("whole_rows", "WholeRow", "whole_right", [positions::packs(), notes::packs()].concat()),
+        ("melt_rows", "MeltRow", "melt_right", furnace::packs()),
     ];
-    let (uses, unfolding) = prelude(&Home::Rules, &sections.each_ref().map(|s| s.0));
+    let (uses, unfolding) = prelude(&sections.each_ref().map(|s| s.0));
     let mut out = String::from(
         "-- Models, packs and lists of calls that pin the rules, with the answers of the second program: one table, by computation.
 -- Written by tests/definitions, never by hand; Bench has M1 to M10 as the rules write them, States the states of 21.
@@ -341,7 +341,7 @@ pub fn module() -> String {
     for (name, kind, _, rows) in &sections {
         out += &section(name, kind, rows);
     }
-    let all = sections.each_ref().map(|(name, _, right, _)| format!("allRight {right} {name}")).join(" && ");
+    let all = sections.each_ref().map(|(name, _, right, _)| format!("all_right {right} {name}")).join(" && ");
     let claim = lines::broken(&format!("pub table : T ({all})"), &[lines::AT_OPERATOR], 4);
     out + &format!("\n{claim}\n{unfolding}\ntable = tt\n")
 }
