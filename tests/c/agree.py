@@ -1,9 +1,9 @@
 #!/usr/bin/env python3
 """Whether the headers say what the Rattle sources and the archives have: `agree.py [TOP]`, TOP the project's folder or a copy of it.
 
-Of each function the parameters in their order, types and names, the refusals, how each buffer is to be aligned, and that the archive of
-its header exports it, and no other; of place records and builders each field, where C's rules put it; the limits; the operations' codes.
-The last line is 'N passed, M failed'."""
+Of each function the parameters in their order, types and names, the refusals, how each buffer is to be aligned, that the crate which
+exports it has it as its library has it, and that the archive of its header exports it, and no other; of place records and builders each
+field, where C's rules put it; the limits; the operations' codes. The last line is 'N passed, M failed'."""
 import pathlib
 import re
 import subprocess
@@ -205,6 +205,7 @@ def compare_library(told, top, header, library, names):
     source, declared = in_source((top / f'crates/{library}/src/lib.rt').read_text()), in_header(text)
     known = aliases(top, names)
     of_header = dict(re.findall(r'#define (\w+) (-?\d+)', text))
+    told.same(f'{header}: what {library}_c exports', source, in_source((top / f'crates/{library}_c/src/lib.rt').read_text()))
     told.same(f'{header}: the functions, in their order', list(source), re.findall(r'^\w+ (\w+)\(', text, re.M))
     told.same(f'{header}: the functions of lib{library}.a', exported(top / f'target/staticlib/lib{library}.a'), set(declared))
     labelled = {n for n, (_, _, labels) in declared.items() if {'Returns', 'Lent', 'Aligned', 'Stack'} <= set(labels)}

@@ -1,5 +1,7 @@
 // The types of the running state, beside the plain memory: of the cut-border itself, of a packing, of an unpacking and of the furnace's own
 // reader. Their meaning stands in the theory crates: border_theory, state_theory, pack_theory, unpack_theory and melting_theory.
+#![tactic(auto)]
+
 use rules::{Builder, Counts, Operation, Peaks, TRIANGLES, Triangle};
 
 // All loops together have at most so many places.

@@ -1,1 +1,2 @@
 // Theorems about the furnace's own reader: its run, and its answers beside the service's. No code.
+#![tactic(auto)]

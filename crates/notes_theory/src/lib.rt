@@ -1,1 +1,2 @@
 // Theorems about packs with a note, and about the cores that pack and read them. No code.
+#![tactic(auto)]

@@ -1,5 +1,7 @@
 // The types of the service: what its calls take, hold and answer. Their meaning stands in specs/. What callers in other languages
 // lend too, place records and builders, lies in memory as C lays it out (`repr(C)`).
+#![tactic(auto)]
+
 ghost use Rattle.std.specs.Prelude.{◌≡◌};
 ghost use Rattle.rules.specs.Build.{empty_builder};
 

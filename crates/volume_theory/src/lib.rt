@@ -1,1 +1,2 @@
 // Theorems about grid positions and volumes. No code.
+#![tactic(auto)]

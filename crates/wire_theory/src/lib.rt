@@ -1,1 +1,2 @@
 // Laws of bits, codes and fields. Definitions in specs/, proofs in proofs/; no code.
+#![tactic(auto)]
