@@ -55,11 +55,10 @@ fn told(out: &mut Output<Stdout>, s: Session, line: &[u8]) -> Session
     s
 }
 
-// A line that is no call: the answer is `error` and why, which is said too, after the answers before it.
+// A line that is no call: the answer is `error` and why, which is said too.
 fn no_call(rt: &HostRuntime, out: &mut Output<Stdout>, s: Session, why: &[u8]) -> Session
     ensures { (result.entries ≡ s.entries) × (result.records ≡ s.records) }
 {
-    out.flush();
     say(rt, b"build", why);
     out.bytes(b"error ");
     told(out, s, why)

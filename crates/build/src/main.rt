@@ -177,7 +177,6 @@ fn answer_read(
         × (result.session.records ≤ max_places) }
 {
     let a = answer_whole(rt, out, &input[..n], held, s, triangles, m);
-    out.flush();
     keep_rest(rt, out, a.next, n, a.session, input)
 }
 

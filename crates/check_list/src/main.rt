@@ -61,7 +61,6 @@ fn check_each(rt: &HostRuntime, out: &mut Output<Stdout>, part: &mut [u8], numbe
     for i in 0..input_count(rt, 1) {
         let t = read_input_numbers(rt, b"check_list", i + 1, false, part, numbers);
         check_told(rt, out, t, numbers);
-        out.flush();
         if out.has_failed() {
             return;
         }

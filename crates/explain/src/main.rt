@@ -32,7 +32,6 @@ fn explain(rt: &HostRuntime, out: &mut Output<Stdout>, n: u16) {
             return;
         }
     }
-    out.flush();
     say(rt, b"explain", b"refusals have the numbers 1 to 26");
 }
 

@@ -106,6 +106,7 @@ fn pack_accepted(
 
 // The tests before the run: the first of 1 to 8 and 22 that packing the list meets, where the numbering and the order have so many
 // entries and n place records were lent. Chains that held no triangle then hold those of a list that gets past them.
+#[tactic(auto, using(crate::proofs::Rooms::rooms))]
 pub fn test_rooms(
     v: usize,
     list: &[u16],

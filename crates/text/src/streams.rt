@@ -1,5 +1,5 @@
 // Reading and writing whose failures are noticed: each gets a line on standard error.
-ghost use Rattle.std.specs.Prelude.{◌+◌, ◌≤◌, length};
+ghost use Rattle.std.specs.Prelude.{◌≤◌, length};
 ghost use Rattle.text.specs.Reads.{Fills};
 
 use itoa::Buffer;
@@ -13,9 +13,6 @@ pub const MOST_NAME: usize = 4095;
 
 // The most bytes of what the system says of a failure; no text of it has so many.
 const REASON: usize = 120;
-
-// So many bytes are held before they are written.
-const HELD: usize = 4096;
 
 // Up to where a buffer is filled; or it holds nothing of use: a read failed, which is not the end of the input, and why, or an argument is
 // none that the program takes.
@@ -64,7 +61,6 @@ pub fn say_failed(rt: &HostRuntime, program: &[u8], what: &[u8], why: Error) {
     line.bytes(b": ");
     line.reason(why);
     line.bytes(b"\n");
-    let _ = line.ended();
 }
 
 // The same of a file that a program cannot write.
@@ -76,7 +72,6 @@ pub fn say_unwritten(rt: &HostRuntime, program: &[u8], name: &[u8], why: Error) 
     line.bytes(b": ");
     line.reason(why);
     line.bytes(b"\n");
-    let _ = line.ended();
 }
 
 // Says on standard error why a program stops, or what it leaves out.
@@ -86,17 +81,13 @@ pub fn say(rt: &HostRuntime, program: &[u8], line: &[u8]) {
     out.bytes(b": ");
     out.bytes(line);
     out.bytes(b"\n");
-    let _ = out.ended();
 }
 
-// What is open for writing: the bytes that are held to be written together, and why a write failed, if one has, after which nothing more
-// is written. It cannot be let go but by `end`, `close` or `ended`, so that no byte that is held is forgotten.
+// What is open for writing, and why a write failed, if one has, after which nothing more is written.
+#[derive(Drop)]
 pub struct Output<W> {
     to: W,
-    held: [u8; HELD],
-    count: usize,
     failure: Option<Error>,
-    ghost fits: { count ≤ 4096 },
 }
 
 impl Output<Stdout> {
@@ -109,12 +100,7 @@ impl Output<Stdout> {
 impl<W: Write> Output<W> {
     // A file that was just opened.
     pub fn to(to: W) -> Output<W> {
-        Output {
-            to,
-            held: [0; HELD],
-            count: 0,
-            failure: None,
-        }
+        Output { to, failure: None }
     }
 
     // Whether a write has failed.
@@ -122,59 +108,13 @@ impl<W: Write> Output<W> {
         self.failure.is_some()
     }
 
-    // Writes what is held. A program does so before it reads and before it says something.
-    pub fn flush(&mut self) {
-        let n = self.count;
-        self.count = 0;
-        if self.has_failed() {
-            return;
-        }
-        if let Err(why) = self.to.write_all(&self.held[..n]) {
-            self.failure = Some(why);
-        }
-    }
-
-    // Writes what is held, and gives back what was open for writing, and why a write failed, if one has.
-    pub(crate) fn ended(self) -> (W, Option<Error>) {
-        let mut out = self;
-        out.flush();
-        let Output {
-            to,
-            held: _,
-            count: _,
-            failure,
-        } = out;
-        (to, failure)
-    }
-
     pub fn bytes(&mut self, text: &[u8]) {
-        if HELD - self.count < text.len() {
-            self.flush();
-        }
-        if HELD - self.count < text.len() {
-            self.write(text);
-        } else {
-            self.hold(text);
-        }
-    }
-
-    // Writes bytes at once, where none are held.
-    fn write(&mut self, text: &[u8]) {
         if self.has_failed() {
             return;
         }
         if let Err(why) = self.to.write_all(text) {
             self.failure = Some(why);
         }
-    }
-
-    // Holds bytes for which there is room.
-    fn hold(&mut self, text: &[u8])
-        requires { self.old.count + length text.now ≤ 4096 }
-    {
-        let end = self.count + text.len();
-        self.held[self.count..end].copy_from_slice(text);
-        self.count = end;
     }
 
     // Writes a number in decimal.
@@ -209,24 +149,26 @@ impl<W: Write> Output<W> {
 impl<W: Write + Drop> Output<W> {
     // Ends standard output: says so if a write failed.
     pub fn end(self, rt: &HostRuntime, program: &[u8]) {
-        let (_, failure) = self.ended();
-        if let Some(why) = failure {
+        if let Some(why) = self.failure {
             say_unwritten(rt, program, b"standard output", why);
         }
     }
 }
 
 impl<F: Write + OpenFile + Drop> Output<F> {
-    // Ends a file of this name and closes it: whether all was written. If not, it says so and leaves the file empty, where that can be
-    // done, so that no part is taken for the whole.
+    // Ends a file of this name and closes it: whether all was written. If not, it says so. After a write that fails it leaves the file
+    // empty, where that can be done, so that no part is taken for the whole.
     pub fn close(self, rt: &HostRuntime, program: &[u8], name: &[u8]) -> bool {
-        let (file, failure) = self.ended();
-        let Some(why) = failure.or_else(|| unsettled(&file)) else {
-            return true;
-        };
-        say_unwritten(rt, program, name, why);
-        let _ = file.set_len(0);
-        false
+        if let Some(why) = self.failure {
+            say_unwritten(rt, program, name, why);
+            let _ = self.to.set_len(0);
+            return false;
+        }
+        if let Some(why) = unsettled(&self.to) {
+            say_unwritten(rt, program, name, why);
+            return false;
+        }
+        true
     }
 }
 

@@ -34,7 +34,6 @@ fn unpack_each(rt: &HostRuntime, out: &mut Output<Stdout>, pack: &mut [u8], tria
     for i in 0..input_count(rt, 1) {
         let r = read_pack(rt, b"unpack", i + 1, pack);
         unpack_read(out, r, pack, triangles);
-        out.flush();
         if out.has_failed() {
             return;
         }

@@ -35,7 +35,6 @@ fn measure_each(
     for i in 0..input_count(rt, 1) {
         let r = read_pack(rt, b"volume", i + 1, pack);
         measure_read(out, r, pack, triangles);
-        out.flush();
         if out.has_failed() {
             return;
         }

@@ -1,5 +1,5 @@
 use Rattle.mesh_theory.proofs.Chains.Checking.{answers_no, answers_on}
-use Rattle.pack_theory.proofs.Packing.Rooms.{rooms_list, rooms_few, rooms_places, rooms_order, rooms_pass}
+use Rattle.pack_theory.proofs.Packing.Rooms.{rooms_list, rooms_few}
 use Rattle.packer.proofs.test_rooms.Goals as goal
 
 pub returns-in_default : goal.returns-in_default
@@ -10,21 +10,3 @@ pub returns-then-numbering-v : goal.returns-then-numbering-v
 returns-then-numbering-v c = answers_no _ _ _ _
     (rooms_few c.args.v c.args.list.now c.args.numbering c.args.order c.args.n _ c.check_into-checked.ensures.right c.in-Accepted.is
     c.if-numbering-v.true)
-
-pub returns-then-n-lt-PLACES : goal.returns-then-n-lt-PLACES
-returns-then-n-lt-PLACES c = answers_no _ _ _ _
-    (rooms_places c.args.v c.args.list.now c.args.numbering c.args.order c.args.n _ c.check_into-checked.ensures.right c.in-Accepted.is
-    c.if-numbering-v.false c.if-n-lt-PLACES.true)
-
-pub returns-then-order-list : goal.returns-then-order-list
-returns-then-order-list c = answers_no _ _ _ _
-    (rooms_order c.args.v c.args.list.now c.args.numbering c.args.order c.args.n _ c.check_into-checked.ensures.right c.in-Accepted.is
-    c.if-numbering-v.false c.if-n-lt-PLACES.false c.if-order-list.true)
-
-pub returns : goal.returns
-returns c = record {
-  right =
-      rooms_pass c.args.v c.args.list.now c.args.numbering c.args.order c.args.n _ c.check_into-checked.ensures.right c.in-Accepted.is
-      c.if-numbering-v.false c.if-n-lt-PLACES.false c.if-order-list.false;
-  chained = λ _. c.check_into-checked.ensures.chained c.in-Accepted.is;
-}
