@@ -57,6 +57,12 @@ def in_source(text):
                    ' '.join(comment.replace('//', '').split())) for comment, name, ps, gives in found}
 
 
+def promised(text):
+    """The clauses of the exported functions of a source."""
+    found = re.findall(r'^pub extern "C" fn (\w+)\([^)]*\) -> \w+\n((?:    .*\n)*?){', text, re.M)
+    return {name: clauses.split() for name, clauses in found}
+
+
 def in_header(text):
     """The functions of a header: parameters as they stand, what is returned, and the comment's lines by their labels."""
     found = re.findall(r'/\*((?:[^*]|\*(?!/))*)\*/\n(\w+) (\w+)\(([^)]*)\);', text)
@@ -202,10 +208,12 @@ def compare_refusals(told, header, text, source, declared):
 def compare_library(told, top, header, library, names):
     """All functions of one header."""
     text = (top / 'include' / header).read_text()
-    source, declared = in_source((top / f'crates/{library}/src/lib.rt').read_text()), in_header(text)
+    own, exports = ((top / f'crates/{crate}/src/lib.rt').read_text() for crate in (library, f'{library}_c'))
+    source, declared = in_source(own), in_header(text)
     known = aliases(top, names)
     of_header = dict(re.findall(r'#define (\w+) (-?\d+)', text))
-    told.same(f'{header}: what {library}_c exports', source, in_source((top / f'crates/{library}_c/src/lib.rt').read_text()))
+    told.same(f'{header}: what {library}_c exports', source, in_source(exports))
+    told.same(f'{header}: what {library}_c promises', promised(own), promised(exports))
     told.same(f'{header}: the functions, in their order', list(source), re.findall(r'^\w+ (\w+)\(', text, re.M))
     told.same(f'{header}: the functions of lib{library}.a', exported(top / f'target/staticlib/lib{library}.a'), set(declared))
     labelled = {n for n, (_, _, labels) in declared.items() if {'Returns', 'Lent', 'Aligned', 'Stack'} <= set(labels)}
