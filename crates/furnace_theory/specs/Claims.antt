@@ -1,4 +1,4 @@
--- What is claimed of the furnace's own reader, beside the service's volume call, each proved under the same name with hyphens. That a note
+-- What is claimed of the furnace's own reader, beside the service's volume call, each proved under the same name in snake case. That a note
 -- makes no difference to it is claimed with the other calls (notes_theory, `NotesMakeNoDifference`).
 -- Assumes nothing.
 use Rattle.std.specs.Prelude.{ℕ, ◌≤◌, Bool, true, false, List, [], ◌∷◌, ◌↔◌, ◌≡◌, ℤ}

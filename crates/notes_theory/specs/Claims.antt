@@ -1,5 +1,5 @@
--- What is claimed of packs with a note, and of the volume call on packs with a note and without, each proved under the same name with
--- hyphens.
+-- What is claimed of packs with a note, and of the volume call on packs with a note and without, each proved under the same name in
+-- snake case.
 -- Assumes nothing.
 use Rattle.std.specs.Prelude.{ℕ, ◌+◌, ◌*◌, ◌≤◌, ◌<◌, true, false, List, [], ◌++◌, ◌↔◌, ◌≡◌, ℤ, pos, neg_ℤ, nat_abs, ◌-ℤ◌, length, take}
 use Rattle.std.specs.Prelude.{drop, get_or, set}

@@ -49,10 +49,10 @@
 --   "The loop with fewer places goes on; if equal, the first" | Table: shorter_first | "split of equal halves, next to a marked edge"
 --   "The other waits, as the latest" | Table: in_order | "the second loop of a split goes on, the first waits .."
 --   "Each has its closing edge as current" | Table: at_edge, the clause Split | "the second loop of a split goes on, .."
---   "Otherwise a place stays" | Places: placesAt, rings_after; View: place_rings | rings
+--   "Otherwise a place stays" | Places: places_at, rings_after; View: place_rings | rings
 --   "A union makes one loop: a→c, round the waiting loop .." | Table: at_edge, the clause Union | "after a union c→b is current"
 --   "ends as a rim", "the latest waiting loop goes on" | Table: marking, Marking | "a rim ends with two places"
---   "When a loop ends its places are freed" | Places: placesAt, alive; Build: Leaves, the line left | rings
+--   "When a loop ends its places are freed" | Places: places_at, alive; Build: Leaves, the line left | rings
 --   "Edge rule: a, b and c differ, and an edge a→c or c→b .." | Table: edge_rule, side_rule | "c is a; c is b", "M10"
 --   ".. is new, its opposite unused too" | Count: unjoined | "refused by opposites only: .."
 --
@@ -70,7 +70,7 @@
 --   "close (k = 3), forward, backward or split; .. union" | Choice: operation_for | "split to c that has a place in a waiting loop too"
 --
 -- The pack
---   "a one-byte tag, a two-byte length, contents, high .." | Fields: fieldOf, word, take_field | "M1"
+--   "a one-byte tag, a two-byte length, contents, high .." | Fields: field_of, word, take_field | "M1"
 --   "Tag 01, length 8: V, T, most places, most live loops" | Fields: counts_of, pack_bytes, counts_from | "M1"
 --   "both peaks are taken after each operation" | Machine: after_build, after_mark; Choice: packing_after | "the peak of places is .."
 --   "Tag 02: the operations. Nothing follows" | Fields: last_field | "a field after tag 02"
@@ -85,7 +85,7 @@
 --   C-15: ".. if packing is given a note" | PackWhole: Extras, whole_pack_of; Note: with_note | "note: positions and a note, .."
 --   C-15: "A pack is then unique for .. its note" | NoTwoPacksOfTheThree in crates/notes_theory/specs/Claims | "note: 64 bytes"
 --   "A code has three bits, i and j ten, p seven" | Code: code, operation_bits | "M1", "union 2 of two waiting loops; .."
---   "high bit first", "the last byte is filled with zero .." | Bits: bits, bytesOf | "M1"
+--   "high bit first", "the last byte is filled with zero .." | Bits: bits, bytes_of | "M1"
 --   the same, read | Code: read_operation; Bits: read_number | "M1 to M5"
 --   "The operation reader keeps the bytes it was lent .." | OperationReader in crates/wire/src/reader.rt | (its contract)
 --   "The model is complete when .." | Machine: complete | "T triangles are built and a loop is live: not complete"
@@ -93,7 +93,7 @@
 -- Why a call is turned down
 --   1, "empty, over 24,576 numbers, or not a multiple of three" | Check: size_fits | "M9, any V", "1: four numbers", "1: 24,579 numbers"
 --   2, "V is below 3 or above 4,096" | Limits: vertex_range | "2: V 2", "2: V 4,097"
---   3, "A number is V or more" | Check: allBelow | "3: a number is V"
+--   3, "A number is V or more" | Check: all_below | "3: a number is V"
 --   4, "A triangle has a vertex twice" | Triangle: distinct; Check: all_distinct | "4: first and second corner"
 --   5, "A directed edge occurs twice" | Check: none_twice | "M7"
 --   6, "A vertex is in no triangle" | Check: all_used | "M6"
@@ -108,10 +108,11 @@
 --   C-13: 1 to 8, 22, 23, 9 to 11 | PackWhole: pack_whole_within, whole_checked | "positions: 5 before 23" to "positions: 11: .."
 --   C-15: 25 in packing, "the note's length is 0 or over 64" | Note: note_fits | "note: 25: 0 bytes" to "note: 25: 257 bytes"
 --   C-15: 1 to 8, 22, 23, 25 ("after 23"), 9 to 11 | PackWhole: whole_checked | "note: 5 before 25" to "note: 25 before 11"
---   12, "not the two fields above, whole and in order" | Fields: fieldsOf, first_field | "12: nothing, wrong tag, .."
---   C-13: "12 counts it .. in its place, whole, at most once" | Later: partsOf, last_part | "12: field 03 twice" to "12: 02 again after .."
+--   12, "not the two fields above, whole and in order" | Fields: fields_of, first_field | "12: nothing, wrong tag, .."
+--   C-13: "12 counts it .. in its place, whole, at most once" | Later: parts_of, last_part | "12: field 03 twice" to "12: 02 again after
+--   .."
 --   C-15: 12 of every other arrangement of its field | Note: last_note, past | "12: field 04 twice" to "12 before 13: field 04 twice"
---   13, "V is not 3 to 4,096, T not 1 to 8,192, .." | Limits: inRange | "13: V 2, V 4097, .."
+--   13, "V is not 3 to 4,096, T not 1 to 8,192, .." | Limits: in_range | "13: V 2, V 4097, .."
 --   14, "fewer than 3T entries or .. 1,024 records" | Machine: long_enough | "14: triangles", "14: places"
 --   15, "end before the model is complete, or break off" | Unpack: run_all; Machine: complete | "15: no operations; .."
 --   16, "not allowed by the table" | Table: effect; Machine: done | "16: split in a loop of three; .."
@@ -154,8 +155,8 @@
 --   "Acceptance writes the results and nothing beyond them" | Buffer: over; Pack: pack_done; Unpack: unpack_done | "buffers just long
 --   enough"
 --   .. of a building operation | Build: Leaves; Sound: sound_else | rings, (the contract of service::operation)
---   "For each old vertex .. the new number" | Pack: new_numbers, indexOf | "M5"
---   C-11: "for each built triangle, in building order, its input number" | Order: next_number, orderBy | "two pieces listed in turn: .."
+--   "For each old vertex .. the new number" | Pack: new_numbers, index_of | "M5"
+--   C-11: "for each built triangle, in building order, its input number" | Order: next_number, order_by | "two pieces listed in turn: .."
 --   C-11: "each is there once" | EachOnce in crates/roundtrip/specs/Claims | (`each_triangle_once`)
 --   "packing answers the pack's length, unpacking V, T .." | Answer: packed_answer, unpacked_answer | "M1" to "M5"
 --   C-13: "The volume call unpacks and gives besides six times .." | Reading: VolumeResult, six_of | "volume of a torus"
@@ -186,12 +187,12 @@
 --   "A finish .. reads its answer off the book" | Book: recounted; Machine: finishing | "M1" to "M5"
 --   "A call that fails .. leaves the book as it is" | Book: entered | "13 before 14 at a beginning; .."
 --   "21 does not arise" | Book: call, which does not ask for it | (`passes` of KeepsTheBook, crates/promises/specs/BuildersBook)
---   "The answers compared are acceptance or the number, .." | Book: answerOf, answer; Calls: answers | all rows of calls
+--   "The answers compared are acceptance or the number, .." | Book: answer_of, answer; Calls: answers | all rows of calls
 --   "Vertices are the different numbers in the .. triangles" | Count: different | "M1" to "M5"
 --   "edges the pairs of vertices that one of them joins, .." | Count: pairs | "M1" to "M5"
 --   "Live loops, rims, starts and unions are the book's" | Machine: Machine | all rows of calls
 --   "The builder's own counts equal them all" | View: view; Build: viewed | states
---   "those recorded as open at its live loops' places .." | View: openAt | states
+--   "those recorded as open at its live loops' places .." | View: open_at | states
 --   "the model's are taken from the book's triangles and .." | Book: model_open | open_edges_lem
 --   "the last accepted beginning's counts and the operations" | Calls: log_all | logs
 --

@@ -1,4 +1,4 @@
--- What is claimed of six times the volume, each proved under the same name with hyphens.
+-- What is claimed of six times the volume, each proved under the same name in snake case.
 -- Assumes nothing.
 use Rattle.std.specs.Prelude.{ℕ, ◌+◌, ◌*◌, ◌≤◌, ◌<◌, true, List, ◌↔◌, ◌≡◌, ℤ, pos, neg_ℤ, nat_abs, ◌-ℤ◌, length, take, get_or, set}
 use Rattle.rules.specs.declared.Triangle.{Triangle}
