@@ -55,8 +55,8 @@ def uses(line):
 
 
 def broken(line):
-    """A line as lines of at most WIDE characters."""
-    if len(line) <= WIDE:
+    """A line as lines of at most WIDE characters; an attribute stands on one, as `rt fmt` lays it out."""
+    if len(line) <= WIDE or line.lstrip().startswith('#['):
         return [line]
     begun = re.match(r' *(-- +|// +|unfolding )', line)
     if begun:

@@ -40,7 +40,7 @@ def value(expression, names):
 
 def constants(top):
     """The sources' constants of sizes, as they are written."""
-    texts = [(top / f'crates/{name}/src/lib.rt').read_text() for name in ('rules', 'cells')]
+    texts = [(top / f'crates/{page}.rt').read_text() for page in ('rules/src/lib', 'cells/src/bytes')]
     return dict(m.groups() for text in texts for m in re.finditer(r'const (\w+): usize = ([^;]+);', text))
 
 

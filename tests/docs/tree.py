@@ -7,7 +7,9 @@ import subprocess
 
 TOP = os.path.dirname(os.path.dirname(os.path.dirname(os.path.abspath(__file__))))
 DECLARED = re.compile(r' *(?:pub |abbrev |unfoldable )*(?:(record|data|module) (\S+)|([^\s:(){}=]+(?: [^\s:(){}=]+)*) :(?:\s|$))')
-ITEM = re.compile(r'\b(?:fn|struct|enum|const|static|mod|type|def|class) (\w+)|^ +(?:pub )?(\w+): |^([A-Z_]+) =', re.M)
+ITEM = re.compile(r'\b(?:fn|struct|enum|trait|const|static|mod|type|def|class) (\w+)|^ +(?:pub )?(\w+): |^([A-Z_]+) =', re.M)
+# A word of Rattle that names nothing in the tree.
+WORDS = {'impl'}
 TYPE = re.compile(r'^(?:pub )?(?:enum|struct) (\w+)[^{;]*\{(.*?)^\}', re.M | re.S)
 
 
@@ -55,7 +57,7 @@ class Tree:
         kit = ' '.join(re.findall(r'use (?!Rattle\.(?!std\.))[\w.]+\.\{([^}]*)\}', text) + [uses for _, uses in lines])
         self.crates = {name for name, _ in lines}
         self.edits = [f for f in self.files if f.endswith('.edit')]
-        self.known = self.crates.union(re.split('[ ,]+', kit), *self.names.values(), (os.path.basename(f)[:-5] for f in self.edits))
+        self.known = self.crates.union(WORDS, re.split('[ ,]+', kit), *self.names.values(), (os.path.basename(f)[:-5] for f in self.edits))
         self.literals = set(re.findall(r'''["']((?<=")[^"\n]+|--[^'\n]+)''', text))
         self.rows = re.findall(r'^    -- (.*)', self.files['crates/rules/proofs/Models.antt'], re.M)
         self.help = subprocess.run(['rt', 'help'], stdout=subprocess.PIPE, stderr=subprocess.STDOUT, text=True).stdout

@@ -1,4 +1,4 @@
-// The cut-border in memory, and the eight operations on it: an operation is decided, which changes nothing, the edge rule is tested by
+// The cut-border in a memory, and the eight operations on it: an operation is decided, which changes nothing, the edge rule is tested by
 // the caller, and then it is done. The contracts cite border_theory/specs/Memory/; the theorem `decides` (border_theory/proofs/Memory)
 // joins them to the machine of the rules.
 #![tactic(auto)]
@@ -12,8 +12,7 @@ pub mod triangles; // the triangle buffer
 pub mod verdict; // whether an operation is allowed and has room
 
 ghost use Rattle.std.specs.Prelude.{◌≡◌, ◌*◌, ◌≤◌, length};
-ghost use Rattle.rules.specs.Limits.{max_places};
-ghost use Rattle.cutborder.specs.declared.Decided.TheVariants.{Builds};
+ghost use Rattle.cutborder.specs.declared.Action.TheVariants.{Builds};
 ghost use Rattle.border_theory.specs.Memory.Moves.{marked_held};
 ghost use Rattle.border_theory.specs.Memory.Decision.{decided, held_after, built_front, marked_front};
 ghost use Rattle.border_theory.specs.Memory.Keeps.{Ready};
@@ -22,18 +21,21 @@ ghost use Rattle.border_theory.specs.Memory.Fresh.{all_free, fresh_front};
 use crate::alter::alter;
 use crate::count::{count_built, count_marked};
 use crate::verdict::{propose, test_room};
-use cutborder::{Decided, Front, Loops, Plan};
-use rings::stack::free_all;
+use cells::PlaceMemory;
+use cutborder::{Action, Front, Loops, Plan};
 use rings::surgery::mark_border;
+use rings::walks::free_all;
+use rules::refusal::Refusal;
 use rules::{Counts, Operation, Peaks};
 
-// A building with the counts stated begins in a memory of n places: the state, with every place free.
-pub fn begin(m: &mut [u16], n: usize, stated: Counts) -> Front
-    requires { (n ≤ max_places) × (5 * n ≤ length m.old) }
-    ensures state { result ≡ fresh_front n stated }
-    ensures memory { m.new ≡ all_free n m.old n }
+// `as u16` narrows a capacity, which `fits` of `PlaceMemory` bounds by `max_places`: `try_from` would be no plainer.
+/// A building with the counts stated begins: the state, with every place free.
+pub fn begin<M: PlaceMemory>(m: &mut M, stated: Counts) -> Front
+    requires { 5 * M.places ≤ length (M.numbers m.old) }
+    ensures state { result ≡ fresh_front M.places stated }
+    ensures memory { M.numbers m.new ≡ all_free M.places (M.numbers m.old) M.places }
 {
-    free_all(m, n);
+    free_all(m);
     let peaks = Peaks {
         places: 0,
         loops: 0,
@@ -42,7 +44,7 @@ pub fn begin(m: &mut [u16], n: usize, stated: Counts) -> Front
         live: 0,
         current: 0,
         size: 0,
-        free: n as u16,
+        free: M::capacity() as u16,
     };
     Front {
         stated,
@@ -57,32 +59,31 @@ pub fn begin(m: &mut [u16], n: usize, stated: Counts) -> Front
     }
 }
 
-// What the operation o would do: 16, then 17, or the plan of a triangle, or the edge to be marked as border.
-pub fn decide(m: &[u16], n: usize, s: Front, o: Operation) -> Decided
-    requires { Ready n s m.now }
-    ensures { result ≡ decided n s m.now o }
+/// What the operation o would do: 16, then 17, or the plan of a triangle, or the edge to be marked as border.
+#[tactic(auto, unfolding(border_theory::specs::Memory::Decision::decided, border_theory::specs::Memory::Decision::proposed))]
+pub fn decide<M: PlaceMemory>(m: &M, s: Front, o: Operation) -> Result<Action, Refusal>
+    requires { Ready M.places s (M.numbers m.now) }
+    ensures { result ≡ decided M.places s (M.numbers m.now) o }
 {
-    let d = propose(m, n, s.loops, s.used, o);
-    test_room(n, s, d)
+    test_room(M::capacity(), s, propose(m, s.loops, s.used, o))
 }
 
-// The planned operation o is done: the state after it. The memory past the waiting loops is unchanged.
-pub fn build(m: &mut [u16], n: usize, s: Front, o: Operation, p: Plan) -> Front
-    requires { Ready n s m.old × (decided n s m.old o ≡ Builds p) }
-    ensures state { result ≡ built_front n s p (held_after n s m.old o p).loops }
-    ensures memory { m.new ≡ (held_after n s m.old o p).memory }
+/// The planned operation o is done: the state after it. The memory past the waiting loops is unchanged.
+pub fn build<M: PlaceMemory>(m: &mut M, s: Front, o: Operation, p: Plan) -> Front
+    requires { Ready M.places s (M.numbers m.old) × (decided M.places s (M.numbers m.old) o ≡ Ok (Builds p)) }
+    ensures state { result ≡ built_front M.places s p (held_after M.places s (M.numbers m.old) o p).loops }
+    ensures memory { M.numbers m.new ≡ (held_after M.places s (M.numbers m.old) o p).memory }
 {
-    let l = alter(m, n, s.loops, s.used, o, p.place);
-    count_built(n, s, p, l)
+    let l = alter(m, s.loops, s.used, o, p.place);
+    count_built(M::capacity(), s, p, l)
 }
 
-// The current edge is marked as border: the state after it.
-pub fn mark(m: &mut [u16], n: usize, s: Front) -> Front
-    requires { Ready n s m.old × (s.loops.live ≡ 0 → ⊥) }
-    ensures state { result ≡ marked_front n s (marked_held n s.loops m.old).loops }
-    ensures memory { m.new ≡ (marked_held n s.loops m.old).memory }
+/// The current edge is marked as border: the state after it.
+pub fn mark<M: PlaceMemory>(m: &mut M, s: Front) -> Front
+    requires { Ready M.places s (M.numbers m.old) × (s.loops.live ≡ 0 → ⊥) }
+    ensures state { result ≡ marked_front M.places s (marked_held M.places s.loops (M.numbers m.old)).loops }
+    ensures memory { M.numbers m.new ≡ (marked_held M.places s.loops (M.numbers m.old)).memory }
 {
-    let old = s.loops;
-    let l = mark_border(m, n, old);
-    count_marked(n, s, l)
+    let l = mark_border(m, s.loops);
+    count_marked(M::capacity(), s, l)
 }

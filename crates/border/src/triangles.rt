@@ -5,13 +5,10 @@ ghost use Rattle.rules.specs.Build.{with_triangle};
 
 use rules::Triangle;
 
-// Writes triangle n into the buffer.
+/// Writes triangle n into the buffer.
 pub fn put_triangle(triangles: &mut [u16], n: usize, t: Triangle)
     requires { (3 * n + 3 ≤ length triangles.old) × (n < max_triangles) }
     ensures { triangles.new ≡ with_triangle n t triangles.old }
 {
-    let i = 3 * n;
-    triangles[i] = t.p;
-    triangles[i + 1] = t.q;
-    triangles[i + 2] = t.r;
+    triangles[3 * n..3 * n + 3].copy_from_slice(&[t.p, t.q, t.r]);
 }

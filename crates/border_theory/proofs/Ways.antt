@@ -1,5 +1,2 @@
--- Laws over plain lists and numbers that the proofs of functions on a memory cite, one for each way through a function.
-pub mod Planning
+-- Laws over plain lists and numbers that the proofs of functions on a memory cite.
 pub mod Stacking
-pub mod Storing
-pub mod Walking

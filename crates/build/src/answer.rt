@@ -1,274 +1,158 @@
 // The calls and their answers.
-ghost use Rattle.std.specs.Prelude.{◌≤◌, ◌≡◌, length};
+ghost use Rattle.std.specs.Prelude.{◌≤◌, length};
 ghost use Rattle.rules.specs.Limits.{max_places};
 
-use crate::words::{Named, Numbers, numbers_from, operation_from};
+use crate::words::{LineError, numbers, operation};
 use builder::begin::begin_on;
 use builder::finish::finish_on;
 use builder::operation::operation_on;
 use cutborder::Memory;
 use places::settle;
-use rules::{Builder, Checked, Counts, Finished, Operated, Operation, Totals, Triangle};
+use rules::refusal::Refusal;
+use rules::{Builder, CORNERS, Counts, Operation, Triangle};
 use std::io::Stdout;
+use text::program::Program;
 use text::show::print_refusal;
-use text::streams::{Output, say};
-use text::words::{is_same, word_end, word_start};
+use text::streams::Output;
+use text::words::Words;
 
-// A builder, and how long the buffers are that it is lent.
-#[derive(Clone, Copy)]
-pub struct Session {
-    pub state: Builder,
-    pub entries: usize,
-    pub records: usize,
+// How much of the buffers a builder is lent.
+#[derive(Drop)]
+struct Lent {
+    entries: usize,
+    records: usize,
+    ghost entries_fit: { entries ≤ 24576 },
+    ghost records_fit: { records ≤ max_places },
 }
 
-// What a line's first word calls.
-#[derive(Clone, Copy)]
-enum Call {
-    Begin,
-    Op,
-    Finish,
-    Nothing,
-}
-
-// No model was begun yet.
-pub(crate) fn fresh() -> Session
-    ensures { (result.entries ≡ 0) × (result.records ≡ 0) }
-{
-    Session {
-        state: Builder::empty(),
-        entries: 0,
-        records: 0,
+impl Lent {
+    // An operation on the front of the buffers.
+    fn operate(
+        &self,
+        state: &mut Builder,
+        op: Operation,
+        triangles: &mut [u16],
+        memory: &mut Memory,
+    ) -> Result<Option<Triangle>, Refusal>
+        requires { self.now.entries ≤ length triangles.old }
+    {
+        settle(memory);
+        let entries = self.entries;
+        operation_on(state, op, &mut triangles[..entries], memory, self.records)
     }
 }
 
-fn print(out: &mut Output<Stdout>, line: &[u8]) {
-    out.bytes(line);
-    out.bytes(b"\n");
+// A run of calls: a builder, the buffers of which it is lent the front, and where the answers go.
+#[derive(Drop)]
+pub(crate) struct Session<'a> {
+    pub program: Program<'a>,
+    pub out: Output<Stdout>,
+    state: Builder,
+    triangles: [u16; CORNERS],
+    memory: Memory,
+    lent: Lent,
 }
 
-// A line as the answer.
-fn told(out: &mut Output<Stdout>, s: Session, line: &[u8]) -> Session
-    ensures { (result.entries ≡ s.entries) × (result.records ≡ s.records) }
-{
-    print(out, line);
-    s
-}
+impl<'a> Session<'a> {
+    // No model was begun yet.
+    pub fn new(program: Program<'a>) -> Session<'a> {
+        Session {
+            program,
+            out: Output::to(program.rt.stdout()),
+            state: Builder::empty(),
+            triangles: [0; CORNERS],
+            memory: places::empty(),
+            lent: Lent {
+                entries: 0,
+                records: 0,
+            },
+        }
+    }
 
-// A line that is no call: the answer is `error` and why, which is said too.
-fn no_call(rt: &HostRuntime, out: &mut Output<Stdout>, s: Session, why: &[u8]) -> Session
-    ensures { (result.entries ≡ s.entries) × (result.records ≡ s.records) }
-{
-    say(rt, b"build", why);
-    out.bytes(b"error ");
-    told(out, s, why)
-}
+    // Answers a line. A remark is its own answer; of a line that is no call the answer is `error`
+    // and why, which is said too.
+    pub fn answer_line(&mut self, line: &[u8]) {
+        if line.first() == Some(&b'#') {
+            self.out.bytes(line);
+            self.out.bytes(b"\n");
+        } else if let Err(why) = self.call(line) {
+            self.program.say(why);
+            writeln!(self.out, "error {why}");
+        }
+    }
 
-// The smaller of a length and the most that there is.
-fn at_most(n: u16, most: usize) -> usize
-    ensures { result ≤ most }
-{
-    let wide = n as usize;
-    if most < wide {
-        return most;
+    // Makes the call that a line names.
+    fn call(&mut self, line: &[u8]) -> Result<(), LineError> {
+        let mut words = Words(line);
+        match words.next() {
+            Some(b"begin") => self.begin(numbers(words, LineError::NoCall)?),
+            Some(b"op") => self.operate(operation(words)?),
+            Some(b"finish") => {
+                let [] = numbers::<0>(words, LineError::NoCall)?;
+                self.finish();
+            }
+            _ => return Err(LineError::NoCall),
+        }
+        Ok(())
     }
-    wide
-}
 
-fn print_triangle(out: &mut Output<Stdout>, t: Triangle) {
-    out.bytes(b"ok ");
-    out.number(t.p, b' ');
-    out.number(t.q, b' ');
-    out.number(t.r, b'\n');
-}
+    // A beginning. Refused, it leaves the model as it was.
+    fn begin(&mut self, numbers: [u16; 6]) {
+        let [vertices, triangles, places, loops, entries, records] = numbers;
+        let stated = Counts {
+            vertices,
+            triangles,
+            places,
+            loops,
+        };
+        let entries = usize::from(entries).min(CORNERS);
+        let records = usize::from(records).min(Builder::MAX_PLACES);
+        match begin_on(stated, &self.triangles[..entries], records) {
+            Ok(state) => {
+                self.state = state;
+                self.memory = places::empty();
+                self.lent = Lent { entries, records };
+                self.out.bytes(b"ok\n");
+            }
+            Err(refusal) => print_refusal(&mut self.out, refusal),
+        }
+    }
 
-fn print_operated(out: &mut Output<Stdout>, a: Operated) {
-    match a {
-        Operated::Built(t) => print_triangle(out, t),
-        Operated::Marked => print(out, b"ok"),
-        Operated::Refused(n) => print_refusal(out, n),
+    // An operation.
+    fn operate(&mut self, op: Operation) {
+        let Session {
+            state,
+            triangles,
+            memory,
+            lent,
+            ..
+        } = self;
+        match lent.operate(state, op, triangles, memory) {
+            Ok(Some(t)) => writeln!(self.out, "ok {} {} {}", t.p, t.q, t.r),
+            Ok(None) => self.out.bytes(b"ok\n"),
+            Err(refusal) => print_refusal(&mut self.out, refusal),
+        }
     }
-}
 
-fn print_totals(out: &mut Output<Stdout>, t: Totals) {
-    out.bytes(b"ok ");
-    out.number(t.edges, b' ');
-    out.number(t.rims, b' ');
-    out.number(t.unions, b' ');
-    out.signed(t.euler as i64);
-    out.bytes(b"\n");
-}
-
-fn print_finished(out: &mut Output<Stdout>, f: Finished) {
-    match f {
-        Finished::Totals(t) => print_totals(out, t),
-        Finished::Refused(n) => print_refusal(out, n),
+    // A finish.
+    fn finish(&mut self) {
+        settle(&mut self.memory);
+        let entries = self.lent.entries;
+        let finished = finish_on(
+            self.state,
+            &self.triangles[..entries],
+            &mut self.memory,
+            self.lent.records,
+        );
+        match finished {
+            Ok(t) => {
+                writeln!(
+                    self.out,
+                    "ok {} {} {} {}",
+                    t.edges, t.rims, t.unions, t.euler
+                );
+            }
+            Err(refusal) => print_refusal(&mut self.out, refusal),
+        }
     }
-}
-
-// A beginning: the model that is begun, or the one as it was.
-fn begin(
-    out: &mut Output<Stdout>,
-    n: Numbers,
-    s: Session,
-    triangles: &mut [u16],
-    m: &mut Memory,
-) -> Session
-    requires { (s.entries ≤ length triangles.old) × (s.records ≤ max_places) }
-    ensures { (result.entries ≤ length triangles.old) × (result.records ≤ max_places) }
-{
-    let v = n.values;
-    let stated = Counts {
-        vertices: v[0],
-        triangles: v[1],
-        places: v[2],
-        loops: v[3],
-    };
-    let entries = at_most(v[4], triangles.len());
-    let records = at_most(v[5], Builder::MAX_PLACES);
-    let r = begin_on(stated, &mut triangles[..entries], records);
-    if let Checked::Refused(k) = r.answer {
-        print_refusal(out, k);
-        return s;
-    }
-    *m = places::empty();
-    print(out, b"ok");
-    Session {
-        state: r.state,
-        entries,
-        records,
-    }
-}
-
-// The line of a beginning.
-fn begin_line(
-    rt: &HostRuntime,
-    out: &mut Output<Stdout>,
-    n: Numbers,
-    s: Session,
-    triangles: &mut [u16],
-    m: &mut Memory,
-) -> Session
-    requires { (s.entries ≤ length triangles.old) × (s.records ≤ max_places) }
-    ensures { (result.entries ≤ length triangles.old) × (result.records ≤ max_places) }
-{
-    if n.count != 6 {
-        return no_call(rt, out, s, b"no such call");
-    }
-    if !n.valid {
-        return no_call(rt, out, s, b"not a number");
-    }
-    begin(out, n, s, triangles, m)
-}
-
-// An operation.
-fn operate(
-    out: &mut Output<Stdout>,
-    o: Operation,
-    s: Session,
-    triangles: &mut [u16],
-    m: &mut Memory,
-) -> Session
-    requires { (s.entries ≤ length triangles.old) × (s.records ≤ max_places) }
-    ensures { (result.entries ≤ length triangles.old) × (result.records ≤ max_places) }
-{
-    let entries = s.entries;
-    let records = s.records;
-    settle(m);
-    let r = operation_on(s.state, o, &mut triangles[..entries], m, records);
-    print_operated(out, r.answer);
-    Session {
-        state: r.state,
-        entries,
-        records,
-    }
-}
-
-// The line of an operation.
-fn operation_line(
-    rt: &HostRuntime,
-    out: &mut Output<Stdout>,
-    o: Named,
-    s: Session,
-    triangles: &mut [u16],
-    m: &mut Memory,
-) -> Session
-    requires { (s.entries ≤ length triangles.old) × (s.records ≤ max_places) }
-    ensures { (result.entries ≤ length triangles.old) × (result.records ≤ max_places) }
-{
-    match o {
-        Named::Found(o) => operate(out, o, s, triangles, m),
-        Named::NoNumber => no_call(rt, out, s, b"not a number"),
-        Named::Nothing => no_call(rt, out, s, b"no such operation"),
-    }
-}
-
-// A finish, where nothing follows the word.
-fn finish_line(
-    rt: &HostRuntime,
-    out: &mut Output<Stdout>,
-    n: Numbers,
-    s: Session,
-    triangles: &[u16],
-    m: &mut Memory,
-) -> Session
-    requires { (s.entries ≤ length triangles.now) × (s.records ≤ max_places) }
-    ensures { (result.entries ≡ s.entries) × (result.records ≡ s.records) }
-{
-    if n.count != 0 {
-        return no_call(rt, out, s, b"no such call");
-    }
-    let entries = s.entries;
-    let records = s.records;
-    settle(m);
-    let r = finish_on(s.state, &triangles[..entries], m, records);
-    print_finished(out, r);
-    s
-}
-
-// Answers a line.
-pub(crate) fn answer_line(
-    rt: &HostRuntime,
-    out: &mut Output<Stdout>,
-    line: &[u8],
-    s: Session,
-    triangles: &mut [u16],
-    m: &mut Memory,
-) -> Session
-    requires { (s.entries ≤ length triangles.old) × (s.records ≤ max_places) }
-    ensures { (result.entries ≤ length triangles.old) × (result.records ≤ max_places) }
-{
-    if is_remark(line) {
-        return told(out, s, line);
-    }
-    let start = word_start(line, 0);
-    let end = word_end(line, start);
-    match call_of(&line[start..end]) {
-        Call::Begin => begin_line(rt, out, numbers_from(line, end), s, triangles, m),
-        Call::Op => operation_line(rt, out, operation_from(line, end), s, triangles, m),
-        Call::Finish => finish_line(rt, out, numbers_from(line, end), s, triangles, m),
-        Call::Nothing => no_call(rt, out, s, b"no such call"),
-    }
-}
-
-// The call that a line's first word names.
-fn call_of(word: &[u8]) -> Call {
-    if is_same(word, b"begin") {
-        return Call::Begin;
-    }
-    if is_same(word, b"op") {
-        return Call::Op;
-    }
-    if is_same(word, b"finish") {
-        return Call::Finish;
-    }
-    Call::Nothing
-}
-
-// Whether a line is a remark.
-fn is_remark(line: &[u8]) -> bool {
-    if line.len() == 0 {
-        return false;
-    }
-    line[0] == b'#'
 }

@@ -1,120 +1,107 @@
 // 20, tested on any triangle buffer. A list that passes 1 to 6 is tested by chains of its corners, as in packing. No list of calls
 // leads to another one; for it the fans are turned through as the definition says, the edges about a vertex in arrays.
-ghost use Rattle.std.specs.Prelude.{◌≡◌, ◌+◌, ◌*◌, ◌≤◌, ◌<◌, length, set};
+ghost use Rattle.std.specs.Prelude.{◌≡◌, ◌+◌, ◌*◌, ◌≤◌, ◌<◌, IfSome, length, set};
 ghost use Rattle.rules.specs.Limits.{max_triangles};
 ghost use Rattle.rules.specs.Fan.{about, one_run, one_fan_each};
 ghost use Rattle.rules.specs.View.{triangles_built};
-ghost use Rattle.state_theory.specs.Finishing.Turning.{is_left, latest_left, turned, all_taken, Adds, Spacious, Holds};
+ghost use Rattle.state_theory.specs.Finishing.Turning.{is_left, latest_left, turned, all_taken, Adds, Holds};
 
 use mesh::check;
-use rules::{Checked, TRIANGLES};
+use rules::TRIANGLES;
+use rules::refusal::Refusal;
 
-// A number for each edge: where it starts, where it ends, or whether it is taken.
-type Edges = [u16; TRIANGLES];
+// A number for each edge: where it starts, where it ends, or whether it is taken. An array, since there is no heap.
+// `gone` is one too: `turned` and `all_taken` of state_theory speak of numbers, 0 for an edge that is not taken.
+type Row = [u16; TRIANGLES];
 
-// Stores the edge x→y as edge k, and answers how many there are then.
-fn put_edge(from: &mut Edges, to: &mut Edges, k: usize, x: u16, y: u16) -> usize
-    requires { k < max_triangles }
-    ensures { (result ≡ k + 1) × ((from.new ≡ set from.old k x) × (to.new ≡ set to.old k y)) }
-{
-    from[k] = x;
-    to[k] = y;
-    k + 1
+// The edges opposite a vertex, the latest triangle's last: where each starts, where it ends, and how many there are.
+// Two lists side by side, as `Adds` of state_theory has them: to turn back is to turn on with the two exchanged.
+#[derive(Drop)]
+struct Edges {
+    from: Row,
+    to: Row,
+    count: usize,
 }
 
-// Adds to k edges the one that triangle t has opposite v, if v is one of its corners, and answers how many there are then.
-fn add_edge(
-    triangles: &[u16],
-    t: usize,
-    v: u16,
-    from: &mut Edges,
-    to: &mut Edges,
-    k: usize,
-) -> usize
-    requires { (t < max_triangles) × ((3 * t + 3 ≤ length triangles.now) × (k < max_triangles)) }
-    ensures { Adds v triangles.now t from.old to.old k from.new to.new result }
-{
-    let p = triangles[3 * t];
-    let q = triangles[3 * t + 1];
-    let r = triangles[3 * t + 2];
-    if p == v {
-        return put_edge(from, to, k, q, r);
+impl Edges {
+    // Adds the edge x→y.
+    fn add(&mut self, x: u16, y: u16)
+        requires { self.old.count < max_triangles }
+        ensures { (self.new.count ≡ self.old.count + 1) × ((self.new.from ≡ set self.old.from self.old.count x)
+            × (self.new.to ≡ set self.old.to self.old.count y)) }
+    {
+        self.from[self.count] = x;
+        self.to[self.count] = y;
+        self.count += 1;
     }
-    if q == v {
-        return put_edge(from, to, k, r, p);
-    }
-    if r == v {
-        return put_edge(from, to, k, p, q);
-    }
-    k
-}
 
-// Collects the edges that the first n triangles have opposite v, the latest last, and answers how many they are.
-fn collect(triangles: &[u16], n: usize, v: u16, from: &mut Edges, to: &mut Edges) -> usize
-    requires { (n ≤ max_triangles) × ((3 * n ≤ length triangles.now) × Spacious from.old to.old) }
-    ensures { Holds v triangles.now n from.new to.new result }
-{
-    let mut k = 0;
-    let mut t = 0;
-    while t < n {
-        k = add_edge(triangles, t, v, from, to, k);
-        t += 1;
+    // Adds the edge that triangle t has opposite v, if v is one of its corners.
+    fn see(&mut self, triangles: &[u16], t: usize, v: u16)
+        requires { (t < max_triangles) × ((3 * t + 3 ≤ length triangles.now) × (self.old.count < max_triangles)) }
+        ensures { Adds v triangles.now t self.old.from self.old.to self.old.count self.new.from self.new.to self.new.count }
+    {
+        let p = triangles[3 * t];
+        let q = triangles[3 * t + 1];
+        let r = triangles[3 * t + 2];
+        if p == v {
+            self.add(q, r)
+        } else if q == v {
+            self.add(r, p)
+        } else if r == v {
+            self.add(p, q)
+        }
     }
-    k
 }
 
 // Whether edge i is not taken and its end in the array is x.
-fn is_left(ends: &Edges, gone: &Edges, i: usize, x: u16) -> bool
+#[tactic(auto, unfolding(state_theory::specs::Finishing::Turning::is_left))]
+fn is_left(ends: &Row, gone: &Row, i: usize, x: u16) -> bool
     requires { i < max_triangles }
     ensures { result ≡ is_left ends.now gone.now i x }
 {
-    if gone[i] != 0 {
-        return false;
-    }
-    ends[i] == x
+    gone[i] == 0 && ends[i] == x
 }
 
-// 1 more than the latest of the first n edges that is not taken and has this end; 0 for none.
-fn latest_left(ends: &Edges, gone: &Edges, x: u16, n: usize) -> usize
+// The latest of the first n edges that is not taken and has this end.
+#[tactic(auto, unfolding(state_theory::specs::Finishing::Turning::latest_left))]
+fn latest_left(ends: &Row, gone: &Row, x: u16, n: usize) -> Option<usize>
     requires { n ≤ max_triangles }
-    ensures { result ≡ latest_left ends.now gone.now x n }
+    ensures told { result ≡ latest_left ends.now gone.now x n }
+    ensures below { IfSome result (λ i. i < n) }
 {
-    let mut i = n;
-    while 0 < i {
-        i -= 1;
+    // By number, as `latest_left` of state_theory counts, whose answer is the edge's number.
+    for i in (0..n).rev() {
         if is_left(ends, gone, i, x) {
-            return i + 1;
+            return Some(i);
         }
     }
-    0
+    None
 }
 
 // Turns from x as far as it goes over the first n edges, by at most n of them, each taken from its near end to its far end.
-fn turn(near: &Edges, far: &Edges, gone: &mut Edges, x: u16, n: usize)
+#[tactic(auto, unfolding(state_theory::specs::Finishing::Turning::turned))]
+fn turn(near: &Row, far: &Row, gone: &mut Row, x: u16, n: usize)
     requires { n ≤ max_triangles }
     ensures { gone.new ≡ turned near.now far.now n n x gone.old }
 {
     let mut at = x;
-    let mut left = n;
-    while 0 < left {
-        let i = latest_left(near, gone, at, n);
-        if i == 0 {
+    for _ in 0..n {
+        let Some(i) = latest_left(near, gone, at, n) else {
             return;
-        }
-        at = far[i - 1];
-        gone[i - 1] = 1;
-        left -= 1;
+        };
+        at = far[i];
+        gone[i] = 1;
     }
 }
 
 // Whether the first n edges are taken.
-fn all_taken(gone: &Edges, n: usize) -> bool
+#[tactic(auto, unfolding(state_theory::specs::Finishing::Turning::all_taken))]
+fn all_taken(gone: &Row, n: usize) -> bool
     requires { n ≤ max_triangles }
     ensures { result ≡ all_taken gone.now n }
 {
-    let mut i = n;
-    while 0 < i {
-        i -= 1;
+    // By number, as `all_taken` of state_theory counts.
+    for i in (0..n).rev() {
         if gone[i] == 0 {
             return false;
         }
@@ -127,30 +114,32 @@ fn is_run(triangles: &[u16], n: usize, v: u16) -> bool
     requires { (n ≤ max_triangles) × (3 * n ≤ length triangles.now) }
     ensures { result ≡ one_run (about v (triangles_built triangles.now n)) }
 {
-    let mut from = [0u16; TRIANGLES];
-    let mut to = [0u16; TRIANGLES];
-    let k = collect(triangles, n, v, &mut from, &mut to);
-    if k == 0 {
-        return true;
+    let mut edges = Edges {
+        from: [0; TRIANGLES],
+        to: [0; TRIANGLES],
+        count: 0,
+    };
+    // By number, as `Adds` of state_theory names a triangle; after n of them `Holds` speaks of `triangles_built`.
+    for t in 0..n {
+        edges.see(triangles, t, v);
     }
-    let others = k - 1;
-    let x = from[others];
-    let y = to[others];
-    let mut gone = [0u16; TRIANGLES];
-    turn(&from, &to, &mut gone, y, others);
-    turn(&to, &from, &mut gone, x, others);
-    all_taken(&gone, others)
+    let Some(last) = edges.count.checked_sub(1) else {
+        return true;
+    };
+    let mut gone = [0; TRIANGLES];
+    turn(&edges.from, &edges.to, &mut gone, edges.to[last], last);
+    turn(&edges.to, &edges.from, &mut gone, edges.from[last], last);
+    all_taken(&gone, last)
 }
 
 // Whether none of the vertices below v has more than one fan, by the definition.
-fn all_runs(triangles: &[u16], n: usize, v: usize) -> bool
-    requires { (n ≤ max_triangles) × ((3 * n ≤ length triangles.now) × (v < 65536)) }
+#[tactic(auto, unfolding(rules::specs::Fan::one_fan_each))]
+fn all_runs(triangles: &[u16], n: usize, v: u16) -> bool
+    requires { (n ≤ max_triangles) × (3 * n ≤ length triangles.now) }
     ensures { result ≡ one_fan_each v (triangles_built triangles.now n) }
 {
-    let mut u = v;
-    while 0 < u {
-        u -= 1;
-        if !is_run(triangles, n, u as u16) {
+    for u in (0..v).rev() {
+        if !is_run(triangles, n, u) {
             return false;
         }
     }
@@ -158,16 +147,14 @@ fn all_runs(triangles: &[u16], n: usize, v: usize) -> bool
 }
 
 // 20: whether none of the vertices below v has more than one fan among the first n triangles of the buffer.
-pub fn one_fan_each(triangles: &[u16], n: usize, v: usize) -> bool
-    requires { (n ≤ max_triangles) × ((3 * n ≤ length triangles.now) × (v < 65536)) }
+pub fn one_fan_each(triangles: &[u16], n: usize, v: u16) -> bool
+    requires { (n ≤ max_triangles) × (3 * n ≤ length triangles.now) }
     ensures { result ≡ one_fan_each v (triangles_built triangles.now n) }
 {
-    let c = check(v, &triangles[..3 * n]);
-    let Checked::Refused(k) = c else {
-        return true;
-    };
-    if k == 7 {
-        return false;
+    // `as`: tried with usize::from, the proof did not close: the answers speak of the number itself.
+    match check(v as usize, &triangles[..3 * n]) {
+        Ok(()) => true,
+        Err(Refusal::FansInList) => false,
+        Err(_) => all_runs(triangles, n, v),
     }
-    all_runs(triangles, n, v)
 }

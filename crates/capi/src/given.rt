@@ -1,4 +1,5 @@
-// What a caller's numbers mean. Its contracts cite specs/Given.antt.
+// What a caller's numbers mean: C hands over codes, so each number has a meaning, if only one that the rules refuse. The contracts cite
+// specs/Given.antt.
 ghost use Rattle.std.specs.Prelude.{◌≡◌};
 ghost use Rattle.capi.specs.Given.{within16, counts_of, split_of, union_of, plain_of, operation_of};
 
@@ -10,10 +11,7 @@ use wire::reader::kind_of;
 fn within_16(n: u32) -> u16
     ensures { result ≡ within16 n }
 {
-    if n < 65536 {
-        return n as u16;
-    }
-    65535
+    u16::try_from(n).unwrap_or(u16::MAX)
 }
 
 // The counts that a beginning states: one above 65,535 is out of 13's range as 65,535 is.
@@ -33,10 +31,7 @@ pub(crate) fn counts_of(vertices: u32, triangles: u32, places: u32, loops: u32) 
 fn split_of(i: u32) -> Operation
     ensures { result ≡ split_of i }
 {
-    if i < 65536 {
-        return Operation::Split(i as u16);
-    }
-    Operation::Split(0)
+    Operation::Split(u16::try_from(i).unwrap_or(0))
 }
 
 // A union with place j of loop p; one of an index above 65,535 is the split to place 0.
@@ -44,13 +39,10 @@ fn split_of(i: u32) -> Operation
 fn union_of(p: u32, j: u32) -> Operation
     ensures { result ≡ union_of p j }
 {
-    if 65536 <= p {
+    let (Ok(p), Ok(j)) = (u16::try_from(p), u16::try_from(j)) else {
         return Operation::Split(0);
-    }
-    if 65536 <= j {
-        return Operation::Split(0);
-    }
-    Operation::Union(p as u16, j as u16)
+    };
+    Operation::Union(p, j)
 }
 
 // The operation of a code that has no index; a code above 7 is the split to place 0.

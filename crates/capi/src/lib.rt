@@ -16,10 +16,7 @@ ghost use Rattle.capi.specs.Given.{counts_of, operation_of};
 ghost use Rattle.capi.specs.Answered.{number_of};
 ghost use Rattle.capi.specs.Exported.{Packs, Unpacks, Measures, Tells, Begins, Operates, Finishes};
 
-use answered::{
-    begun, begun_state, benched, checked, finished, measured, packed, performed, performed_state,
-    unpacked,
-};
+use answered::{begun, benched, checked, finished, measured, packed, performed, unpacked};
 use given::{counts_of, operation_of};
 use rules::{Builder, Place};
 
@@ -181,10 +178,8 @@ pub extern "C" fn cutborder_begin(
     ensures { Begins (counts_of v t most_places most_loops) triangles.old places.old state.old result
         triangles.new places.new state.new }
 {
-    let c = counts_of(v, t, most_places, most_loops);
-    let r = service::begin(c, triangles, places);
-    *state = begun_state(*state, r);
-    begun(r)
+    let stated = counts_of(v, t, most_places, most_loops);
+    begun(service::begin(stated, triangles, places), state)
 }
 
 // Does the operation of a code on any state, p and j its indices (split has j alone): 21, then 16 to 18, or the state after it;
@@ -204,9 +199,7 @@ pub extern "C" fn cutborder_operation(
         built.old result state.new triangles.new places.new built.new }
 {
     let o = operation_of(code, p, j);
-    let r = service::operation(*state, o, triangles, places);
-    *state = performed_state(r);
-    performed(r, built)
+    performed(service::operation(state, o, triangles, places), built)
 }
 
 // The finish of a building: 21, then 15, 19, 20, or edges, rims and unions in `totals`, and the Euler number.
@@ -221,6 +214,5 @@ pub extern "C" fn cutborder_finish(
     ensures { Finishes state.now triangles.now places.now totals.old euler.old
         result totals.new euler.new }
 {
-    let r = service::finish(*state, triangles, places);
-    finished(r, totals, euler)
+    finished(service::finish(*state, triangles, places), totals, euler)
 }

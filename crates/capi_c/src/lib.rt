@@ -1,5 +1,5 @@
 // What the library `capi` exports for C and Rust, as a static library: each function is its function of the same name, under the same
-// clauses.
+// clauses. A crate is a library or a static library, not both: C links this one, Rust and Rattle call the other.
 #![tactic(auto)]
 
 ghost use Rattle.std.specs.Prelude.{◌≡◌};

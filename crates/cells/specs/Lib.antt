@@ -1,2 +1,3 @@
--- Nothing beside cells_theory.
+-- Beside border_theory and cells_theory: that the memories have room.
 -- Assumes nothing.
+pub mod Fits

@@ -4,7 +4,7 @@ use Prim.Native.Nat.{ℕ, zero, suc, ◌+◌, ◌*◌, ◌/◌, ◌%◌, ◌≤�
 use native.Mathlib.Omega.{arith}
 use mathlib.Core.List.{List, [], ◌∷◌}
 use mathlib.Core.Path.{◌≡◌, refl, ap, ap₂}
-use lib.ListN.{length, get_or, set}
+use lib.ListN.{length, set}
 use Rattle.rules.specs.Limits.{furnace_places}
 use Rattle.border_theory.specs.Memory.Layout.{at, vertex_of, before_of, after_of, open_of}
 use Rattle.cells_theory.specs.Bytes.{records_then, numbers, Whole}

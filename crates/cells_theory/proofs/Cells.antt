@@ -1,16 +1,12 @@
 -- One law for each function on the bytes: what it reads or writes, of the numbers that the bytes stand for.
 -- Assumes nothing.
-use Prim.Native.Nat.{ℕ, ◌+◌, ◌-◌, ◌*◌, ◌/◌, ◌%◌, ◌≤◌, ◌<◌}
+use Prim.Native.Nat.{ℕ, ◌+◌, ◌*◌, ◌/◌, ◌%◌, ◌≤◌, ◌<◌}
 use native.Mathlib.Omega.{arith}
 use mathlib.Core.List.{List}
-use mathlib.Core.Path.{◌≡◌, refl, sym, ap, ap₂, ◌∙◌}
-use lib.ListN.{length, set, length-set}
-use lib.Seq.{get_or-set_other}
-use lib.Dec.{eqb}
-use Rattle.rules.specs.Limits.{furnace_places, furnace_loops}
+use mathlib.Core.Path.{◌≡◌, sym, ap, ap₂, ◌∙◌}
+use lib.ListN.{set, length-set}
+use Rattle.rules.specs.Limits.{furnace_places}
 use Rattle.border_theory.specs.Memory.Layout.{at, vertex_of, before_of, after_of, open_of, edge_stored, freed, waits}
-use Rattle.border_theory.specs.Memory.Decision.{is_open_at}
-use Rattle.border_theory.proofs.Ways.Stacking.{Frees, frees_more, Moves, moves_more}
 use Rattle.cells_theory.specs.Bytes.{numbers, Whole}
 use Rattle.cells_theory.proofs.Bytes.{vertex_is, before_is, after_is, open_is_lem, past_is, vertex_set, before_set, after_set}
 use Rattle.cells_theory.proofs.Bytes.{open_set, past_set}
@@ -78,16 +74,3 @@ wait_stored bs w l p k =
     let w₁ = whole_set bs (1000 + 2 * l) p w in
     past_set (set bs (1000 + 2 * l) p) w₁ (1000 + 2 * l + 1) k (omega arith)
     ∙ ap (λ (m : List ℕ). set m (1000 + 2 * l + 1) k) (past_set bs w (1000 + 2 * l) p (omega arith))
-
--- every place freed, one after the other
-pub frees_next : (m₀ m m' : List ℕ) (i : ℕ) → Frees furnace_places m₀ m i → m' ≡ freed furnace_places m i i → i < furnace_places
-    → Frees furnace_places m₀ m' (i + 1)
-frees_next m₀ m m' i f e h = rw e (frees_more furnace_places m₀ m i f h)
-
--- a waiting loop moved down
-pub moves_next : (m₀ : List ℕ) (l₀ k₀ : ℕ) (m : List ℕ) (l k p z : ℕ) (m' : List ℕ) → Moves furnace_places m₀ l₀ k₀ m l k
-    → p ≡ at m (5 * furnace_places + 2 * (l + 1)) → z ≡ at m (5 * furnace_places + 2 * (l + 1) + 1) → m' ≡ waits furnace_places m l p z
-    → 0 < k
-    → Moves furnace_places m₀ l₀ k₀ m' (l + 1) (k - 1)
-moves_next m₀ l₀ k₀ m l k p z m' r ep ez e h =
-    moves_more furnace_places m₀ l₀ k₀ m l k m' r (e ∙ ap₂ (λ (x y : ℕ). waits furnace_places m l x y) ep ez) h

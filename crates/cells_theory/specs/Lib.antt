@@ -1,4 +1,4 @@
 -- The memory of the furnace's own reader.
--- Interface, for the contracts of cells, furnace_rings, furnace_border and melting: Bytes (the numbers that the bytes stand for).
+-- Interface, for the contracts of cells and melting: Bytes (the numbers that the bytes stand for).
 -- Assumes nothing.
 pub mod Bytes

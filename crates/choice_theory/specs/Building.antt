@@ -2,7 +2,7 @@
 -- Assumes nothing.
 use Rattle.std.specs.Prelude.{ℕ, zero, suc, List, [], ◌∷◌, ◌++◌}
 use Rattle.rules.specs.declared.Triangle.{Triangle}
-use Rattle.rules.specs.declared.Across.TheVariants.{Found, Nothing}
+use Rattle.rules.specs.Across.{Found, Nothing}
 use Rattle.rules.specs.Triangle.{tri}
 use Rattle.rules.specs.Across.{across}
 use Rattle.rules.specs.Ring.{Ring, vertex, start_or}

@@ -3,37 +3,11 @@
 use Prim.Native.Nat.{ℕ, suc, ◌+◌, ◌-◌, ◌≤◌, ◌<◌}
 use native.Mathlib.Omega.{arith}
 use native.Mathlib.Numerals.{add-one}
-use mathlib.Core.Bool.{Bool, true, false, ◌&&◌, not}
+use mathlib.Core.Bool.{Bool, true, false}
 use mathlib.Core.List.{List}
 use mathlib.Core.Path.{◌≡◌, sym, ap, ap₂, ◌∙◌, subst}
-use lib.Dec.{eqb}
-use borrow.Author.Tests.{not-true, not-false, eq-eqb, ne_eqb}
-use Rattle.border_theory.specs.Memory.Layout.{vertex_of, after_of, walked}
-use Rattle.border_theory.specs.Memory.Decision.{is_open_at}
+use Rattle.border_theory.specs.Memory.Layout.{after_of, walked}
 use Rattle.pack_theory.specs.Choosing.Seeking.{starts_at, gone_by, Inside}
-
--- the test at one place: its three parts in their order
-module _ (m : List ℕ) (p x y : ℕ) where
-  pub start_marked : (o : Bool) → o ≡ is_open_at m p → not o ≡ true → false ≡ starts_at m p x y
-  unfolding starts_at
-  start_marked o e h =
-      sym (ap (λ (b : Bool). b && eqb (vertex_of m p) x && eqb (vertex_of m (after_of m p)) y) (sym e ∙ not-true o h))
-
-  pub start_other : (o : Bool) (v : ℕ) → o ≡ is_open_at m p → not o ≡ false → v ≡ vertex_of m p → (v ≡ x → ⊥) → false ≡ starts_at m p x y
-  unfolding starts_at
-  start_other o v e h q d =
-      sym
-      (ap₂ (λ (a b : Bool). a && b && eqb (vertex_of m (after_of m p)) y) (sym e ∙ not-false o h)
-      (ne_eqb (vertex_of m p) x (λ z. d (q ∙ z))))
-
-  pub start_ends : (o : Bool) (v f w : ℕ) → o ≡ is_open_at m p → not o ≡ false → v ≡ vertex_of m p → v ≡ x → f ≡ after_of m p
-      → w ≡ vertex_of m f
-      → eqb w y ≡ starts_at m p x y
-  unfolding starts_at
-  start_ends o v f w e h q d g k =
-      ap (λ (z : ℕ). eqb z y) (k ∙ ap (vertex_of m) g)
-      ∙ sym (ap₂ (λ (a b : Bool). a && b && eqb (vertex_of m (after_of m p)) y) (sym e ∙ not-false o h)
-      (eq-eqb (vertex_of m p) x (sym q ∙ d)))
 
 -- a search of k places from p on: at place z, i are gone by
 pub record Counting (m : List ℕ) (k p x y i z : ℕ) : Type 0 where

@@ -1,3 +1,3 @@
 pub mod Counting
 pub mod Looking
-pub mod Naming
+pub mod Turning

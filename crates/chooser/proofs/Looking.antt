@@ -11,8 +11,7 @@ use borrow.Author.Tests.{lt-ltb, le-ltb}
 use Rattle.rules.specs.Limits.{max_places}
 use Rattle.cutborder.specs.declared.Loops.{Loops}
 use Rattle.border_theory.specs.Memory.Layout.{at, before_of, after_of, walked}
-use Rattle.cutborder.specs.declared.Seat.{Seat}
-use Rattle.cutborder.specs.declared.Seat.TheVariants.{Nowhere, At}
+use Rattle.pack_theory.specs.Choosing.Seat.{Seat, Nowhere, At}
 use Rattle.pack_theory.specs.Choosing.Seeking.{starts_at, gone_by, seat_among, waiting_seat, walked_seat, seat_in, Inside, Seekable}
 
 -- one loop, if the edge is in it, else the others
@@ -29,9 +28,6 @@ pub record Looking (m : List ℕ) (x y j₀ w₀ j w : ℕ) : Type 0 where
   pub ends : waiting_seat m j w x y ≡ waiting_seat m j₀ w₀ x y
   pub sum : j + w ≡ j₀ + w₀
   pub first : 1 ≤ w
-
-pub looking_start : (m : List ℕ) (x y j : ℕ) → Looking m x y j 1 j 1
-looking_start m x y j = record { ends = refl; sum = refl; first = omega arith }
 
 -- the loop that is looked at next is in the memory
 module _ (l : Loops) (m : List ℕ) (h : Seekable l m) (x y j w : ℕ) (k : Looking m x y (l.live - 1) 1 j w) (some : 0 < j) where
@@ -118,7 +114,7 @@ module _ (l : Loops) (m : List ℕ) (x y : ℕ) where
         seat_walked s h q = rw (seat_in, first_is ∙ no, second_is ∙ no-c, third_is ∙ h) q
 
 -- the current place
-pub current_long : (l : Loops) (m : List ℕ) → Seekable l m → 4 * l.current + 3 < length m
+pub current_long : (l : Loops) (m : List ℕ) → Seekable l m → l.current < max_places
 unfolding walked
 current_long l m h = (h.ahead 0 (omega (arith, h.two))).0
 

@@ -3,64 +3,69 @@ ghost use Rattle.std.specs.Prelude.{◌<◌, not, ◌≡◌, eqb};
 ghost use Rattle.rules.specs.Limits.{max_triangles};
 ghost use Rattle.mesh_theory.specs.Chains.Linked.{Linked};
 ghost use Rattle.pack_theory.specs.Choosing.Choosable.{flag_of};
-ghost use Rattle.pack_theory.specs.Choosing.Turning.{EndsIn, EndsOut};
+ghost use Rattle.chooser.specs.Ways.{first_of, start_of, end_of, Ends};
 
 use corners::{Links, across};
-use cutborder::{Flags, Turned};
-use rules::Across;
+use cutborder::Flags;
+
+// Which way to turn about a vertex c: back over edges that come into c, or on over edges that leave it.
+#[derive(Clone, Copy, Debug, PartialEq, Eq)]
+pub(crate) enum Way {
+    Back,
+    On,
+}
+
+impl Way {
+    // The triangle b a c's edge at c that is turned from is the one between c and this vertex.
+    pub(crate) fn first(self, a: u16, b: u16) -> u16
+        ensures { result ≡ first_of self a b }
+    {
+        match self {
+            Way::Back => b,
+            Way::On => a,
+        }
+    }
+
+    // The edge between c and y that is turned over.
+    pub(crate) fn edge(self, c: u16, y: u16) -> (u16, u16)
+        ensures { (result.0 ≡ start_of self c y) × (result.1 ≡ end_of self c y) }
+    {
+        match self {
+            Way::Back => (y, c),
+            Way::On => (c, y),
+        }
+    }
+}
 
 // Whether triangle n is built.
 fn is_built(built: &Flags, n: u16) -> bool
     requires { n < max_triangles }
     ensures { result ≡ not (eqb (flag_of built.now n) 0) }
 {
-    built[n as usize] != 0
+    built[usize::from(n)] != 0
 }
 
-// Back from a triangle that has c→x: over x→c into the triangle that has it, and so on.
-pub(crate) fn turn_in(list: &[u16], chains: &Links, built: &Flags, c: u16, x: u16) -> Turned
-    requires { Linked list.now chains.now × (x ≡ c → ⊥) }
-    ensures { EndsIn list.now built.now c x result }
+// From a triangle that has an edge between c and `first`, on that way over the next one into the triangle that has it, and so
+// on: the vertex at whose edge turning ends, where a triangle that is built lies across it; none, where no triangle does.
+pub(crate) fn turn(
+    list: &[u16],
+    chains: &Links,
+    built: &Flags,
+    way: Way,
+    c: u16,
+    first: u16,
+) -> Option<u16>
+    requires { Linked list.now chains.now × (first ≡ c → ⊥) }
+    ensures { Ends way list.now built.now c first result }
 {
-    let mut last = x;
-    let mut left = list.len() / 3;
-    while 0 < left {
-        let t = across(list, chains, last, c);
-        let Across::Found(n, _, z) = t else {
-            return Turned {
-                last,
-                across: false,
-            };
-        };
-        if is_built(built, n) {
-            return Turned { last, across: true };
+    let mut last = first;
+    for _ in 0..list.len() / 3 {
+        let (x, y) = way.edge(c, last);
+        let next = across(list, chains, x, y)?;
+        if is_built(built, next.triangle) {
+            return Some(last);
         }
-        last = z;
-        left -= 1;
+        last = next.vertex;
     }
-    Turned { last, across: true }
-}
-
-// On from a triangle that has y→c: over c→y.
-pub(crate) fn turn_out(list: &[u16], chains: &Links, built: &Flags, c: u16, y: u16) -> Turned
-    requires { Linked list.now chains.now × (y ≡ c → ⊥) }
-    ensures { EndsOut list.now built.now c y result }
-{
-    let mut last = y;
-    let mut left = list.len() / 3;
-    while 0 < left {
-        let t = across(list, chains, c, last);
-        let Across::Found(n, _, z) = t else {
-            return Turned {
-                last,
-                across: false,
-            };
-        };
-        if is_built(built, n) {
-            return Turned { last, across: true };
-        }
-        last = z;
-        left -= 1;
-    }
-    Turned { last, across: true }
+    Some(last)
 }

@@ -51,6 +51,8 @@ pub struct Front {
 
 // A triangle p q r to be built: whether each of its sides p→q, q→r and r→p is a new edge (1) or glues one (0), how many of
 // its numbers are new, how many starts and unions it adds, and the place of its third vertex where a split or a union needs it.
+// The sides stay numbers: `new_plan` to `start_plan` of border_theory/specs/Memory/Decision give them, and `count_built` adds them up. The
+// place stays one too, 0 where none is needed: `plan_at` and `start_plan` there have it so.
 #[derive(Clone, Copy)]
 pub struct Plan {
     pub triangle: Triangle,
@@ -64,6 +66,7 @@ pub struct Plan {
 }
 
 // The places whose records an operation writes: how many they are, and which.
+// Five numbers by name and a count, as `listed` of border_theory/specs/Memory/Touched has them: a fixed row, since there is no heap.
 #[derive(Clone, Copy)]
 pub struct Touched {
     pub count: u16,
@@ -74,38 +77,25 @@ pub struct Touched {
     pub fifth: u16,
 }
 
-// What an operation would do.
+// What an allowed operation would do: build a triangle, or mark the edge from one vertex to another as border.
 #[derive(Clone, Copy)]
-pub enum Decided {
-    Refused(u8),
+pub enum Action {
     Builds(Plan),
     Marks(u16, u16),
 }
 
-// What 21 says of a state and its buffers: the core's state of one that passes, or that it fails.
-#[derive(Clone, Copy)]
-pub enum Opened {
-    Passed(Front),
-    Failed,
-}
-
 // Which triangles of a list are built: the flag of triangle t stands at t, 0 while it is not.
+// A flag stays a number: `flag_of` of pack_theory/specs/Choosing/Choosable reads it.
 pub type Flags = [u8; TRIANGLES];
 
 // Where an open edge starts: the loop's number, 0 the current one, how many places that loop has, and how many places after
 // the loop's first one.
-#[derive(Clone, Copy)]
-pub enum Seat {
-    Nowhere,
-    At(u16, u16, u16),
-}
-
-// Where turning about a vertex ends: at the edge between it and `last`, and whether some triangle of the list, built
-// already, lies across that edge.
-#[derive(Clone, Copy)]
-pub struct Turned {
-    pub last: u16,
-    pub across: bool,
+// The loop's number stays one, 0 included: `seated_of` of pack_theory/specs/Choosing/Seat has it so.
+#[derive(Clone, Copy, Debug, PartialEq, Eq)]
+pub struct Seat {
+    pub number: u16,
+    pub size: u16,
+    pub index: u16,
 }
 
 // Where a packing is: the counts and the loops, whose vertices are the list's own numbers; how many new numbers are given; and a
@@ -125,55 +115,10 @@ pub struct Move {
     pub fresh: bool,
 }
 
-// After an operation on the loops: the counts and the loops, or 9 or 10.
-#[derive(Clone, Copy)]
-pub enum Done {
-    Going(Front),
-    Refused(u8),
-}
-
-// After a step: 9 or 10, or the operation taken and where the packing is.
-#[derive(Clone, Copy)]
-pub enum Taken {
-    Refused(u8),
-    Going(Operation, Course),
-}
-
-// After all steps: 9 or 10, or where the packing ended, and the bit position after the last operation.
-#[derive(Clone, Copy)]
-pub enum Ran {
-    Refused(u8),
-    Ended(Course, usize),
-}
-
-// The state after it and the bit position after its operation; or the refusal, 15 to 18.
-#[derive(Clone, Copy)]
-pub enum Stepped {
-    Going(Front, usize),
-    Refused(u8),
-}
-
-// A run of the operations: the bit position of the next one, how many may still be read, and what the last step came to. None may be
-// read where the run has ended.
-#[derive(Clone, Copy)]
-pub struct Progress {
-    pub at: usize,
-    pub left: usize,
-    pub stepped: Stepped,
-}
-
-// Whether a reading of the furnace's own reader goes on, has completed its model, or is refused, 15 to 17.
-#[derive(Clone, Copy)]
-pub enum Stage {
-    Runs,
-    Completed,
-    Refused(u8),
-}
-
-// Such a reading: the bit position of the next operation, the counts and the loops, and the sum of the triangles' determinants.
+// Where a reading of the furnace's own reader is: the bit position of the next operation, the counts and the loops, and the sum of the
+// triangles' determinants.
 #[derive(Clone, Copy)]
 pub struct Melt {
-    pub stage: Stage,
     pub at: usize,
     pub front: Front,
     pub six: i64,

@@ -7,16 +7,13 @@ use mathlib.Core.List.{List, ◌∷◌}
 use mathlib.Core.Path.{◌≡◌, refl, sym, ap, ap₂, ◌∙◌, subst}
 use lib.ListN.{get_or}
 use lib.Dec.{eqb}
-use borrow.Author.Tests.{eq-eqb, ne_eqb}
-use Rattle.rules.specs.declared.Triangle.{Triangle}
-use Rattle.rules.specs.Triangle.{distinct, Edge, edge, edges_of}
+use borrow.Author.Tests.{ne_eqb}
+use Rattle.rules.specs.Triangle.{Edge, edge, edges_of}
 use Rattle.rules.specs.Count.{num, hit, count, unjoined}
-use Rattle.rules.specs.Table.{Side, side_rule, edge_rule}
+use Rattle.rules.specs.Table.{side_rule}
 use Rattle.rules.specs.View.{triangles_built}
-use Rattle.cutborder.specs.declared.Plan.{Plan}
 use Rattle.border_theory.specs.Memory.Decision.{side_of}
 use Rattle.edges.specs.Joined.{is_edge, is_pair, joins_at, none_joins}
-use Rattle.counting.proofs.Bools.{and_no}
 
 -- one edge more
 add_hit : (a : Bool) (c : ℕ) → eqb (num a + c) 0 ≡ not a && eqb c 0
@@ -62,46 +59,6 @@ none_unjoined xs (suc n) x y =
     (unjoined_more q r x y (edge p q ∷ ds)
     ∙ ap (λ (z : Bool). elim (is_pair q r x y) [ true ↦ false | false ↦ z ]) (unjoined_more p q x y ds)))
 
--- the functions
-pub edge_other : (a b x y : ℕ) → (x ≡ a → ⊥) → false ≡ is_edge a b x y
-unfolding is_edge
-edge_other a b x y h = let e : eqb x a ≡ false = ne_eqb x a h in rw e
-
-pub edge_same : (a b x y : ℕ) → x ≡ a → eqb y b ≡ is_edge a b x y
-unfolding is_edge
-edge_same a b x y h = let e : eqb x a ≡ true = eq-eqb x a h in rw e
-
-pub pair_first : (a b x y : ℕ) (t : Bool) → t ≡ is_edge a b x y → t ≡ true → true ≡ is_pair a b x y
-unfolding is_pair
-pair_first a b x y t e h = let z : is_edge a b x y ≡ true = sym e ∙ h in rw z
-
-pub pair_second : (a b x y : ℕ) (t r : Bool) → t ≡ is_edge a b x y → t ≡ false → r ≡ is_edge a b y x → r ≡ is_pair a b x y
-unfolding is_pair
-pair_second a b x y t r e h k = let z : is_edge a b x y ≡ false = sym e ∙ h in rw z k
-
-module _ (xs : List ℕ) (j x y : ℕ) where
-  pub joins_first : (t : Bool) → t ≡ is_pair (get_or xs (3 * j + 2) 0) (get_or xs (3 * j) 0) x y → t ≡ true → true ≡ joins_at xs j x y
-  unfolding joins_at
-  joins_first t e h = let z : is_pair (get_or xs (3 * j + 2) 0) (get_or xs (3 * j) 0) x y ≡ true = sym e ∙ h in rw z
-
-  pub joins_second : (t r : Bool) → t ≡ is_pair (get_or xs (3 * j + 2) 0) (get_or xs (3 * j) 0) x y → t ≡ false
-      → r ≡ is_pair (get_or xs (3 * j + 1) 0) (get_or xs (3 * j + 2) 0) x y → r ≡ true → true ≡ joins_at xs j x y
-  unfolding joins_at
-  joins_second t r e h f k =
-      let z : is_pair (get_or xs (3 * j + 2) 0) (get_or xs (3 * j) 0) x y ≡ false = sym e ∙ h in
-      let w : is_pair (get_or xs (3 * j + 1) 0) (get_or xs (3 * j + 2) 0) x y ≡ true = sym f ∙ k in
-      rw (z, w)
-
-  pub joins_third : (t r q : Bool) → t ≡ is_pair (get_or xs (3 * j + 2) 0) (get_or xs (3 * j) 0) x y → t ≡ false
-      → r ≡ is_pair (get_or xs (3 * j + 1) 0) (get_or xs (3 * j + 2) 0) x y → r ≡ false
-      → q ≡ is_pair (get_or xs (3 * j) 0) (get_or xs (3 * j + 1) 0) x y
-      → q ≡ joins_at xs j x y
-  unfolding joins_at
-  joins_third t r q e h f k g =
-      let z : is_pair (get_or xs (3 * j + 2) 0) (get_or xs (3 * j) 0) x y ≡ false = sym e ∙ h in
-      let w : is_pair (get_or xs (3 * j + 1) 0) (get_or xs (3 * j + 2) 0) x y ≡ false = sym f ∙ k in
-      rw (z, w) g
-
 module _ (xs : List ℕ) (x y : ℕ) where
   pub none_here : (n j : ℕ) (t : Bool) → 0 < j → none_joins xs j x y ≡ none_joins xs n x y → t ≡ joins_at xs (j - 1) x y → t ≡ true
       → false ≡ none_joins xs n x y
@@ -133,71 +90,3 @@ module _ (xs : List ℕ) (x y : ℕ) where
       → not r ≡ not (side_rule (side_of s) x y (triangles_built xs n))
   side_fresh n zero t r z e h = absurd (z refl)
   side_fresh n (suc s) t r z e h = ap not (sym h ∙ e ∙ none_unjoined xs n x y)
-
-not-true : (a t : Bool) → t ≡ not a → t ≡ true → a ≡ false
-not-true true t e h = sym (sym e ∙ h)
-not-true false t e h = refl
-
-not-false : (a t : Bool) → t ≡ not a → t ≡ false → a ≡ true
-not-false true t e h = refl
-not-false false t e h = sym h ∙ e
-
-all_four : (a b c d : Bool) → a ≡ true → b ≡ true → c ≡ true → d ≡ true → true ≡ a && b && c && d
-all_four a b c d h i j k = rw (h, i, j, k)
-
-first : (a b c d : Bool) → a ≡ false → false ≡ a && b && c && d
-first a b c d h = rw h
-
-second : (a b c d : Bool) → b ≡ false → false ≡ a && b && c && d
-second a b c d h = let z : a && b ≡ false = and_no a b h in rw z
-
-third : (a b c d : Bool) → c ≡ false → false ≡ a && b && c && d
-third a b c d h = let z : a && b && c ≡ false = and_no (a && b) c h in rw z
-
-fourth : (a b c d : Bool) → d ≡ false → false ≡ a && b && c && d
-fourth a b c d h = sym (and_no (a && b && c) d h)
-
-module _ (plan : Plan) (xs : List ℕ) (n : ℕ) where
-  abbrev t : Triangle
-  t = plan.triangle
-
-  abbrev x : Side
-  x = side_of plan.pq
-
-  abbrev y : Side
-  y = side_of plan.qr
-
-  abbrev z : Side
-  z = side_of plan.rp
-
-  abbrev ts : List Triangle
-  ts = triangles_built xs n
-
-  abbrev a₁ : Bool
-  a₁ = distinct t
-
-  abbrev a₂ : Bool
-  a₂ = side_rule x t.p t.q ts
-
-  abbrev a₃ : Bool
-  a₃ = side_rule y t.q t.r ts
-
-  abbrev a₄ : Bool
-  a₄ = side_rule z t.r t.p ts
-
-  pub rule_distinct : (d : Bool) → d ≡ distinct t → not d ≡ true → false ≡ edge_rule t x y z ts
-  rule_distinct d e h = first a₁ a₂ a₃ a₄ (sym e ∙ not-true d (not d) refl h)
-
-  pub side_pq : (k : Bool) → k ≡ not (side_rule x t.p t.q ts) → k ≡ true → false ≡ edge_rule t x y z ts
-  side_pq k e h = second a₁ a₂ a₃ a₄ (not-true a₂ k e h)
-
-  pub side_qr : (k : Bool) → k ≡ not (side_rule y t.q t.r ts) → k ≡ true → false ≡ edge_rule t x y z ts
-  side_qr k e h = third a₁ a₂ a₃ a₄ (not-true a₃ k e h)
-
-  pub side_rp : (k : Bool) → k ≡ not (side_rule z t.r t.p ts) → k ≡ true → false ≡ edge_rule t x y z ts
-  side_rp k e h = fourth a₁ a₂ a₃ a₄ (not-true a₄ k e h)
-
-  pub rule_holds : (d k l m : Bool) → d ≡ distinct t → not d ≡ false → k ≡ not (side_rule x t.p t.q ts) → k ≡ false
-      → l ≡ not (side_rule y t.q t.r ts) → l ≡ false → m ≡ not (side_rule z t.r t.p ts) → m ≡ false → true ≡ edge_rule t x y z ts
-  rule_holds d k l m ed hd ek hk el hl em hm =
-      all_four a₁ a₂ a₃ a₄ (sym ed ∙ not-false d (not d) refl hd) (not-false a₂ k ek hk) (not-false a₃ l el hl) (not-false a₄ m em hm)

@@ -12,41 +12,32 @@ use cutborder::Plan;
 use mesh::is_distinct;
 
 // Whether x→y is the edge a→b.
+#[tactic(auto, unfolding(crate::specs::Joined::is_edge))]
 fn is_edge(a: u16, b: u16, x: u16, y: u16) -> bool
     ensures { result ≡ is_edge a b x y }
 {
-    if x == a {
-        return y == b;
-    }
-    false
+    x == a && y == b
 }
 
 // Whether x and y are a and b, either way round.
+#[tactic(auto, unfolding(crate::specs::Joined::is_pair))]
 fn is_pair(a: u16, b: u16, x: u16, y: u16) -> bool
     ensures { result ≡ is_pair a b x y }
 {
-    if is_edge(a, b, x, y) {
-        return true;
-    }
-    is_edge(a, b, y, x)
+    is_edge(a, b, x, y) || is_edge(a, b, y, x)
 }
 
 // Whether triangle j of the list joins x and y.
+#[tactic(auto, unfolding(crate::specs::Joined::joins_at))]
 fn joins(xs: &[u16], j: u16, x: u16, y: u16) -> bool
     requires { 3 * j + 2 < length xs.now }
     ensures { result ≡ joins_at xs.now j x y }
 {
-    let at = 3 * (j as usize);
+    let at = 3 * usize::from(j);
     let p = xs[at];
     let q = xs[at + 1];
     let r = xs[at + 2];
-    if is_pair(r, p, x, y) {
-        return true;
-    }
-    if is_pair(q, r, x, y) {
-        return true;
-    }
-    is_pair(p, q, x, y)
+    is_pair(r, p, x, y) || is_pair(q, r, x, y) || is_pair(p, q, x, y)
 }
 
 // Whether none of the first n triangles joins x and y.
@@ -54,9 +45,8 @@ fn none_joins(xs: &[u16], n: u16, x: u16, y: u16) -> bool
     requires { 3 * n ≤ length xs.now }
     ensures { result ≡ none_joins xs.now n x y }
 {
-    let mut j = n;
-    while 0 < j {
-        j -= 1;
+    // By number: `none_joins` of specs/Joined goes down from n.
+    for j in (0..n).rev() {
         if joins(xs, j, x, y) {
             return false;
         }
@@ -64,40 +54,25 @@ fn none_joins(xs: &[u16], n: u16, x: u16, y: u16) -> bool
     true
 }
 
-// Whether a side from x to y breaks the edge rule: it is to be a new edge, and a triangle joins x and y already.
+// Whether a side from x to y breaks the edge rule: it is to be a new edge, and a triangle joins x and y already. (The side is a number,
+// 0 or 1, as a plan has it: the counts add it up.)
+#[tactic(auto, unfolding(rules::specs::Table::side_rule))]
 fn is_joined(xs: &[u16], n: u16, side: u16, x: u16, y: u16) -> bool
     requires { 3 * n ≤ length xs.now }
     ensures { result ≡ not (side_rule (side_of side) x y (triangles_built xs.now n)) }
 {
-    if side == 0 {
-        return false;
-    }
-    if none_joins(xs, n, x, y) {
-        return false;
-    }
-    true
+    side != 0 && !none_joins(xs, n, x, y)
 }
 
 // 18: whether the edge rule lets the planned triangle be built after the first n triangles of the list.
+// (A count beside the list: `triangles_built` of rules/specs/View takes the first n triangles of a buffer that is longer.)
 pub fn edge_rule(xs: &[u16], n: u16, p: Plan) -> bool
     requires { 3 * n ≤ length xs.now }
     ensures { result ≡ edge_rule p.triangle (side_of p.pq) (side_of p.qr) (side_of p.rp) (triangles_built xs.now n) }
 {
     let t = p.triangle;
-    let a = t.p;
-    let b = t.q;
-    let c = t.r;
-    if !is_distinct(a, b, c) {
-        return false;
-    }
-    if is_joined(xs, n, p.pq, a, b) {
-        return false;
-    }
-    if is_joined(xs, n, p.qr, b, c) {
-        return false;
-    }
-    if is_joined(xs, n, p.rp, c, a) {
-        return false;
-    }
-    true
+    is_distinct(t.p, t.q, t.r)
+        && !is_joined(xs, n, p.pq, t.p, t.q)
+        && !is_joined(xs, n, p.qr, t.q, t.r)
+        && !is_joined(xs, n, p.rp, t.r, t.p)
 }

@@ -1,8 +1,8 @@
 -- What the one function promises.
 -- Assumes nothing.
 use Rattle.std.specs.Prelude.{ℕ, List, ◌≡◌, ℤ}
-use Rattle.rules.specs.declared.Melted.{Melted}
-use Rattle.rules.specs.declared.Melted.TheVariants.{Six, Refused}
+use Rattle.rules.specs.Melted.{Melted}
+use Rattle.rules.specs.Melted.{Six, Refused}
 use Rattle.rules.specs.Furnace.{melt}
 use Rattle.cells_theory.specs.Bytes.{Whole}
 

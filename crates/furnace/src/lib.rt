@@ -6,7 +6,6 @@ ghost use Rattle.furnace.specs.Reading.{Reads};
 
 use cells::BYTES;
 use melting::melt_on;
-use rules::Melted;
 
 // Reads any bytes as a pack: 0, and six times the volume in `six`; or the refusal, 12, 13, 15 to 17, 19 or 23 to 26, and `six` as it was.
 // The memory may hold anything before, and what it holds afterwards is free.
@@ -14,12 +13,11 @@ use rules::Melted;
 pub extern "C" fn furnace_read(pack: &[u8], memory: &mut [u8; BYTES], six: &mut i64) -> u8
     ensures { Reads pack.now six.old result six.new memory.new }
 {
-    let r = melt_on(pack, memory);
-    match r {
-        Melted::Six(z) => {
+    match melt_on(pack, memory) {
+        Ok(z) => {
             *six = z;
             0
         }
-        Melted::Refused(k) => k,
+        Err(e) => e.number(),
     }
 }

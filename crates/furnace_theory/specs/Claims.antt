@@ -3,8 +3,8 @@
 -- Assumes nothing.
 use Rattle.std.specs.Prelude.{ℕ, ◌≤◌, Bool, true, false, List, [], ◌∷◌, ◌↔◌, ◌≡◌, ℤ}
 use Rattle.rules.specs.declared.Model.{Model}
-use Rattle.rules.specs.declared.Melted.{Melted}
-use Rattle.rules.specs.declared.Melted.TheVariants.{Six, Refused}
+use Rattle.rules.specs.Melted.{Melted}
+use Rattle.rules.specs.Melted.{Six, Refused}
 use Rattle.rules.specs.Limits.{in_range}
 use Rattle.rules.specs.Count.{occurs}
 use Rattle.rules.specs.Answer.{Answer, refusal, unpacked}

@@ -5,95 +5,62 @@
 mod conclude; // 19, 23 to 25, and the answer
 mod run; // one operation, and the run of them
 
-ghost use Rattle.std.specs.Prelude.{◌≡◌, List, ℕ};
-ghost use Rattle.rules.specs.declared.Melted.TheVariants as Melts;
-ghost use Rattle.wire.specs.declared.fields.PackFields.TheVariants as Packs;
+ghost use Rattle.std.specs.Prelude.{◌≡◌};
 ghost use Rattle.rules.specs.Fields.{fields_of};
-ghost use Rattle.rules.specs.Later.{Given, parts_of};
-ghost use Rattle.rules.specs.Note.{note_fits};
-ghost use Rattle.rules.specs.Furnace.{peaks_fit, melt_fields, melt_parts, melt};
-ghost use Rattle.cells_theory.specs.Bytes.{Whole};
-ghost use Rattle.melting_theory.specs.Runs.{weighed_length, field_if};
+ghost use Rattle.rules.specs.Furnace.{peaks_fit, melt_fields, melt};
+ghost use Rattle.rules.specs.Melted.{melted_of};
+ghost use Rattle.wire.specs.Told.{lent};
+ghost use Rattle.melting_theory.specs.Runs.{weighed_part};
 
-use crate::conclude::answer_of;
+use crate::conclude::conclude;
 use crate::run::run;
-use notes::note::is_note;
-use rules::{Counts, FURNACE_LOOPS, FURNACE_PLACES, Melted};
-use wire::fields::{PackFields, PackNote, PackParts, fields_of, note_of, parts_of};
+use cells::BYTES;
+use rules::refusal::Refusal;
+use rules::{Counts, FURNACE_LOOPS, FURNACE_PLACES};
+use wire::fields::{fields_of, note_of, parts_of};
 
 // 26: whether the stated peaks fit.
 fn is_small(stated: Counts) -> bool
     ensures { result ≡ peaks_fit stated }
 {
-    if FURNACE_PLACES < stated.places as usize {
-        return false;
-    }
-    (stated.loops as usize) <= FURNACE_LOOPS
+    usize::from(stated.places) <= FURNACE_PLACES && usize::from(stated.loops) <= FURNACE_LOOPS
 }
 
-// The refusal of a pack's fields, 12 or 13, as the reader's.
-fn refusal_of(f: PackFields) -> Melted
-    ensures { (k : ℕ) → f ≡ Packs.Refused k → result ≡ Melts.Refused k }
+// The positions that are weighed with: those that are given, if they have six bytes for each vertex, else none.
+fn weighed_part<'a>(positions: Option<&'a [u8]>, v: u16) -> &'a [u8]
+    ensures { result.now ≡ weighed_part (lent positions.entry) v }
 {
-    match f {
-        PackFields::Refused(k) => Melted::Refused(k),
-        PackFields::Found(_, _, _) => Melted::Refused(12),
+    match positions {
+        Some(field) if field.len() == 6 * usize::from(v) => field,
+        _ => &[],
     }
 }
 
-// How many bytes of a field of positions are weighed with: all, if it has six for each vertex, else none.
-fn weighed_length(length: usize, v: u16) -> usize
-    ensures { result ≡ weighed_length length v }
+// A pack's first two fields, with the positions and the note, if there are any.
+fn melt_fields(
+    two: &[u8],
+    positions: Option<&[u8]>,
+    note: Option<&[u8]>,
+    m: &mut [u8; BYTES],
+) -> Result<i64, Refusal>
+    ensures { melted_of result ≡ melt_fields (lent positions.entry) (lent note.entry) (fields_of two.now) }
 {
-    if length == 6 * (v as usize) {
-        return length;
+    let fields = fields_of(two)?;
+    if !is_small(fields.stated) {
+        return Err(Refusal::TooLargeForFurnace);
     }
-    0
-}
-
-// A pack's first two fields, with the contents of the third in `field` if it is `given`; `noted` tells whether the note fits.
-fn melt_fields(two: &[u8], field: &[u8], given: bool, noted: bool, m: &mut [u8]) -> Melted
-    requires { Whole m.old }
-    ensures { (ns : Given (List ℕ)) → noted ≡ note_fits ns
-        → result ≡ melt_fields (field_if given field.now) ns (fields_of two.now) }
-{
-    let fields = fields_of(two);
-    let PackFields::Found(stated, from, to) = fields else {
-        return refusal_of(fields);
-    };
-    if !is_small(stated) {
-        return Melted::Refused(26);
-    }
-    let ops = &two[from..to];
-    let n = weighed_length(field.len(), stated.vertices);
-    let end = run(ops, &field[..n], stated, m);
-    answer_of(ops, end, field, given, noted)
-}
-
-// What stands before the note.
-fn melt_parts(front: &[u8], noted: bool, m: &mut [u8]) -> Melted
-    requires { Whole m.old }
-    ensures { (ns : Given (List ℕ)) → noted ≡ note_fits ns → result ≡ melt_parts ns (parts_of front.now) }
-{
-    let parts = parts_of(front);
-    match parts {
-        PackParts::Three(end, from) => melt_fields(&front[..end], &front[from..], true, noted, m),
-        PackParts::Two => melt_fields(front, &front[..0], false, noted, m),
-        PackParts::Neither => Melted::Refused(12),
-    }
+    let field = weighed_part(positions, fields.stated.vertices);
+    let end = run(fields.operations, field, fields.stated, m)?;
+    conclude(fields.operations, end, positions, note)
 }
 
 // Reads any bytes, in a memory of 1,024 bytes that may hold anything before and after.
-pub fn melt_on(pack: &[u8], m: &mut [u8]) -> Melted
-    requires { Whole m.old }
-    ensures { result ≡ melt pack.now }
+pub fn melt_on(pack: &[u8], m: &mut [u8; BYTES]) -> Result<i64, Refusal>
+    ensures { melted_of result ≡ melt pack.now }
 {
-    let found = note_of(pack);
-    match found {
-        PackNote::At(end, from) => {
-            let noted = is_note(&pack[from..]);
-            melt_parts(&pack[..end], noted, m)
-        }
-        PackNote::Nothing => melt_parts(pack, true, m),
-    }
+    let split = note_of(pack);
+    let Some(parts) = parts_of(split.before) else {
+        return Err(Refusal::NotFields);
+    };
+    melt_fields(parts.two, parts.positions, split.note, m)
 }

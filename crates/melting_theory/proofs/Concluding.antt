@@ -8,9 +8,12 @@ use mathlib.Core.Path.{◌≡◌, refl, sym, ap, ap₂, ◌∙◌, subst}
 use lib.ListN.{length, take}
 use lib.Dec.{eqb, leb}
 use borrow.Author.Tests.{le-leb, lt-leb, eq-eqb, ne_eqb, eqb-true}
+use Rattle.std.specs.Prelude.{Ok, Err}
+use Rattle.rules.specs.declared.refusal.Refusal.{Refusal}
+use Rattle.rules.specs.Refusal.{number_of}
 use Rattle.rules.specs.declared.Counts.{Counts}
-use Rattle.rules.specs.declared.Melted.{Melted}
-use Rattle.rules.specs.declared.Melted.TheVariants as A
+use Rattle.rules.specs.Melted.{Melted}
+use Rattle.rules.specs.Melted as A
 use Rattle.rules.specs.Grid.{positions_from, all_in_grid}
 use Rattle.rules.specs.Volume.{six_volumes}
 use Rattle.rules.specs.Later.{Given, not_given, given}
@@ -18,36 +21,20 @@ use Rattle.rules.specs.Note.{note_fits}
 use Rattle.rules.specs.UnpackWhole.{field_fits}
 use Rattle.rules.specs.Machine.{Machine}
 use Rattle.rules.specs.Unpack.{rest_fits}
-use Rattle.rules.specs.Furnace.{peaks_fit, run_freely_of, melted, melt_run}
+use Rattle.rules.specs.Fields.{fields}
+use Rattle.rules.specs.Furnace.{peaks_fit, run_freely_of, melted, melt_run, melt_fields}
 use Rattle.counting.proofs.Bools.{and_left}
 use Rattle.cutborder.specs.declared.Front.{Front}
 use Rattle.cutborder.specs.declared.Melt.{Melt}
-use Rattle.cutborder.specs.declared.Stage.{Stage}
-use Rattle.cutborder.specs.declared.Stage.TheVariants as S
 use Rattle.border_theory.specs.Memory.Finish.{is_as_stated}
 use Rattle.border_theory.proofs.Memory.Finish.{stated_same}
 use Rattle.volume_theory.proofs.Fitting.{held, held_same}
 use Rattle.unpack_theory.specs.Runs.{bits_from}
 use Rattle.cells_theory.specs.Bytes.{numbers, Whole}
 use Rattle.rules.specs.Limits.{furnace_places, furnace_loops, in_range}
-use Rattle.melting_theory.specs.Runs.{Weighable, weighed_length, weighed_part, field_if, run_in, is_running, ComesBy, Comes}
-use Rattle.melting_theory.specs.Runs.{Ended, Completes, Begins}
+use Rattle.melting_theory.specs.Runs.{Weighable, weighed_part, run_in, Done, Comes, Completes, Begins}
 use Rattle.melting_theory.proofs.Stepping.{melts_ready}
-use Rattle.melting_theory.proofs.Weighing.{part_weighable, part_whole}
-
--- 26
-pub small_places : (c : Counts) → furnace_places < c.places → false ≡ peaks_fit c
-small_places c h = sym (ap (λ (b : Bool). b && leb c.loops furnace_loops) (lt-leb c.places furnace_places h))
-
-pub small_loops : (c : Counts) → c.places ≤ furnace_places → leb c.loops furnace_loops ≡ peaks_fit c
-small_loops c h = sym (ap (λ (b : Bool). b && leb c.loops furnace_loops) (le-leb c.places furnace_places h))
-
--- 23, of positions that are not given, and of those that are
-pub fit_none : (v : ℕ) (field : List ℕ) (g : Bool) → g ≡ false → true ≡ field_fits v (field_if g field)
-fit_none v field g e = sym (ap (λ (b : Bool). field_fits v (field_if b field)) e)
-
-pub fit_given : (v : ℕ) (field : List ℕ) (g : Bool) → g ≡ true → field_fits v (given field) ≡ field_fits v (field_if g field)
-fit_given v field g e = sym (ap (λ (b : Bool). field_fits v (field_if b field)) e)
+use Rattle.melting_theory.proofs.Weighing.{part_weighable, part_all}
 
 -- the four tests before 24
 abbrev tested_by : Bool → Bool → Bool → Bool → Melted → Melted
@@ -57,12 +44,9 @@ tested_by a b c d z =
       | false ↦ A.Refused 19
     ]
 
-module _ (ops field : List ℕ) (p : Melt) (h : Completes ops field p) (g : Bool) (ns : Given (List ℕ)) where
+module _ (ops : List ℕ) (p : Melt) (ps ns : Given (List ℕ)) (h : Completes ops ps p) where
   abbrev M : Machine
   M = h.done.held.machine
-
-  abbrev ps : Given (List ℕ)
-  ps = field_if g field
 
   vertices : M.stated.vertices ≡ p.front.stated.vertices
   vertices = ap (λ (c : Counts). c.vertices) h.done.held.melts.keeps.stated
@@ -100,71 +84,70 @@ module _ (ops field : List ℕ) (p : Melt) (h : Completes ops field p) (g : Bool
           last : melted ps M ≡ melt_run ps ns (run_in ops p)
           last = sym (ends true true true true (sym ea ∙ fa) (sym eb ∙ fb) (sym ec ∙ fc) (sym ed ∙ fd))
 
-          pub not_given_24 : g ≡ false → A.Refused 24 ≡ melt_run ps ns (run_in ops p)
-          not_given_24 e = sym (ap (λ (t : Bool). melted (field_if t field) M) e) ∙ last
+          pub not_given_24 : ps ≡ not_given → A.Refused 24 ≡ melt_run ps ns (run_in ops p)
+          not_given_24 e = sym (ap (λ (q : Given (List ℕ)). melted q M) e) ∙ last
 
-          by_rims : {b : Bool} → eqb M.rims 0 ≡ b
-              → melted (given field) M ≡ elim b [ true ↦ A.Six (six_volumes (positions_from field) M.triangles) | false ↦ A.Refused 24 ]
-          by_rims {b} e i = elim (e i) [ true ↦ A.Six (six_volumes (positions_from field) M.triangles) | false ↦ A.Refused 24 ]
+          module _ (field : List ℕ) (e : ps ≡ given field) where
+            by_rims : {b : Bool} → eqb M.rims 0 ≡ b
+                → melted (given field) M ≡ elim b [ true ↦ A.Six (six_volumes (positions_from field) M.triangles) | false ↦ A.Refused 24 ]
+            by_rims {b} e i = elim (e i) [ true ↦ A.Six (six_volumes (positions_from field) M.triangles) | false ↦ A.Refused 24 ]
 
-          pub rim_24 : g ≡ true → (p.front.rims ≡ 0 → ⊥) → A.Refused 24 ≡ melt_run ps ns (run_in ops p)
-          rim_24 e f =
-              let r : eqb M.rims 0 ≡ false = ne_eqb M.rims 0 (λ z. f (sym h.done.held.melts.keeps.rims ∙ z)) in
-              sym (ap (λ (t : Bool). melted (field_if t field) M) e ∙ by_rims r) ∙ last
+            pub rim_24 : (p.front.rims ≡ 0 → ⊥) → A.Refused 24 ≡ melt_run ps ns (run_in ops p)
+            rim_24 f =
+                let r : eqb M.rims 0 ≡ false = ne_eqb M.rims 0 (λ z. f (sym h.done.held.melts.keeps.rims ∙ z)) in
+                sym (ap (λ (q : Given (List ℕ)). melted q M) e ∙ by_rims r) ∙ last
 
-          pub weighed_six : g ≡ true → p.front.rims ≡ 0 → A.Six (held p.six) ≡ melt_run ps ns (run_in ops p)
-          weighed_six e f =
-              let r : eqb M.rims 0 ≡ true = eq-eqb M.rims 0 (h.done.held.melts.keeps.rims ∙ f) in
-              let v = p.front.stated.vertices in
-              let k : field_fits v (given field) ≡ true = sym (ap (λ (t : Bool). field_fits v (field_if t field)) e) ∙ sym ec ∙ fc in
-              let l : length field ≡ 6 * v =
-              eqb-true (length field) (6 * v) (and_left (eqb (length field) (6 * v)) (all_in_grid (positions_from field)) k) in
-              let z : p.six ≡ six_volumes (positions_from field) M.triangles =
-              h.done.held.weighed.sum
-              ∙ ap (λ (bs : List ℕ). six_volumes (positions_from bs) M.triangles) (part_whole field p.front.stated.vertices l) in
-              ap A.Six (same_six ∙ z) ∙ sym (ap (λ (t : Bool). melted (field_if t field) M) e ∙ by_rims r) ∙ last
+            pub weighed_six : p.front.rims ≡ 0 → A.Six (held p.six) ≡ melt_run ps ns (run_in ops p)
+            weighed_six f =
+                let r : eqb M.rims 0 ≡ true = eq-eqb M.rims 0 (h.done.held.melts.keeps.rims ∙ f) in
+                let v = p.front.stated.vertices in
+                let k : field_fits v (given field) ≡ true = sym (ap (field_fits v) e) ∙ sym ec ∙ fc in
+                let l : length field ≡ 6 * v =
+                eqb-true (length field) (6 * v) (and_left (eqb (length field) (6 * v)) (all_in_grid (positions_from field)) k) in
+                let z : p.six ≡ six_volumes (positions_from field) M.triangles =
+                h.done.held.weighed.sum
+                ∙ ap (λ (bs : List ℕ). six_volumes (positions_from bs) M.triangles)
+                (ap (λ (q : Given (List ℕ)). weighed_part q v) e ∙ part_all v field l) in
+                ap A.Six (same_six ∙ z) ∙ sym (ap (λ (q : Given (List ℕ)). melted q M) e ∙ by_rims r) ∙ last
 
--- the answer by the stage of the run
-module _ (ops field : List ℕ) (p : Melt) (h : Ended ops field p) where
-  pub run_refused : (k : ℕ) → p.stage ≡ S.Refused k → (ps ns : Given (List ℕ)) → A.Refused k ≡ melt_run ps ns (run_in ops p)
-  unfolding melt_run
-  run_refused k e ps ns =
-      let c = subst (λ (t : Stage). ComesBy t ops (weighed_part field p.front.stated.vertices) p h.bytes) e h.comes in
-      sym (ap (melt_run ps ns) c)
+-- a run of the operations with the positions that are weighed with
+pub begins_run : (c : Counts) (ops : List ℕ) (ps : Given (List ℕ)) (field bs : List ℕ) → field ≡ weighed_part ps c.vertices
+    → in_range c ≡ true → (b : Bool) → b ≡ peaks_fit c → b ≡ true → length ops < 65536 → Whole bs → Begins c ops field bs
+begins_run c ops ps field bs e r b eb fb l w = record {
+  ranges = r;
+  peaks = sym eb ∙ fb;
+  short = l;
+  weighable = subst (Weighable c) (sym e) (part_weighable c ps);
+  whole = w;
+}
 
-  pub run_completed : p.stage ≡ S.Completed → Completes ops field p
-  run_completed e = record {
-    bytes = h.bytes;
-    done = subst (λ (t : Stage). ComesBy t ops (weighed_part field p.front.stated.vertices) p h.bytes) e h.comes;
-  }
+-- 12, 13, 26, or the run
+module _ (ps ns : Given (List ℕ)) (c : Counts) (ops : List ℕ) (ranges : in_range c ≡ true) where
+  by_peaks : (b : Bool) → peaks_fit c ≡ b
+      → melt_fields ps ns (fields c ops) ≡ elim b [ true ↦ melt_run ps ns (run_freely_of c ops) | false ↦ A.Refused 26 ]
+  unfolding melt_fields
+  by_peaks b e i = elim (ranges i) as (λ _. Melted) [
+    | true ↦ elim (e i) as (λ _. Melted) [ true ↦ melt_run ps ns (run_freely_of c ops) | false ↦ A.Refused 26 ]
+    | false ↦ A.Refused 13
+  ]
 
-  pub run_over : p.stage ≡ S.Runs → ⊥
-  run_over e = false≢true (sym h.over ∙ ap is_running e)
+  pub too_large : (b : Bool) → b ≡ peaks_fit c → b ≡ false → A.Refused 26 ≡ melt_fields ps ns (fields c ops)
+  too_large b e f = sym (by_peaks false (sym e ∙ f))
 
--- ---- a run of the operations with the part of the field that is weighed with
-module _ (c : Counts) (ops field : List ℕ) (n : ℕ) (en : n ≡ weighed_length (length field) c.vertices) where
-  part_same : take n field ≡ weighed_part field c.vertices
-  part_same = ap (λ (k : ℕ). take k field) en
+  module _ (b : Bool) (e : b ≡ peaks_fit c) (f : b ≡ true) (field bs : List ℕ) (ef : field ≡ weighed_part ps c.vertices) where
+    -- the run is refused
+    pub run_refused : (k : Refusal) → Comes c ops field (Err k) bs → A.Refused (number_of k) ≡ melt_fields ps ns (fields c ops)
+    unfolding melt_run
+    run_refused k h = sym (by_peaks true (sym e ∙ f) ∙ ap (melt_run ps ns) h)
 
-  pub begins_run : (bs : List ℕ) → in_range c ≡ true → (b : Bool) → b ≡ peaks_fit c → b ≡ true → length ops < 65536 → Whole bs
-      → Begins c ops (take n field) bs
-  begins_run bs r b eb fb l w = record {
-    ranges = r;
-    peaks = sym eb ∙ fb;
-    short = l;
-    weighable = subst (Weighable c) (sym part_same) (part_weighable c field);
-    whole = w;
-  }
+    -- it completes its model
+    module _ (p : Melt) (h : Comes c ops field (Ok p) bs) where
+      pub run_completes : Completes ops ps p
+      run_completes = record {
+        bytes = bs;
+        done = subst (λ (us : List ℕ). Done ops us p bs) (ef ∙ ap (λ (k : Counts). weighed_part ps k.vertices) (sym h.1)) h.0;
+      }
 
-  pub ended_run : (p : Melt) (bs : List ℕ) → Comes ops (take n field) p bs → is_running p.stage ≡ false → p.front.stated ≡ c
-      → Ended ops field p
-  ended_run p bs h e s = record {
-    bytes = bs;
-    comes =
-        subst (λ (f : List ℕ). Comes ops f p bs) (part_same ∙ ap (λ (k : Counts). weighed_part field k.vertices) (sym s)) h;
-    over = e;
-  }
-
-pub run_answer : (c : Counts) (ops : List ℕ) (p : Melt) (ps ns : Given (List ℕ)) (r : Melted) → p.front.stated ≡ c
-    → r ≡ melt_run ps ns (run_in ops p) → r ≡ melt_run ps ns (run_freely_of c ops)
-run_answer c ops p ps ns r e h = h ∙ ap (λ (k : Counts). melt_run ps ns (run_freely_of k ops)) e
+      pub run_answers : (r : Melted) → r ≡ melt_run ps ns (run_in ops p) → r ≡ melt_fields ps ns (fields c ops)
+      run_answers r a =
+          a ∙ ap (λ (k : Counts). melt_run ps ns (run_freely_of k ops)) h.1 ∙ sym (by_peaks true (sym e ∙ f))

@@ -34,12 +34,13 @@ use Rattle.counting.proofs.Bools.{and_left, and_right}
 use Rattle.cutborder.specs.declared.Front.{Front}
 use Rattle.cutborder.specs.declared.Plan.{Plan}
 use Rattle.cutborder.specs.declared.Melt.{Melt}
-use Rattle.cutborder.specs.declared.Stage.{Stage}
-use Rattle.cutborder.specs.declared.Stage.TheVariants as S
-use Rattle.cutborder.specs.declared.Decided.{Decided}
-use Rattle.cutborder.specs.declared.Decided.TheVariants as D
+use Rattle.std.specs.Prelude.{Result, Ok, Err}
+use Rattle.rules.specs.declared.refusal.Refusal.{Refusal}
+use Rattle.rules.specs.declared.refusal.Refusal.TheVariants.{EndsEarly}
+use Rattle.rules.specs.Refusal.{number_of}
+use Rattle.cutborder.specs.declared.Action.TheVariants.{Builds, Marks}
 use Rattle.border_theory.specs.Memory.Moves.{marked_held}
-use Rattle.border_theory.specs.Memory.Decision.{decided, held_after, built_front, marked_front}
+use Rattle.border_theory.specs.Memory.Decision.{Decided, decided, held_after, built_front, marked_front}
 use Rattle.border_theory.specs.Memory.Keeps.{Keeps, Ready, BuildsFreely, MarksFreely, DecidesFreely}
 use Rattle.border_theory.specs.Memory.Finish.{is_complete}
 use Rattle.border_theory.specs.Memory.Fresh.{all_free, fresh_front}
@@ -55,10 +56,10 @@ use Rattle.wire_theory.proofs.Bytes.{length_bits_of_bytes}
 use Rattle.unpack_theory.specs.Runs.{bits_from}
 use Rattle.cells_theory.specs.Bytes.{numbers, Whole}
 use Rattle.cells_theory.proofs.Bytes.{length_numbers}
-use Rattle.melting_theory.specs.Runs.{Melts, Weighed, Held, run_in, Going, Done, ComesBy, Comes}
-use Rattle.melting_theory.specs.Runs.{Weighable, Weighs, WeighsTo, is_running, ended_at, onward_at, to_read, Turned, Begins}
+use Rattle.melting_theory.specs.Runs.{Melts, Weighed, Held, run_in, Going, Done, TurnedTo, Turned}
+use Rattle.melting_theory.specs.Runs.{Weighable, Weighs, WeighsTo, Begins}
 use Rattle.melting_theory.proofs.Weighing.{weighs_may, weighs_told, weighed_more}
-use Rattle.melting_theory.proofs.Runs.{ran_complete, ran_broken, ran_refused, ran_built, ran_marked}
+use Rattle.melting_theory.proofs.Runs.{ran_complete, ran_none, ran_broken, ran_refused, ran_built, ran_marked}
 
 module _ (M : Machine) (s : Front) (bs : List ℕ) (h : Melts M s bs) where
   abbrev book : Book
@@ -84,12 +85,13 @@ module _ (M : Machine) (s : Front) (bs : List ℕ) (h : Melts M s bs) where
   below : (o : Operation) (E : Effect) → effect o M.used M.loops ≡ E → Below M.used E
   below o E e = subst (Below M.used) e (below_effect o M.used M.loops h.low)
 
-  refused_it : (o : Operation) (k : ℕ) → decided furnace_places s (numbers bs) o ≡ D.Refused k → operation_freely M o ≡ refused k
-  refused_it o k e = decides_it o (D.Refused k) e
+  refused_it : (o : Operation) (k : Refusal) → decided furnace_places s (numbers bs) o ≡ Err k
+      → operation_freely M o ≡ refused (number_of k)
+  refused_it o k e = decides_it o (Err k) e
 
-  module _ (o : Operation) (p : Plan) (e : decided furnace_places s (numbers bs) o ≡ D.Builds p) where
+  module _ (o : Operation) (p : Plan) (e : decided furnace_places s (numbers bs) o ≡ Ok (Builds p)) where
     does : BuildsFreely furnace_places s (numbers bs) M o p
-    does = decides_it o (D.Builds p) e
+    does = decides_it o (Ok (Builds p)) e
 
     next : Machine
     next = after_build M does.building
@@ -127,9 +129,9 @@ module _ (M : Machine) (s : Front) (bs : List ℕ) (h : Melts M s bs) where
           omega (arith, b.2, w.vertices, v, ap (λ (x : Triangle). x.r) t),
         )
 
-  module _ (o : Operation) (x y : ℕ) (e : decided furnace_places s (numbers bs) o ≡ D.Marks x y) where
+  module _ (o : Operation) (x y : ℕ) (e : decided furnace_places s (numbers bs) o ≡ Ok (Marks x y)) where
     marked : MarksFreely furnace_places s (numbers bs) M o
-    marked = decides_it o (D.Marks x y) e
+    marked = decides_it o (Ok (Marks x y)) e
 
     after : Machine
     after = after_mark M marked.marking
@@ -154,10 +156,6 @@ module _ (M : Machine) (s : Front) (bs : List ℕ) (h : Melts M s bs) where
 
 -- ---- the ways through a turn
 
--- the bits from a position on
-bits_left : (ops : List ℕ) (k : ℕ) → length (bits_from ops k) ≡ 8 * length ops - k
-bits_left ops k = length-drop k (bits_of_bytes ops) ∙ ap (λ (n : ℕ). n - k) (length_bits_of_bytes ops)
-
 -- with no live loop no edge is marked
 never : (y : Marking) → not_allowed ≡ marks y → ⊥
 never y e = let z : ◌≡◌ {A = ℕ} 0 1 = cc in omega arith
@@ -181,146 +179,111 @@ unfolding effect
 some_loop o u [] y e h = at_rest_lem o u y e
 some_loop o u (l ∷ ls) y e h = omega (arith, h)
 
-module _ (ops field : List ℕ) (p : Melt) (bs : List ℕ) (g : Going ops field p bs) where
-  abbrev M : Machine
-  M = g.held.machine
+module _ (field : List ℕ) (p : Melt) (bs : List ℕ) (h : Held field p bs) where
+  pub held_ready : Ready furnace_places p.front (numbers bs)
+  held_ready = melts_ready h.machine p.front bs h.melts
 
-  abbrev xs : List ℕ
-  xs = bits_from ops p.at
-
-  pub going_ready : Ready furnace_places p.front (numbers bs)
-  going_ready = melts_ready M p.front bs g.held.melts
-
-  few : length M.triangles ≤ max_triangles
-  few = omega (arith, going_ready.built, g.held.melts.keeps.triangles)
+  few : length h.machine.triangles ≤ max_triangles
+  few = omega (arith, held_ready.built, h.melts.keeps.triangles)
 
   same_six : held p.six ≡ p.six
-  same_six = held_same p.six (omega (arith, g.held.weighed.amount, few))
+  same_six = held_same p.six (omega (arith, h.weighed.amount, few))
 
   pub turn_weighs : Weighable p.front.stated field → (o : Operation) (t : Plan)
-      → decided furnace_places p.front (numbers bs) o ≡ D.Builds t
+      → decided furnace_places p.front (numbers bs) o ≡ Ok (Builds t)
       → Weighs field t.triangle (held p.six)
-  turn_weighs h o t e =
+  turn_weighs w o t e =
       subst (Weighs field t.triangle) (sym same_six)
-      (weighs_may p.front.stated field M.triangles t.triangle p.six h g.held.weighed few
-      (corners_below M p.front bs g.held.melts o t e))
+      (weighs_may p.front.stated field h.machine.triangles t.triangle p.six w h.weighed few
+      (corners_below h.machine p.front bs h.melts o t e))
 
-  pub turn_live : (o : Operation) (x y : ℕ) → decided furnace_places p.front (numbers bs) o ≡ D.Marks x y → p.front.loops.live ≡ 0 → ⊥
-  turn_live o x y e h =
-      let k = g.held.melts in
-      some_loop o M.used M.loops _ (marked M p.front bs k o x y e).effects
-      (live_same furnace_places p.front (numbers bs) M k.keeps ∙ h)
+  pub turn_live : (o : Operation) (x y : ℕ) → decided furnace_places p.front (numbers bs) o ≡ Ok (Marks x y) → p.front.loops.live ≡ 0 → ⊥
+  turn_live o x y e z =
+      some_loop o h.machine.used h.machine.loops _ (marked h.machine p.front bs h.melts o x y e).effects
+      (live_same furnace_places p.front (numbers bs) h.machine h.melts.keeps ∙ z)
 
-  some : 0 < g.left
-  some = omega (arith, g.enough)
+module _ (ops field : List ℕ) (p : Melt) (bs : List ℕ) where
+  pub turn_complete : (left : ℕ) → 0 < left → Going ops field left p bs → (b : Bool) → b ≡ is_complete p.front → b ≡ true
+      → Done ops field p bs
+  turn_complete left l g b eb e = record {
+    held = g.held;
+    ran =
+        g.ran ∙ ran_complete left g.held.machine (bits_from ops p.at) l
+        (melts_complete g.held.machine p.front bs g.held.melts ∙ sym eb ∙ e);
+  }
 
-  turned_ended : (t : Stage) → to_read t ops p.at ≡ 0 → ComesBy t ops field (ended_at p t) bs → (r : Melt) → r ≡ ended_at p t
-      → Turned ops field p r bs
-  turned_ended t n c r e = rw e (c, omega (arith, n), refl)
+  -- none may be read any more
+  pub turn_none : (left : ℕ) → left ≤ 0 → Going ops field left p bs → run_in ops p ≡ stopped 15
+  turn_none left l g = g.ran ∙ ran_none left g.held.machine (bits_from ops p.at) l
 
-  pub turn_complete : (b : Bool) → b ≡ is_complete p.front → b ≡ true → (r : Melt) → r ≡ ended_at p S.Completed → Turned ops field p r bs
-  turn_complete b eb e r er =
-      turned_ended S.Completed refl
-      (record {
-        held = record { machine = M; melts = g.held.melts; weighed = g.held.weighed };
-        ran = g.ran ∙ ran_complete g.left M xs some (melts_complete M p.front bs g.held.melts ∙ sym eb ∙ e);
-      }) r er
+  module _ (b : Bool) (eb : b ≡ is_complete p.front) (c : b ≡ false) where
+    on : {left : ℕ} → (g : Going ops field left p bs) → complete g.held.machine ≡ false
+    on g = melts_complete g.held.machine p.front bs g.held.melts ∙ sym eb ∙ c
 
-  module _ (c : is_complete p.front ≡ false) where
-    on : complete M ≡ false
-    on = melts_complete M p.front bs g.held.melts ∙ c
+    pub turn_broken : read_operation (bits_from ops p.at) ≡ breaks_off → Turned ops field p bs (Err EndsEarly) bs
+    turn_broken e left l g = g.ran ∙ ran_broken left g.held.machine (bits_from ops p.at) (on g) e
 
-    pub turn_broken : read_operation xs ≡ breaks_off → (r : Melt) → r ≡ ended_at p (S.Refused 15) → Turned ops field p r bs
-    turn_broken e r er = turned_ended (S.Refused 15) refl (g.ran ∙ ran_broken g.left M xs on e) r er
+    module _ (o : Operation) (k : ℕ) (reads : read_operation (bits_from ops p.at) ≡ read o (bits_from ops k)) where
+      pub turn_refused : (n : Refusal) → decided furnace_places p.front (numbers bs) o ≡ Err n → Turned ops field p bs (Err n) bs
+      turn_refused n e left l g =
+          g.ran
+          ∙ ran_refused g.held.machine (bits_from ops p.at) (bits_from ops k) o (on g) reads left (number_of n) l
+          (refused_it g.held.machine p.front bs g.held.melts o n e)
 
-    module _ (o : Operation) (k : ℕ) (reads : read_operation xs ≡ read o (bits_from ops k)) where
-      pub turn_refused : (n : ℕ) → decided furnace_places p.front (numbers bs) o ≡ D.Refused n → (r : Melt) → r ≡ ended_at p (S.Refused n)
-          → Turned ops field p r bs
-      turn_refused n e r er =
-          turned_ended (S.Refused n) refl
-          (g.ran
-          ∙ ran_refused M xs (bits_from ops k) o on reads g.left n some (refused_it M p.front bs g.held.melts o n e)) r er
+      onward_by : (left : ℕ) (g : Going ops field left p bs) (s' : Front) (z : ℤ) (bs' : List ℕ) → s'.stated ≡ p.front.stated
+          → (N : Machine) → Melts N s' bs' → Weighed field N.triangles z
+          → run_freely left g.held.machine (bits_from ops p.at) ≡ run_freely (left - 1) N (bits_from ops k)
+          → TurnedTo ops field left p (Ok (record { at = k; front = s'; six = z })) bs'
+      onward_by left g s' z bs' es N m w e = (
+        record {
+          held = record { machine = N; melts = m; weighed = w };
+          ran = ap (λ (c : Counts). run_freely_of c ops) es ∙ g.ran ∙ e;
+        },
+        es,
+      )
 
-      module _ (ahead : p.at < k) (within : k ≤ 8 * length ops) where
-        fewer : length (bits_from ops k) < g.left - 1
-        fewer =
-            let a = bits_left ops p.at in
-            let b = bits_left ops k in
-            omega (arith, g.enough, a, b, ahead, within)
+      pub turn_built : (t : Plan) → decided furnace_places p.front (numbers bs) o ≡ Ok (Builds t) → (s' : Front)
+          → s' ≡ built_front furnace_places p.front t (held_after furnace_places p.front (numbers bs) o t).loops → (bs' : List ℕ)
+          → numbers bs' ≡ (held_after furnace_places p.front (numbers bs) o t).memory → Whole bs' → (w : ℤ) → SFits w64 w
+          → WeighsTo field t.triangle (held p.six) w → Turned ops field p bs (Ok (record { at = k; front = s'; six = held w })) bs'
+      unfolding next built_front
+      turn_built t e s' es bs' em wh w f v left l g =
+          let M = g.held.machine in
+          let m = g.held.melts in
+          let d = does M p.front bs m o t e in
+          let v' : Weighed field (t.triangle ∷ M.triangles) (held w) =
+          weighed_more field M.triangles t.triangle p.six (held w) g.held.weighed
+          (weighs_told field t.triangle p.six (held p.six) w (held w) (same_six field p bs g.held) (to_z-of_z f) (v.sum, v.amount)) in
+          onward_by left g s' (held w) bs' (ap (λ (f : Front). f.stated) es) (next M p.front bs m o t e)
+          (next_melts M p.front bs m o t e s' es bs' em wh)
+          (subst (λ (u : Triangle). Weighed field (u ∷ M.triangles) (held w)) (sym d.triangle) v')
+          (ran_built M (bits_from ops p.at) (bits_from ops k) o (on g) reads left t.triangle (next M p.front bs m o t e) l
+          (made M p.front bs m o t e))
 
-        onward_by : (s' : Front) (z : ℤ) (bs' : List ℕ) → s'.stated ≡ p.front.stated → (N : Machine) → Melts N s' bs'
-            → Weighed field N.triangles z → run_freely g.left M xs ≡ run_freely (g.left - 1) N (bits_from ops k)
-            → Turned ops field p (onward_at s' k z) bs'
-        onward_by s' z bs' es N m w e = (
-          record {
-            held = record { machine = N; melts = m; weighed = w };
-            left = g.left - 1;
-            ran = ap (λ (c : Counts). run_freely_of c ops) es ∙ g.ran ∙ e;
-            enough = fewer;
-          },
-          omega (arith, ahead, within),
-          es,
-        )
+      pub turn_marked : (x y : ℕ) → decided furnace_places p.front (numbers bs) o ≡ Ok (Marks x y) → (s' : Front)
+          → s' ≡ marked_front furnace_places p.front (marked_held furnace_places p.front.loops (numbers bs)).loops → (bs' : List ℕ)
+          → numbers bs' ≡ (marked_held furnace_places p.front.loops (numbers bs)).memory → Whole bs' → (z : ℤ) → z ≡ held p.six
+          → Turned ops field p bs (Ok (record { at = k; front = s'; six = z })) bs'
+      unfolding after marked_front
+      turn_marked x y e s' es bs' em w z ez left l g =
+          let M = g.held.machine in
+          let m = g.held.melts in
+          let d = marked M p.front bs m o x y e in
+          rw (ez, same_six field p bs g.held)
+          (onward_by left g s' p.six bs' (ap (λ (f : Front). f.stated) es) (after M p.front bs m o x y e)
+          (after_melts M p.front bs m o x y e s' es bs' em w) g.held.weighed
+          (ran_marked M (bits_from ops p.at) (bits_from ops k) o (on g) reads left d.marking.edge (after M p.front bs m o x y e) l
+          (declares M p.front bs m o x y e)))
 
-        pub turn_built : (t : Plan) → decided furnace_places p.front (numbers bs) o ≡ D.Builds t → (s' : Front)
-            → s' ≡ built_front furnace_places p.front t (held_after furnace_places p.front (numbers bs) o t).loops → (bs' : List ℕ)
-            → numbers bs' ≡ (held_after furnace_places p.front (numbers bs) o t).memory → Whole bs' → (w : ℤ) → SFits w64 w
-            → WeighsTo field t.triangle (held p.six) w → (r : Melt) → r ≡ onward_at s' k (held w) → Turned ops field p r bs'
-        unfolding next built_front
-        turn_built t e s' es bs' em wh w f v r er =
-            let m = g.held.melts in
-            let d = does M p.front bs m o t e in
-            let v' : Weighed field (t.triangle ∷ M.triangles) (held w) =
-            weighed_more field M.triangles t.triangle p.six (held w) g.held.weighed
-            (weighs_told field t.triangle p.six (held p.six) w (held w) same_six (to_z-of_z f) (v.sum, v.amount)) in
-            rw er
-            (onward_by s' (held w) bs' (ap (λ (f : Front). f.stated) es) (next M p.front bs m o t e)
-            (next_melts M p.front bs m o t e s' es bs' em wh)
-            (subst (λ (u : Triangle). Weighed field (u ∷ M.triangles) (held w)) (sym d.triangle) v')
-            (ran_built M xs (bits_from ops k) o on reads g.left t.triangle (next M p.front bs m o t e) some
-            (made M p.front bs m o t e)))
-
-        pub turn_marked : (x y : ℕ) → decided furnace_places p.front (numbers bs) o ≡ D.Marks x y → (s' : Front)
-            → s' ≡ marked_front furnace_places p.front (marked_held furnace_places p.front.loops (numbers bs)).loops → (bs' : List ℕ)
-            → numbers bs' ≡ (marked_held furnace_places p.front.loops (numbers bs)).memory → Whole bs' → (r : Melt)
-            → r ≡ onward_at s' k (held p.six)
-            → Turned ops field p r bs'
-        unfolding after marked_front
-        turn_marked x y e s' es bs' em w r er =
-            let m = g.held.melts in
-            let d = marked M p.front bs m o x y e in
-            rw (er, same_six)
-            (onward_by s' p.six bs' (ap (λ (f : Front). f.stated) es) (after M p.front bs m o x y e)
-            (after_melts M p.front bs m o x y e s' es bs' em w) g.held.weighed
-            (ran_marked M xs (bits_from ops k) o on reads g.left d.marking.edge (after M p.front bs m o x y e) some
-            (declares M p.front bs m o x y e)))
-
--- a reading that is running goes on
-going_by : (ops field : List ℕ) (p : Melt) (bs : List ℕ) (t : Stage) → ComesBy t ops field p bs → is_running t ≡ true → Going ops field p bs
-going_by ops field p bs S.Runs c e = c
-going_by ops field p bs S.Completed c e = absurd (false≢true e)
-going_by ops field p bs (S.Refused k) c e = absurd (false≢true e)
-
-pub going : (ops field : List ℕ) (p : Melt) (bs : List ℕ) → Comes ops field p bs → (b : Bool) → b ≡ is_running p.stage → b ≡ true
-    → Going ops field p bs
-going ops field p bs c b e f = going_by ops field p bs p.stage c (sym e ∙ f)
-
--- and reads less at each turn
-less_by : (ops : List ℕ) (k n : ℕ) (t : Stage) → is_running t ≡ true → n < to_read S.Runs ops k → n < to_read t ops k
-less_by ops k n S.Runs e h = h
-less_by ops k n S.Completed e h = absurd (false≢true e)
-less_by ops k n (S.Refused j) e h = absurd (false≢true e)
-
-pub reads_less : (ops : List ℕ) (p : Melt) (n : ℕ) (b : Bool) → b ≡ is_running p.stage → b ≡ true → n < to_read S.Runs ops p.at
-    → n < to_read p.stage ops p.at
-reads_less ops p n b e f h = less_by ops p.at n p.stage (sym e ∙ f) h
+fuel : (ops : List ℕ) (n : ℕ) → n ≡ 8 * length ops + 1 → suc (length (bits_from ops 0)) ≡ n
+fuel ops n e = omega (arith, e, length_bits_of_bytes ops)
 
 -- the beginning: every place is free
 pub begins : (c : Counts) (ops field bs bs' : List ℕ) → Begins c ops field bs → (s : Front) → s ≡ fresh_front furnace_places c
     → numbers bs' ≡ all_free furnace_places (numbers bs) furnace_places → Whole bs'
-    → Going ops field (record { stage = S.Runs; at = 0; front = s; six = pos 0 }) bs'
+    → (n : ℕ) → n ≡ 8 * length ops + 1 → Going ops field n (record { at = 0; front = s; six = pos 0 }) bs'
 unfolding six_volumes
-begins c ops field bs bs' h s es em w =
+begins c ops field bs bs' h s es em w n en =
     let i = in_range_lem c h.ranges in
     let places = leb-true c.places furnace_places (and_left (leb c.places furnace_places) (leb c.loops furnace_loops) h.peaks) in
     let loops = leb-true c.loops furnace_loops (and_right (leb c.places furnace_places) (leb c.loops furnace_loops) h.peaks) in
@@ -333,7 +296,5 @@ begins c ops field bs bs' h s es em w =
         melts = record { borders = []; bounded = empty_bounded c h.ranges; keeps = rw (es, em) k; low = tt; whole = w };
         weighed = record { sum = refl; amount = omega arith };
       };
-      left = suc (length (bits_from ops 0));
-      ran = rw es refl;
-      enough = omega arith;
+      ran = rw es (ap (λ (k : ℕ). run_freely k (empty c) (bits_from ops 0)) (fuel ops n en));
     }

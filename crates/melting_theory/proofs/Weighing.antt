@@ -4,10 +4,9 @@ use Prim.Native.Nat.{ℕ, ◌+◌, ◌*◌, ◌≤◌, ◌<◌}
 use native.Mathlib.Omega.{arith}
 use mathlib.Core.Bool.{Bool, true, false, false≢true}
 use mathlib.Core.List.{List, [], ◌∷◌}
-use mathlib.Core.Path.{◌≡◌, refl, sym, ap, ap₂, ◌∙◌, subst}
+use mathlib.Core.Path.{◌≡◌, refl, sym, ap, ◌∙◌}
 use lib.IntN.{ℤ, pos, nat_abs, ◌+ℤ◌, +ℤ_idl}
-use lib.ListN.{length, take}
-use lib.Seq.{length-take-le, take_all}
+use lib.ListN.{length}
 use lib.Dec.{eqb}
 use borrow.Author.Tests.{eq-eqb, ne_eqb, eqb-true}
 use Rattle.rules.specs.declared.Triangle.{Triangle}
@@ -16,7 +15,8 @@ use Rattle.rules.specs.Grid.{positions_from}
 use Rattle.rules.specs.Volume.{six_volumes, determinant}
 use Rattle.rules.specs.declared.Counts.{Counts}
 use Rattle.volume_theory.specs.Near.{largest, limit64, HasCorners, determinant_of}
-use Rattle.melting_theory.specs.Runs.{Weighable, weighed_length, weighed_part, Weighs, WeighsTo, Weighed}
+use Rattle.rules.specs.Later.{Given, not_given, given}
+use Rattle.melting_theory.specs.Runs.{Weighable, weighed_part, Weighs, WeighsTo, Weighed}
 
 -- without positions every determinant is zero
 nothing : (field : List ℕ) (t : Triangle) → length field ≡ 0 → determinant_of (positions_from field) t ≡ pos 0
@@ -55,32 +55,16 @@ weighs_may c field ts t six h w few b = record {
   room = omega (arith, w.amount, few);
 }
 
--- how many bytes of a field are weighed with
-pub part_all : (n v : ℕ) → n ≡ 6 * v → n ≡ weighed_length n v
-part_all n v e = sym (ap (λ (t : Bool). elim t [ true ↦ n | false ↦ 0 ]) (eq-eqb n (6 * v) e))
-
-pub part_none : (n v : ℕ) → (n ≡ 6 * v → ⊥) → 0 ≡ weighed_length n v
-part_none n v e = sym (ap (λ (t : Bool). elim t [ true ↦ n | false ↦ 0 ]) (ne_eqb n (6 * v) e))
-
-within_by : (n : ℕ) (t : Bool) → elim t [ true ↦ n | false ↦ 0 ] ≤ n
-within_by n true = omega arith
-within_by n false = omega arith
-
-pub part_long : (v : ℕ) (field : List ℕ) (n : ℕ) → n ≡ weighed_length (length field) v → n ≡ length (take n field)
-part_long v field n e =
-    sym (length-take-le n field (subst (λ (k : ℕ). k ≤ length field) (sym e) (within_by (length field) (eqb (length field) (6 * v)))))
-
 -- the part of a field that is weighed with
+pub part_all : (v : ℕ) (field : List ℕ) → length field ≡ 6 * v → weighed_part (given field) v ≡ field
+part_all v field e = ap (λ (t : Bool). elim t [ true ↦ field | false ↦ [] ]) (eq-eqb (length field) (6 * v) e)
+
 part_by : (field : List ℕ) (v : ℕ) (t : Bool) → eqb (length field) (6 * v) ≡ t
-    → (length (take (elim t [ true ↦ length field | false ↦ 0 ]) field) ≡ 0 → ⊥)
-    → length (take (elim t [ true ↦ length field | false ↦ 0 ]) field) ≡ 6 * v
-part_by field v true e h = length-take-le (length field) field (omega arith) ∙ eqb-true (length field) (6 * v) e
+    → (length (elim t as (λ _. List ℕ) [ true ↦ field | false ↦ [] ]) ≡ 0 → ⊥)
+    → length (elim t as (λ _. List ℕ) [ true ↦ field | false ↦ [] ]) ≡ 6 * v
+part_by field v true e h = eqb-true (length field) (6 * v) e
 part_by field v false e h = absurd (h refl)
 
-pub part_weighable : (c : Counts) (field : List ℕ) → Weighable c (weighed_part field c.vertices)
-part_weighable c field h = part_by field c.vertices (eqb (length field) (6 * c.vertices)) refl h
-
-pub part_whole : (field : List ℕ) (v : ℕ) → length field ≡ 6 * v → weighed_part field v ≡ field
-part_whole field v e =
-    ap (λ (t : Bool). take (elim t [ true ↦ length field | false ↦ 0 ]) field) (eq-eqb (length field) (6 * v) e)
-    ∙ take_all (length field) field (omega arith)
+pub part_weighable : (c : Counts) (ps : Given (List ℕ)) → Weighable c (weighed_part ps c.vertices)
+part_weighable c not_given h = absurd (h refl)
+part_weighable c (given field) h = part_by field c.vertices (eqb (length field) (6 * c.vertices)) refl h

@@ -1,6 +1,9 @@
 -- What holds throughout a reading: the bytes keep a machine, and the sum is that of the machine's triangles.
 -- Assumes nothing.
-use Rattle.std.specs.Prelude.{ℕ, suc, ◌+◌, ◌-◌, ◌*◌, ◌≤◌, ◌<◌, Bool, true, false, List, ◌≡◌, ℤ, nat_abs, ◌+ℤ◌, length, take, eqb}
+use Rattle.std.specs.Prelude.{ℕ, ◌+◌, ◌-◌, ◌*◌, ◌≤◌, ◌<◌, true, false, List, [], ◌≡◌, ℤ, nat_abs, ◌+ℤ◌, length, eqb}
+use Rattle.std.specs.Prelude.{Result, Ok, Err}
+use Rattle.rules.specs.declared.refusal.Refusal.{Refusal}
+use Rattle.rules.specs.Refusal.{number_of}
 use Rattle.rules.specs.declared.Counts.{Counts}
 use Rattle.rules.specs.declared.Triangle.{Triangle}
 use Rattle.rules.specs.Limits.{furnace_places, in_range}
@@ -17,8 +20,6 @@ use Rattle.volume_theory.specs.Near.{largest, limit64, HasCorners, determinant_o
 use Rattle.unpack_theory.specs.Runs.{bits_from}
 use Rattle.cutborder.specs.declared.Front.{Front}
 use Rattle.cutborder.specs.declared.Melt.{Melt}
-use Rattle.cutborder.specs.declared.Stage.{Stage}
-use Rattle.cutborder.specs.declared.Stage.TheVariants.{Runs, Completed, Refused}
 use Rattle.border_theory.specs.Memory.Keeps.{Keeps}
 use Rattle.cells_theory.specs.Bytes.{numbers, Whole}
 
@@ -35,18 +36,10 @@ pub record Melts (M : Machine) (s : Front) (bs : List ℕ) : Type 0 where
 abbrev pub Weighable : Counts → List ℕ → Type 0
 Weighable c field = (length field ≡ 0 → ⊥) → length field ≡ 6 * c.vertices
 
--- how many bytes of a field of some length are weighed with: all, if it has six for each of v vertices, else none
-abbrev pub weighed_length : ℕ → ℕ → ℕ
-weighed_length n v = elim (eqb n (6 * v)) [ true ↦ n | false ↦ 0 ]
-
--- the part of it
-abbrev pub weighed_part : List ℕ → ℕ → List ℕ
-weighed_part field v = take (weighed_length (length field) v) field
-
--- the third field's contents, if they are given
-abbrev pub field_if : Bool → List ℕ → Given (List ℕ)
-field_if true field = given field
-field_if false field = not_given
+-- the positions that are weighed with: those that are given, if they have six bytes for each of v vertices, else none
+abbrev pub weighed_part : Given (List ℕ) → ℕ → List ℕ
+weighed_part not_given v = []
+weighed_part (given bs) v = elim (eqb (length bs) (6 * v)) [ true ↦ bs | false ↦ [] ]
 
 -- a triangle can be weighed, and is
 pub record Weighs (field : List ℕ) (t : Triangle) (six : ℤ) : Type 0 where
@@ -72,60 +65,33 @@ pub record Held (field : List ℕ) (p : Melt) (bs : List ℕ) : Type 0 where
 abbrev pub run_in : List ℕ → Melt → Ran
 run_in ops p = run_freely_of p.front.stated ops
 
--- a reading that goes on: more operations may be read than there are bits left
-pub record Going (ops field : List ℕ) (p : Melt) (bs : List ℕ) : Type 0 where
+-- a reading that goes on: so many operations may still be read
+pub record Going (ops field : List ℕ) (left : ℕ) (p : Melt) (bs : List ℕ) : Type 0 where
   pub held : Held field p bs
-  pub left : ℕ
   pub ran : run_in ops p ≡ run_freely left held.machine (bits_from ops p.at)
-  pub enough : length (bits_from ops p.at) < left
 
 -- one that has completed its model
 pub record Done (ops field : List ℕ) (p : Melt) (bs : List ℕ) : Type 0 where
   pub held : Held field p bs
   pub ran : run_in ops p ≡ completed held.machine (bits_from ops p.at)
 
--- whether it goes on
-abbrev pub is_running : Stage → Bool
-is_running Runs = true
-is_running Completed = false
-is_running (Refused k) = false
+-- what the next operation comes to, where so many could be read
+abbrev pub TurnedTo : List ℕ → List ℕ → ℕ → Melt → Result Melt Refusal → List ℕ → Type 0
+TurnedTo ops field left p (Ok q) bs = Going ops field (left - 1) q bs × (q.front.stated ≡ p.front.stated)
+TurnedTo ops field left p (Err e) bs = run_in ops p ≡ stopped (number_of e)
 
--- how far a reading has come
-abbrev pub ComesBy : Stage → List ℕ → List ℕ → Melt → List ℕ → Type 0
-ComesBy Runs ops field p bs = Going ops field p bs
-ComesBy Completed ops field p bs = Done ops field p bs
-ComesBy (Refused k) ops field p bs = run_in ops p ≡ stopped k
+abbrev pub Turned : List ℕ → List ℕ → Melt → List ℕ → Result Melt Refusal → List ℕ → Type 0
+Turned ops field p bs r bs' = (left : ℕ) → 0 < left → Going ops field left p bs → TurnedTo ops field left p r bs'
 
-abbrev pub Comes : List ℕ → List ℕ → Melt → List ℕ → Type 0
-Comes ops field p bs = ComesBy p.stage ops field p bs
+-- what a run of all operations comes to
+abbrev pub Comes : Counts → List ℕ → List ℕ → Result Melt Refusal → List ℕ → Type 0
+Comes c ops field (Ok p) bs = Done ops field p bs × (p.front.stated ≡ c)
+Comes c ops field (Err e) bs = run_freely_of c ops ≡ stopped (number_of e)
 
--- a run that has ended, in some bytes; and one that has completed its model
-pub record Ended (ops field : List ℕ) (p : Melt) : Type 0 where
+-- a run that has completed its model, in some bytes, with the positions that are weighed with
+pub record Completes (ops : List ℕ) (ps : Given (List ℕ)) (p : Melt) : Type 0 where
   pub bytes : List ℕ
-  pub comes : Comes ops (weighed_part field p.front.stated.vertices) p bytes
-  pub over : is_running p.stage ≡ false
-
-pub record Completes (ops field : List ℕ) (p : Melt) : Type 0 where
-  pub bytes : List ℕ
-  pub done : Done ops (weighed_part field p.front.stated.vertices) p bytes
-
--- a reading that ends at p; and one that goes on with the counts and loops s, from position k, with the sum z
-abbrev pub ended_at : Melt → Stage → Melt
-ended_at p t = record { stage = t; at = p.at; front = p.front; six = p.six }
-
-abbrev pub onward_at : Front → ℕ → ℤ → Melt
-onward_at s k z = record { stage = Runs; at = k; front = s; six = z }
-
--- how much there is to read at most: fewer bits at each turn
-abbrev pub to_read : Stage → List ℕ → ℕ → ℕ
-to_read Runs ops k = suc (8 * length ops - k)
-to_read Completed ops k = 0
-to_read (Refused n) ops k = 0
-
--- a turn that leads from p to r, in the bytes bs
-abbrev pub Turned : List ℕ → List ℕ → Melt → Melt → List ℕ → Type 0
-Turned ops field p r bs =
-    Comes ops field r bs × (to_read r.stage ops r.at < to_read Runs ops p.at) × (r.front.stated ≡ p.front.stated)
+  pub done : Done ops (weighed_part ps p.front.stated.vertices) p bytes
 
 -- what a reading begins with, past 26
 pub record Begins (c : Counts) (ops field bs : List ℕ) : Type 0 where

@@ -10,8 +10,8 @@ use lib.Seq.{get_or-set_same, get_or-set_other}
 use lib.Dec.{eqb}
 use borrow.Author.Tests.{eqb-true, eqb-false}
 use Rattle.rules.specs.declared.Triangle.{Triangle}
-use Rattle.rules.specs.declared.Across.{Across}
-use Rattle.rules.specs.declared.Across.TheVariants.{Found, Nothing}
+use Rattle.rules.specs.Across.{Across}
+use Rattle.rules.specs.Across.{Found, Nothing}
 use Rattle.rules.specs.Limits.{max_vertices}
 use Rattle.rules.specs.Triangle.{edges_of, triangles_of, In}
 use Rattle.rules.specs.Count.{uses}

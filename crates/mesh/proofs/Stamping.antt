@@ -3,13 +3,13 @@
 -- Assumes nothing.
 use Prim.Native.Nat.{ℕ, zero, suc, ◌+◌, ◌*◌, ◌-◌, ◌/◌, ◌≤◌, ◌<◌}
 use native.Mathlib.Omega.{arith}
-use mathlib.Core.Bool.{Bool, true, false, not, true≢false}
+use mathlib.Core.Bool.{Bool, true, false, true≢false}
 use mathlib.Core.List.{List}
 use mathlib.Core.Path.{◌≡◌, refl, sym, ap, ◌∙◌, subst}
 use lib.ListN.{length, get_or, set, length-set, replicate, length-replicate}
 use lib.Seq.{get_or-set_same, get_or-set_other}
 use lib.Dec.{eqb, ltb}
-use borrow.Author.Tests.{eqb-true, eqb-false, ltb-true, ltb-false, not-true, not-false}
+use borrow.Author.Tests.{eqb-true, eqb-false, ltb-true, ltb-false}
 use Rattle.rules.specs.declared.Triangle.{Triangle}
 use Rattle.rules.specs.Limits.{max_vertices}
 use Rattle.rules.specs.Triangle.{triangles_of, edges_of}
@@ -177,17 +177,6 @@ OnceBelow xs u = (x y : ℕ) → x < u → uses x y (triangles_of xs) ≤ 1
 
 pub once_below : (xs : List ℕ) → OnceBelow xs 0
 once_below xs x y l = absurd (omega arith)
-
-pub once_here : {xs ss : List ℕ} (u : ℕ) (b : Bool) → OnceBelow xs u → LeavesOnce xs u b ss → not b ≡ false → OnceBelow xs (u + 1)
-once_here {xs} u b o h n x y l = go (eqb x u) refl
-  where
-    go : (a : Bool) → eqb x u ≡ a → uses x y (triangles_of xs) ≤ 1
-    go true e =
-        subst (λ (i : ℕ). uses i y (triangles_of xs) ≤ 1) (sym (eqb-true x u e)) (h.once (not-false b n) y)
-    go false e = let d = eqb-false x u e in o x y (omega arith)
-
-pub once_not : {xs ss : List ℕ} (u : ℕ) (b : Bool) → LeavesOnce xs u b ss → not b ≡ true → false ≡ none_twice (edges_of (triangles_of xs))
-once_not u b h n = sym (h.twice (not-true b n))
 
 -- a vertex that is not below v has no corner
 pub once_all : {xs cs : List ℕ} (v u : ℕ) → PassesFour v xs → Chains xs (length xs) cs → OnceBelow xs u → v ≤ u

@@ -9,6 +9,7 @@ ghost use Rattle.rules.specs.Limits.{max_vertices, vertex_range};
 ghost use Rattle.rules.specs.Triangle.{tri, distinct, triangles_of, corners};
 ghost use Rattle.rules.specs.Check.{all_below, all_distinct, all_used, checks};
 ghost use Rattle.rules.specs.Answer.{checked_answer};
+ghost use Rattle.rules.specs.Checked.{checked_of};
 ghost use Rattle.mesh_theory.specs.Fans.Passing.{PassesFour};
 ghost use Rattle.mesh_theory.specs.Chains.Linked.{Chains, Linked};
 ghost use Rattle.mesh_theory.specs.Chains.Checks.{fits_size, check_numbers, check_chains, Answers};
@@ -16,16 +17,16 @@ ghost use Rattle.mesh_theory.specs.Chains.Checks.{fits_size, check_numbers, chec
 use crate::fans::all_fans;
 use crate::once::all_once;
 use corners::{Links, link_each};
-use rules::{CORNERS, Checked, VERTICES};
+use rules::refusal::Refusal;
+use rules::{CORNERS, VERTICES};
 
 // 6: each vertex below v is in a triangle.
 fn all_used(chains: &Links, v: usize) -> bool
     requires { v ≤ max_vertices }
     ensures { (xs : List ℕ) → Linked xs chains.now → result ≡ all_used v (corners (triangles_of xs)) }
 {
-    let mut u = v;
-    while 0 < u {
-        u -= 1;
+    // By number: `all_used` of rules/specs/Check goes down from v.
+    for u in (0..v).rev() {
         if chains[u] == 0 {
             return false;
         }
@@ -37,23 +38,14 @@ fn all_used(chains: &Links, v: usize) -> bool
 fn is_list_size(n: usize) -> bool
     ensures { result ≡ fits_size n }
 {
-    if n < 1 {
-        return false;
-    }
-    if CORNERS < n {
-        return false;
-    }
-    n % 3 == 0
+    1 <= n && n <= CORNERS && n % 3 == 0
 }
 
 // 2: the count of vertices is in its range.
 fn is_vertex_count(v: usize) -> bool
     ensures { result ≡ vertex_range v }
 {
-    if v < 3 {
-        return false;
-    }
-    v <= VERTICES
+    3 <= v && v <= VERTICES
 }
 
 // 3: all numbers are below v. 21 asks the same of a builder's triangles. The loop goes to the end, so that the compiler takes many
@@ -62,12 +54,10 @@ pub fn all_below(v: u16, list: &[u16]) -> bool
     ensures { result ≡ all_below v list.now }
 {
     let mut below = true;
-    let mut i = 0;
-    while i < list.len() {
-        if v <= list[i] {
+    for &x in list {
+        if v <= x {
             below = false;
         }
-        i += 1;
     }
     below
 }
@@ -76,13 +66,7 @@ pub fn all_below(v: u16, list: &[u16]) -> bool
 pub fn is_distinct(p: u16, q: u16, r: u16) -> bool
     ensures { result ≡ distinct (tri p q r) }
 {
-    if p == q {
-        return false;
-    }
-    if q == r {
-        return false;
-    }
-    r != p
+    p != q && q != r && r != p
 }
 
 // 4: no triangle has a vertex twice.
@@ -90,73 +74,65 @@ fn all_distinct(list: &[u16]) -> bool
     requires { length list.now ≡ 3 * (length list.now / 3) }
     ensures { result ≡ all_distinct (triangles_of list.now) }
 {
-    let n = list.len() / 3;
-    let mut t = 0;
-    while t < n {
-        let p = list[3 * t];
-        let q = list[3 * t + 1];
-        let r = list[3 * t + 2];
-        if !is_distinct(p, q, r) {
+    for t in 0..list.len() / 3 {
+        if !is_distinct(list[3 * t], list[3 * t + 1], list[3 * t + 2]) {
             return false;
         }
-        t += 1;
     }
     true
 }
 
 // 5 to 7.
-fn check_chains(v: usize, list: &[u16], chains: &mut Links) -> Checked
+fn check_chains(v: usize, list: &[u16], chains: &mut Links) -> Result<(), Refusal>
     requires { PassesFour v list.now × Chains list.now 0 chains.old }
-    ensures { Answers (check_chains v (triangles_of list.now)) list.now result chains.new }
+    ensures { Answers (check_chains v (triangles_of list.now)) list.now (checked_of result) chains.new }
 {
     link_each(list, chains);
     if !all_once(list, chains, v) {
-        return Checked::Refused(5);
+        return Err(Refusal::EdgeTwice);
     }
     if !all_used(chains, v) {
-        return Checked::Refused(6);
+        return Err(Refusal::VertexUnused);
     }
     if !all_fans(list, chains, v) {
-        return Checked::Refused(7);
+        return Err(Refusal::FansInList);
     }
-    Checked::Accepted
+    Ok(())
 }
 
-// The first refusal of 1 to 4 that the list meets, for a model of v vertices, or that it passes them.
-pub fn check_numbers(v: usize, list: &[u16]) -> Checked
-    ensures { result ≡ check_numbers v list.now }
+// The first refusal of 1 to 4 that the list meets, for a model of v vertices.
+pub fn check_numbers(v: usize, list: &[u16]) -> Result<(), Refusal>
+    ensures { checked_of result ≡ check_numbers v list.now }
 {
     if !is_list_size(list.len()) {
-        return Checked::Refused(1);
+        return Err(Refusal::ListLength);
     }
     if !is_vertex_count(v) {
-        return Checked::Refused(2);
+        return Err(Refusal::VertexCount);
     }
+    // (`as`: 2 was tested above, so that v has 16 bits; `try_from` would be no plainer.)
     if !all_below(v as u16, list) {
-        return Checked::Refused(3);
+        return Err(Refusal::NumberTooLarge);
     }
     if !all_distinct(list) {
-        return Checked::Refused(4);
+        return Err(Refusal::VertexTwice);
     }
-    Checked::Accepted
+    Ok(())
 }
 
-// The first refusal of 1 to 7 that the list meets, for a model of v vertices, or its acceptance. Chains that held no
-// triangle then hold those of an accepted list.
-pub fn check_into(v: usize, list: &[u16], chains: &mut Links) -> Checked
+// The first refusal of 1 to 7 that the list meets, for a model of v vertices. Chains that held no triangle then hold those of an
+// accepted list.
+pub fn check_into(v: usize, list: &[u16], chains: &mut Links) -> Result<(), Refusal>
     requires { Chains list.now 0 chains.old }
-    ensures { Answers (Rattle.rules.specs.Check.check v list.now) list.now result chains.new }
+    ensures { Answers (Rattle.rules.specs.Check.check v list.now) list.now (checked_of result) chains.new }
 {
-    let first = check_numbers(v, list);
-    match first {
-        Checked::Refused(n) => Checked::Refused(n),
-        Checked::Accepted => check_chains(v, list, chains),
-    }
+    check_numbers(v, list)?;
+    check_chains(v, list, chains)
 }
 
 // The same without the chains.
-pub fn check(v: usize, list: &[u16]) -> Checked
-    ensures { checked_answer result ≡ checks v list.now }
+pub fn check(v: usize, list: &[u16]) -> Result<(), Refusal>
+    ensures { checked_answer (checked_of result) ≡ checks v list.now }
 {
     let mut chains = [0u16; VERTICES + CORNERS];
     check_into(v, list, &mut chains)

@@ -7,10 +7,13 @@ ghost use Rattle.mesh_theory.specs.Fans.Passing.{PassesFour};
 ghost use Rattle.mesh_theory.specs.Chains.Linked.{Chains, Sound};
 ghost use Rattle.mesh.specs.Stamps.{Stamped, LeavesOnce};
 
-use corners::{Links, corner_after, newest, older};
+// `as usize` in `leaves_once`: with `usize::from` it was tried; its answer speaks of the number itself and did not check. `as u16` narrows
+// what `PassesFour` bounds.
+use corners::{Links, corner_after, corners_of};
 use rules::VERTICES;
 
 // The stamp of vertex y stands at y: 1 more than the vertex from which an edge to y was met last, or 0.
+// (An array of numbers, 0 for none: `Stamped` of specs/Stamps speaks of it, and there is no heap.)
 type Stamps = [u16; VERTICES];
 
 // Whether no directed edge leaves v twice.
@@ -19,14 +22,12 @@ fn leaves_once(list: &[u16], chains: &Links, stamps: &mut Stamps, v: u16) -> boo
     requires v_lt_max_vertices { (v < max_vertices) × Stamped stamps.old v }
     ensures { LeavesOnce list.now v result stamps.new }
 {
-    let mut c = newest(list, chains, v);
-    while 0 < c {
-        let y = list[corner_after(c - 1)];
+    for c in corners_of(list, chains, v) {
+        let y = list[corner_after(c)];
         if stamps[y as usize] == v + 1 {
             return false;
         }
         stamps[y as usize] = v + 1;
-        c = older(chains, c - 1);
     }
     true
 }
@@ -37,12 +38,10 @@ pub fn all_once(list: &[u16], chains: &Links, v: usize) -> bool
     ensures { result ≡ none_twice (edges_of (triangles_of list.now)) }
 {
     let mut stamps = [0u16; VERTICES];
-    let mut u = 0;
-    while u < v {
+    for u in 0..v {
         if !leaves_once(list, chains, &mut stamps, u as u16) {
             return false;
         }
-        u += 1;
     }
     true
 }

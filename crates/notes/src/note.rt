@@ -14,10 +14,7 @@ use wire::fields::NOTE_TAG;
 pub fn is_note(note: &[u8]) -> bool
     ensures { result ≡ note_fits (given note.now) }
 {
-    if note.len() == 0 {
-        return false;
-    }
-    note.len() <= MOST_NOTE
+    (1..=MOST_NOTE).contains(&note.len())
 }
 
 // Writes some bytes over a buffer, from byte n on.
@@ -25,11 +22,7 @@ fn put_bytes(buffer: &mut [u8], n: usize, bytes: &[u8])
     requires { n + length bytes.now ≤ length buffer.old }
     ensures { buffer.new ≡ put_at buffer.old n bytes.now }
 {
-    let mut i = 0;
-    while i < bytes.len() {
-        buffer[n + i] = bytes[i];
-        i += 1;
-    }
+    buffer[n..n + bytes.len()].copy_from_slice(bytes);
 }
 
 // Writes the field of a note that fits, from byte n on.

@@ -9,7 +9,7 @@ use lib.IntN.{ℤ, pos, nat_abs, ◌-ℤ◌, neg_ℤ}
 use lib.ListN.{length, take, get_or, set}
 use borrow.Author.Tests.{eqb-true}
 use Rattle.rules.specs.declared.Model.{Model}
-use Rattle.rules.specs.declared.Checked.TheVariants.{Accepted}
+use Rattle.rules.specs.Checked.{Accepted}
 use Rattle.rules.specs.Triangle.{triangles_of}
 use Rattle.rules.specs.Check.{check}
 use Rattle.rules.specs.Fan.{about}

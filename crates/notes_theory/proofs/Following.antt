@@ -10,12 +10,12 @@ use lib.Dec.{ltb}
 use lib.IntN.{ℤ}
 use lib.ListN.{length, take, drop, length-append, length-drop, take-append-drop}
 use lib.Seq.{length-take-le}
-use Rattle.rules.specs.declared.Packed.{Packed}
-use Rattle.rules.specs.declared.Packed.TheVariants as P
+use Rattle.rules.specs.Packed.{Packed}
+use Rattle.rules.specs.Packed as P
 use Rattle.rules.specs.Limits.{max_places}
 use Rattle.rules.specs.Triangle.{triangles_of}
 use Rattle.rules.specs.Check.{check}
-use Rattle.rules.specs.Answer.{packed, packed_answer}
+use Rattle.rules.specs.Answer.{packed_answer}
 use Rattle.rules.specs.Buffer.{over, zeroed}
 use Rattle.rules.specs.Fields.{field_of}
 use Rattle.rules.specs.Pack.{PackBuffers, PackResult}
@@ -27,7 +27,7 @@ use Rattle.pack_theory.proofs.Packing.Lending.{is_past}
 use Rattle.pack_theory.proofs.Packing.Clearing.{cleared_by_lem, cleared_after}
 use Rattle.pack_theory.proofs.Packing.Ending.{zeroed_all}
 use Rattle.volume_theory.proofs.Beside.{given_neither_packs_the_list}
-use Rattle.positions_theory.specs.Packing.{PackedWholeOn, fault_of, buffer_after}
+use Rattle.positions_theory.specs.Packing.{PackedWholeOn, buffer_after}
 use Rattle.positions_theory.proofs.Following.{within_buffer, front as front_kept, rest as rest-kept, passes_past, fails_past}
 use Rattle.positions_theory.proofs.PackLending.{whole_clears}
 use Rattle.notes_theory.specs.Claims.{note_length, NoteFollowed, PassesTo25}
@@ -57,24 +57,6 @@ pub given_neither_on : (v : ℕ) (xs ns bs qs : List ℕ) (n : ℕ) (r : Packed)
     → IsResult (pack_whole v xs (extras not_given not_given) (lent n ns bs qs)) r ns' bs' qs'
 given_neither_on v xs ns bs qs n r ns' bs' qs' h =
     subst (λ (p : PackResult). IsResult p r ns' bs' qs') (sym (given_neither_packs_the_list v xs (lent n ns bs qs))) h
-
--- what the refusal is
-pub fault_25 : (v : ℕ) (g : Given (List ℤ)) (ns : List ℕ) → given_fit v g ≡ true → note_fits (given ns) ≡ false
-    → fault_of v (extras g (given ns)) ≡ 25
-fault_25 v g ns f h = λ i. elim (f i) as (λ _. ℕ) [ true ↦ elim (h i) as (λ _. ℕ) [ true ↦ 0 | false ↦ 25 ] | false ↦ 23 ]
-
-pub fault_23 : (v : ℕ) (g : Given (List ℤ)) (ns : List ℕ) → given_fit v g ≡ false → fault_of v (extras g (given ns)) ≡ 23
-fault_23 v g ns f =
-    ap (λ (t : Bool). elim t as (λ _. ℕ) [ true ↦ elim (note_fits (given ns)) as (λ _. ℕ) [ true ↦ 0 | false ↦ 25 ] | false ↦ 23 ]) f
-
--- a note that does not fit is refused by some number
-pub unfit_some : (v : ℕ) (g : Given (List ℤ)) (ns : List ℕ) (k : ℕ) → note_fits (given ns) ≡ false → k ≡ fault_of v (extras g (given ns))
-    → 0 < k
-unfit_some v g ns k h e = go (given_fit v g) refl
-  where
-    go : (t : Bool) → given_fit v g ≡ t → 0 < k
-    go true f = omega (arith, e, fault_25 v g ns f h)
-    go false f = omega (arith, e, fault_23 v g ns f)
 
 -- all but the note was packed, into the e bytes before its field: b is what they hold now
 module _ (v : ℕ) (xs : List ℕ) (g : Given (List ℤ)) (note : List ℕ) (n : ℕ) (ns bs qs : List ℕ) (fit : note_fits (given note) ≡ true)

@@ -5,18 +5,11 @@ use native.Mathlib.Omega.{arith}
 use mathlib.Core.List.{List, [], ◌∷◌, ◌++◌, append_assoc}
 use mathlib.Core.Path.{◌≡◌, sym, ap, ap₂, ◌∙◌}
 use lib.ListN.{length, take, drop, length-append}
-use lib.Seq.{length-take-le, take_at, drop_at, drop-drop, take-length}
+use lib.Seq.{length-take-le, take_at, drop_at, drop-drop}
 use Rattle.rules.specs.Fields.{field_of}
 use Rattle.rules.specs.Limits.{max_note}
 use Rattle.rules.specs.Note.{note_tag}
-use Rattle.wire_theory.proofs.Copies.{Copied, copy_all}
 use Rattle.notes_theory.specs.Packing.{put_at}
-
--- a copy of all bytes
-pub put_copied : (bs ws bs' : List ℕ) (n i : ℕ) → Copied (length ws) n ws bs bs' i → length ws ≤ i → bs' ≡ put_at bs n ws
-put_copied bs ws bs' n i c h =
-    copy_all (length ws) n ws bs bs' i c h ∙ ap (λ (us : List ℕ). (take n bs ++ us) ++ drop (n + length ws) bs) (take-length ws)
-    ∙ append_assoc (take n bs) ws (drop (n + length ws) bs)
 
 -- one after the other
 pub put_twice : (bs us ws : List ℕ) (n : ℕ) → n + length us ≤ length bs

@@ -11,8 +11,8 @@ use lib.ListN.{length, take, drop, length-append}
 use lib.Seq.{drop_at, take-length}
 use borrow.Author.Tests.{le-leb, lt-leb, leb-true}
 use Rattle.rules.specs.declared.Model.{Model}
-use Rattle.rules.specs.declared.Melted.{Melted}
-use Rattle.rules.specs.declared.Melted.TheVariants.{Refused}
+use Rattle.rules.specs.Melted.{Melted}
+use Rattle.rules.specs.Melted.{Refused}
 use Rattle.rules.specs.Limits.{max_note, in_range}
 use Rattle.rules.specs.Machine.{as_stated}
 use Rattle.rules.specs.Answer.{unpacked}
@@ -34,12 +34,6 @@ use Rattle.notes_theory.specs.Claims.{NotesMakeNoDifference, PartOf, TheNoteIsAP
 -- a note that fits has a length that two bytes hold
 pub short : (ns : List ℕ) → note_fits (given ns) ≡ true → length ns ≤ max_note
 short ns h = leb-true (length ns) max_note (and_right (leb 1 (length ns)) (leb (length ns) max_note) h)
-
-pub empty_unfit : (ns : List ℕ) → length ns ≡ 0 → false ≡ note_fits (given ns)
-empty_unfit ns e = sym (ap (λ (t : Bool). t && leb (length ns) max_note) (lt-leb 1 (length ns) (omega (arith, e))))
-
-pub fits_by_most : (ns : List ℕ) → (length ns ≡ 0 → ⊥) → leb (length ns) max_note ≡ note_fits (given ns)
-fits_by_most ns h = sym (ap (λ (t : Bool). t && leb (length ns) max_note) (le-leb 1 (length ns) (omega (arith, h))))
 
 -- by what is taken for the note
 abbrev noted_by : NoteTaken → Buffers → UnpackResult

@@ -1,88 +1,71 @@
 -- Unpacking a pack that may have a note: what stands before it, and 25; and what the bench reader tells.
 -- Assumes nothing.
-use Prim.Native.Nat.{ℕ, ◌+◌, ◌-◌, ◌≤◌}
-use native.Mathlib.Omega.{arith}
+use Prim.Native.Nat.{ℕ, ◌+◌, ◌*◌}
+use mathlib.Core.Bool.{Bool, true, false}
 use mathlib.Core.List.{List}
 use mathlib.Core.Path.{◌≡◌, refl, sym, ap, ◌∙◌, subst}
-use lib.ListN.{length, take, drop, length-drop}
-use lib.Seq.{length-take-le}
+use lib.ListN.{length}
+use Rattle.std.specs.Prelude.{Option, Some, None}
 use Rattle.rules.specs.declared.Model.{Model}
-use Rattle.rules.specs.declared.Unpacked.{Unpacked}
-use Rattle.rules.specs.declared.Unpacked.TheVariants as U
-use Rattle.rules.specs.declared.Benched.{Benched}
+use Rattle.rules.specs.declared.Span.{Span}
+use Rattle.rules.specs.Unpacked.{Unpacked}
+use Rattle.rules.specs.Unpacked as U
+use Rattle.rules.specs.Benched.{Benched, start_of, length_of}
 use Rattle.rules.specs.Answer.{unpacked_answer}
+use Rattle.rules.specs.Buffer.{zeroed}
 use Rattle.rules.specs.Unpack.{UnpackResult}
 use Rattle.rules.specs.Later.{Given, not_given, given}
 use Rattle.rules.specs.Note.{note_fits, NoteTaken, take_note}
 use Rattle.rules.specs.UnpackWhole.{model_in, then_tested, unpack_whole}
 use Rattle.rules.specs.Reading.{unpack_noted, handed_back, handed_from}
 use Rattle.border_theory.specs.Records.Lent.{lent}
-use Rattle.volume_theory.proofs.Whole.{tested_none}
 use Rattle.positions_theory.specs.Unpacking.{UnpackedWholeOn, tested_answer, tested_triangles}
-use Rattle.positions_theory.proofs.Unpacking.{whole_beyond, tested_on}
-use Rattle.notes_theory.specs.Unpacking.{UnpackedNotedOn, note_test, Handed, BenchedOn}
+use Rattle.positions_theory.proofs.Unpacking.{whole_beyond, tested_on, tested_fits, tested_fails}
+use Rattle.notes_theory.specs.Unpacking.{UnpackedNotedOn, note_test, Handed, Spanned, BenchedOn}
 
 abbrev noted_by : NoteTaken → List ℕ → ℕ → UnpackResult
 noted_by d ts n =
     let u = unpack_whole d.before (lent n ts) in then_tested 25 (λ (m : Model). note_fits d.note) (lent n ts) u (model_in u.answer)
 
--- no note
-pub no_note_on : (bytes ts : List ℕ) (n : ℕ) (r : Unpacked) (ts' : List ℕ) → take_note bytes ≡ record { before = bytes; note = not_given }
-    → UnpackedWholeOn bytes ts n r ts' → UnpackedNotedOn bytes ts n r ts'
-no_note_on bytes ts n r ts' e h =
-    let u = unpack_whole bytes (lent n ts) in
-    let w : unpack_noted bytes (lent n ts) ≡ u =
-    ap (λ (d : NoteTaken). noted_by d ts n) e ∙ tested_none 25 (lent n ts) u (model_in u.answer) in
-    record {
-      answer = h.answer ∙ sym (ap (λ (x : UnpackResult). x.answer) w);
-      triangles = h.triangles ∙ sym (ap (λ (x : UnpackResult). x.buffers.triangles) w);
-    }
+-- what stands before the note is unpacked, then 25 is tested
+module _ (bytes front : List ℕ) (ns : Given (List ℕ)) (ts : List ℕ) (n : ℕ)
+    (e : record { before = front; note = ns } ≡ take_note bytes) where
+  pub note_on : (r : Unpacked) (ts' : List ℕ) → UnpackedWholeOn front ts n r ts'
+      → UnpackedNotedOn bytes ts n (tested_answer 25 (note_test ns) r) (tested_triangles (note_test ns) r ts')
+  note_on r ts' h =
+      let u = unpack_whole front (lent n ts) in
+      let w = ap (λ (d : NoteTaken). noted_by d ts n) (sym e) in
+      let t =
+      tested_on 25 (note_test ns) ts n u
+      (λ m a. whole_beyond front ts n m u.buffers.triangles (record { answer = sym a; triangles = refl })) r ts' h.answer
+      h.triangles in
+      record {
+        answer = t.0 ∙ sym (ap (λ (x : UnpackResult). x.answer) w);
+        triangles = t.1 ∙ sym (ap (λ (x : UnpackResult). x.buffers.triangles) w);
+      }
 
--- a note
-pub note_on : (bytes front ns ts : List ℕ) (n : ℕ) → take_note bytes ≡ record { before = front; note = given ns }
-    → (r : Unpacked) (ts' : List ℕ)
-    → UnpackedWholeOn front ts n r ts' → (s : Unpacked) (us : List ℕ) → s ≡ tested_answer 25 (note_test ns) r
-    → us ≡ tested_triangles (note_test ns) r ts' → UnpackedNotedOn bytes ts n s us
-note_on bytes front ns ts n e r ts' h s us f g =
-    let u = unpack_whole front (lent n ts) in
-    let w = ap (λ (d : NoteTaken). noted_by d ts n) e in
-    let t =
-    tested_on 25 (note_test ns) ts n u
-    (λ m a. whole_beyond front ts n m u.buffers.triangles (record { answer = sym a; triangles = refl })) r ts' h.answer
-    h.triangles in
-    record {
-      answer = ap unpacked_answer f ∙ t.0 ∙ sym (ap (λ (x : UnpackResult). x.answer) w);
-      triangles = g ∙ t.1 ∙ sym (ap (λ (x : UnpackResult). x.buffers.triangles) w);
-    }
+  pub note_refused : (k : ℕ) (ts' : List ℕ) → UnpackedWholeOn front ts n (U.Refused k) ts' → UnpackedNotedOn bytes ts n (U.Refused k) ts'
+  note_refused k ts' h = note_on (U.Refused k) ts' h
 
--- what is told of the note
-module _ (bytes : List ℕ) (r : Unpacked) (b : Benched) (same : b.answer ≡ r) where
-  abbrev HandedBy : NoteTaken → Given Model → Type 0
-  HandedBy d x = (b.start ≡ handed_from (length d.before) d.note x) × (b.length ≡ length (handed_back d.note x))
+  module _ (m : Model) (ts' : List ℕ) (h : UnpackedWholeOn front ts n (U.Gives m) ts') (b : Bool) (f : b ≡ note_fits ns) where
+    pub note_fit : b ≡ true → UnpackedNotedOn bytes ts n (U.Gives m) ts'
+    note_fit t = tested_fits 25 (note_test ns) m ts' (UnpackedNotedOn bytes ts n) (note_on (U.Gives m) ts' h) (sym f ∙ t)
 
-  handed : HandedBy (take_note bytes) (model_in (unpacked_answer r)) → Handed bytes r b
-  handed h = record { answer = same; start = h.0; long = h.1 }
+    pub note_unfit : b ≡ false → UnpackedNotedOn bytes ts n (U.Refused 25) (zeroed (3 * m.triangles) ts')
+    note_unfit t = tested_fails 25 (note_test ns) m ts' (UnpackedNotedOn bytes ts n) (note_on (U.Gives m) ts' h) (sym f ∙ t)
 
-  pub refused_handed : (k : ℕ) → r ≡ U.Refused k → b.start ≡ 0 → b.length ≡ 0 → Handed bytes r b
-  refused_handed k e s l = handed (subst (λ (x : Unpacked). HandedBy (take_note bytes) (model_in (unpacked_answer x))) (sym e) (s, l))
+-- where the note stands: none, or to the end of the bytes
+module _ (bytes front : List ℕ) where
+  abbrev SpannedBy : NoteTaken → Option Span → Type 0
+  SpannedBy d s = (m : Model) → (start_of s ≡ handed_from (length d.before) d.note (given m))
+      × (length_of s ≡ length (handed_back d.note (given m)))
 
-  module _ (m : Model) (e : r ≡ U.Model m) where
-    by_note : (d : NoteTaken) → take_note bytes ≡ d → HandedBy d (given m) → Handed bytes r b
-    by_note d f h =
-        handed (subst (λ (x : Unpacked). HandedBy (take_note bytes) (model_in (unpacked_answer x))) (sym e)
-        (subst (λ (y : NoteTaken). HandedBy y (given m)) (sym f) h))
+  pub spanned_none : record { before = front; note = not_given } ≡ take_note bytes → Spanned bytes None
+  spanned_none e = subst (λ (d : NoteTaken). SpannedBy d None) e (λ m. (refl, refl))
 
-    pub none_handed : take_note bytes ≡ record { before = bytes; note = not_given } → b.start ≡ 0 → b.length ≡ 0 → Handed bytes r b
-    none_handed f s l = by_note (record { before = bytes; note = not_given }) f (s, l)
-
-    pub note_handed : (i j : ℕ) → take_note bytes ≡ record { before = take i bytes; note = given (drop j bytes) } → j ≡ i + 3
-        → j ≤ length bytes
-        → b.start ≡ j → b.length ≡ length bytes - j → Handed bytes r b
-    note_handed i j f p q s l =
-        by_note (record { before = take i bytes; note = given (drop j bytes) }) f (
-          s ∙ omega (arith, p, q, length-take-le i bytes (omega (arith, p, q))),
-          l ∙ sym (length-drop j bytes),
-        )
+  pub spanned_some : (ns : List ℕ) → record { before = front; note = given ns } ≡ take_note bytes → (s : Span)
+      → s.start ≡ length front + 3 → s.length ≡ length ns → Spanned bytes (Some s)
+  spanned_some ns e s a b = subst (λ (d : NoteTaken). SpannedBy d (Some s)) e (λ m. (a, b))
 
 -- the bench reader tells it after an unpacking
 pub bench_on : (bytes ts : List ℕ) (n : ℕ) (r : Unpacked) (ts' : List ℕ) (b : Benched) → UnpackedNotedOn bytes ts n r ts' → Handed bytes r b
@@ -95,3 +78,15 @@ bench_on bytes ts n r ts' b u h =
       long = h.long ∙ ap (λ (x : Given Model). length (handed_back (take_note bytes).note x)) a;
       triangles = u.triangles;
     }
+
+pub bench_refused : (bytes ts : List ℕ) (n k : ℕ) (ts' : List ℕ) → UnpackedNotedOn bytes ts n (U.Refused k) ts'
+    → BenchedOn bytes ts n (record { answer = U.Refused k; start = 0; length = 0 }) ts'
+bench_refused bytes ts n k ts' u =
+    bench_on bytes ts n (U.Refused k) ts' (record { answer = U.Refused k; start = 0; length = 0 }) u
+    (record { answer = refl; start = refl; long = refl })
+
+pub bench_model : (bytes ts : List ℕ) (n : ℕ) (m : Model) (ts' : List ℕ) (s : Option Span) → UnpackedNotedOn bytes ts n (U.Gives m) ts'
+    → Spanned bytes s → BenchedOn bytes ts n (record { answer = U.Gives m; start = start_of s; length = length_of s }) ts'
+bench_model bytes ts n m ts' s u h =
+    bench_on bytes ts n (U.Gives m) ts' (record { answer = U.Gives m; start = start_of s; length = length_of s }) u
+    (record { answer = refl; start = (h m).0; long = (h m).1 })

@@ -1,8 +1,8 @@
 -- Packing with a note, after all else was packed.
 -- Assumes nothing.
 use Rattle.std.specs.Prelude.{ℕ, ◌+◌, ◌≤◌, ◌<◌, false, List, ◌++◌, ◌≡◌, ℤ, length, take, drop}
-use Rattle.rules.specs.declared.Packed.{Packed}
-use Rattle.rules.specs.declared.Packed.TheVariants as P
+use Rattle.rules.specs.Packed.{Packed}
+use Rattle.rules.specs.Packed as P
 use Rattle.rules.specs.Limits.{max_note}
 use Rattle.rules.specs.Fields.{field_of}
 use Rattle.rules.specs.Later.{given}

@@ -1,12 +1,13 @@
 -- Reading a pack that may have a note, with n place records, of which only the number counts.
 -- Assumes nothing.
-use Rattle.std.specs.Prelude.{ℕ, Bool, List, ◌≡◌, length}
+use Rattle.std.specs.Prelude.{ℕ, Bool, List, Option, ◌≡◌, length}
 use Rattle.rules.specs.declared.Model.{Model}
-use Rattle.rules.specs.declared.Unpacked.{Unpacked}
-use Rattle.rules.specs.declared.Benched.{Benched}
-use Rattle.rules.specs.declared.Measured.{Measured}
+use Rattle.rules.specs.Unpacked.{Unpacked}
+use Rattle.rules.specs.declared.Span.{Span}
+use Rattle.rules.specs.Benched.{Benched, start_of, length_of}
+use Rattle.rules.specs.Measured.{Measured}
 use Rattle.rules.specs.Answer.{unpacked_answer}
-use Rattle.rules.specs.Later.{given}
+use Rattle.rules.specs.Later.{Given, given}
 use Rattle.rules.specs.Note.{note_fits, take_note}
 use Rattle.rules.specs.UnpackWhole.{model_in}
 use Rattle.rules.specs.Reading.{unpack_noted, volume, handed_back, handed_from, bench}
@@ -19,9 +20,9 @@ pub record UnpackedNotedOn (bytes ts : List ℕ) (n : ℕ) (r : Unpacked) (ts' :
   pub answer : unpacked_answer r ≡ (unpack_noted bytes (lent n ts)).answer
   pub triangles : ts' ≡ (unpack_noted bytes (lent n ts)).buffers.triangles
 
--- 25, of the note ns
-abbrev pub note_test : List ℕ → Model → Bool
-note_test ns m = note_fits (given ns)
+-- 25, of the note ns, if there is one
+abbrev pub note_test : Given (List ℕ) → Model → Bool
+note_test ns m = note_fits ns
 
 -- the volume call
 abbrev pub MeasuredOn : List ℕ → List ℕ → ℕ → Measured → List ℕ → Type 0
@@ -32,6 +33,11 @@ pub record Handed (bytes : List ℕ) (r : Unpacked) (b : Benched) : Type 0 where
   pub answer : b.answer ≡ r
   pub start : b.start ≡ handed_from (length (take_note bytes).before) (take_note bytes).note (model_in (unpacked_answer r))
   pub long : b.length ≡ length (handed_back (take_note bytes).note (model_in (unpacked_answer r)))
+
+-- where the note of some bytes stands, as it is told of an accepted pack
+abbrev pub Spanned : List ℕ → Option Span → Type 0
+Spanned bytes s = (m : Model) → (start_of s ≡ handed_from (length (take_note bytes).before) (take_note bytes).note (given m))
+    × (length_of s ≡ length (handed_back (take_note bytes).note (given m)))
 
 -- the bench reader
 pub record BenchedOn (bytes ts : List ℕ) (n : ℕ) (b : Benched) (ts' : List ℕ) : Type 0 where

@@ -9,13 +9,11 @@ use rules::VERTICES;
 pub const POSITIONS: usize = 3 * VERTICES + 1;
 
 // A number of 16 bits as a signed one: a negative number n stands as 65,536 + n.
+// Named for `signed_of` of rules, which its clause says of the cast.
 fn signed(w: u16) -> i16
     ensures { result ≡ signed_of w }
 {
-    if w < 32768 {
-        return w as i16;
-    }
-    -1 - ((65535 - w) as i16)
+    w.cast_signed()
 }
 
 // Puts the positions that numbers stand for into a buffer, as many as fit, and answers how many.
@@ -23,13 +21,9 @@ pub fn put_positions(numbers: &[u16], positions: &mut [i16]) -> usize
     ensures positions { StandFor numbers.now result positions.new }
     ensures count { AsManyAsFit numbers.now result positions.new }
 {
-    let mut i = 0;
-    while i < numbers.len() {
-        if positions.len() <= i {
-            return i;
-        }
+    let n = numbers.len().min(positions.len());
+    for i in 0..n {
         positions[i] = signed(numbers[i]);
-        i += 1;
     }
-    i
+    n
 }

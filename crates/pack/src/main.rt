@@ -1,167 +1,131 @@
 #![tactic(auto)]
 
-// Reads a model as text, from standard input or from the file that an argument names: V, then the vertex numbers, decimal, with white
-// space between. It writes the model's pack to standard output, or a line: `refused` and the number. A text that is no model, what cannot
-// be read, and a text that is too long, gets a line on standard error and nothing else; a write that fails gets such a line too. With
-// `--order FILE` it writes the order of a packed model to that file: for each triangle built, a line with its number in the list, counted
-// from 0. With `--positions FILE` it packs the positions in that file too, a text of signed numbers: x, y and z of each vertex, in grid
-// steps. With `--note FILE` it packs the bytes of that file too, as they are.
+// Reads a model as text, from standard input or from the file that an argument names: V, then the
+// vertex numbers, decimal, with white space between. It writes the model's pack to standard output,
+// or a line: `refused` and the number. A text that is no model, what cannot be read, and a text
+// that is too long, gets a line on standard error and nothing else; a write that fails gets such a
+// line too. With `--order FILE` it writes the order of a packed model to that file: for each triangle
+// built, a line with its number in the list, counted from 0. With `--positions FILE` it packs the
+// positions in that file too, a text of signed numbers: x, y and z of each vertex, in grid steps.
+// With `--note FILE` it packs the bytes of that file too, as they are.
 mod grid; // the positions that numbers stand for
 mod note; // the note's file
 mod options; // the arguments
 mod order; // the order's file
 mod packing; // packing with what is given besides
 
-ghost use Rattle.std.specs.Prelude.{◌≤◌, length};
+ghost use Rattle.std.specs.Prelude.{◌≤◌, length, IfOk};
 
-use grid::POSITIONS;
+use grid::{POSITIONS, put_positions};
 use note::{NOTE_BUFFER, read_note};
-use options::{Options, print_use, read_options, wish};
+use options::{Options, USAGE, read_options, wish};
 use order::write_order;
-use packing::pack_list;
-use rules::{Packed, TRIANGLES, VERTICES};
+use packing::{Extras, Rooms, pack_list};
+use rules::{TRIANGLES, VERTICES};
 use std::io::Stdout;
-use text::arguments::Wish;
-use text::inputs::read_input_numbers;
-use text::numbers::{NUMBERS, PART, Told, say_no_model};
+use text::numbers::{Form, MODEL, NUMBERS, PART, Sign, TextError};
 use text::packs::MOST_BYTES;
+use text::program::Program;
 use text::show::{print_part, print_refusal};
-use text::streams::{Output, Read, say};
+use text::streams::Output;
 
-fn print_refused(out: &mut Output<Stdout>, r: Packed) {
-    match r {
-        Packed::Length(_) => {}
-        Packed::Refused(n) => print_refusal(out, n),
-    }
-}
+// The positions' text.
+const POSITIONS_FORM: Form = Form {
+    sign: Sign::Signed,
+    expected: "no positions: three numbers for each vertex are expected, decimal, with white space between",
+};
 
-// Writes what a packing of t triangles answered: first the order, if a file is named for it, and then the pack; or the refusal. Where
-// the order cannot be written, neither is the pack.
-fn print_answer(
-    rt: &HostRuntime,
+// Packs a list with what is given besides, and writes first the order, if a file is named for it,
+// and then the pack; or the refusal. Where the order cannot be written, neither is the pack.
+fn pack(
+    program: Program<'_>,
     out: &mut Output<Stdout>,
-    r: Packed,
-    buffer: &[u8],
-    order: &[u16],
-    t: usize,
-    named: usize,
+    v: u16,
+    list: &[u16],
+    extras: Extras<'_>,
+    order: Option<usize>,
 ) {
-    let Packed::Length(n) = r else {
-        print_refused(out, r);
-        return;
+    let mut rooms = Rooms {
+        numbering: [0; VERTICES],
+        buffer: [0; MOST_BYTES],
+        order: [0; TRIANGLES],
     };
-    if write_order(rt, order, t, named) {
-        print_part(out, buffer, 0, n as usize);
+    match pack_list(usize::from(v), list, extras, &mut rooms) {
+        Ok(n) => {
+            if let Some(built) = rooms.order.get(..list.len() / 3) {
+                if write_order(program, built, order) {
+                    // (`as`: std has no `From` of 32 bits for an index.)
+                    print_part(out, &rooms.buffer, 0, n as usize);
+                }
+            }
+        }
+        Err(refusal) => print_refusal(out, refusal),
     }
-}
-
-// A number that was read, as a count.
-fn wide(x: u16) -> usize {
-    x as usize
-}
-
-// Packs the list of n numbers, the first of which is V, with what is given besides.
-fn pack_numbers(
-    rt: &HostRuntime,
-    out: &mut Output<Stdout>,
-    numbers: &[u16],
-    n: usize,
-    given: Options,
-    positions: &[u16],
-    note: &[u8],
-)
-    requires { n ≤ length numbers.now }
-{
-    if n < 1 {
-        no_model(rt);
-        return;
-    }
-    let mut numbering = [0u16; VERTICES];
-    let mut buffer = [0u8; MOST_BYTES];
-    let mut order = [0u16; TRIANGLES];
-    let v = wide(numbers[0]);
-    let r = pack_list(
-        v,
-        &numbers[1..n],
-        given,
-        positions,
-        note,
-        &mut numbering,
-        &mut buffer,
-        &mut order,
-    );
-    print_answer(rt, out, r, &buffer, &order, (n - 1) / 3, given.order);
-}
-
-// What is no model, and what are no positions, has no pack.
-fn no_model(rt: &HostRuntime) {
-    say_no_model(rt, b"pack");
-}
-
-fn no_positions(rt: &HostRuntime) {
-    say(
-        rt,
-        b"pack",
-        b"no positions: three numbers for each vertex are expected, decimal, with white space between",
-    );
 }
 
 // Reads a model and packs it, with what is given besides.
 fn pack_model(
-    rt: &HostRuntime,
+    program: Program<'_>,
     out: &mut Output<Stdout>,
     part: &mut [u8],
     given: Options,
-    positions: &[u16],
-    note: &[u8],
+    extras: Extras<'_>,
 ) {
     let mut numbers = [0u16; NUMBERS];
-    match read_input_numbers(rt, b"pack", given.model, false, part, &mut numbers) {
-        Told::Numbers(n) => pack_numbers(rt, out, &numbers, n, given, positions, note),
-        Told::NoNumbers => no_model(rt),
-        Told::Unread(_) => {}
-        Told::TooLong => {}
+    let Ok(n) = program.read_input_numbers(given.model, MODEL, part, &mut numbers) else {
+        return;
+    };
+    match &numbers[..n] {
+        [v, list @ ..] => pack(program, out, *v, list, extras, given.order),
+        [] => program.say(MODEL.expected),
     }
 }
 
-// Reads the positions, if a file is named for them, then a model, and packs it, with a note if it is given.
-fn run_noted(rt: &HostRuntime, out: &mut Output<Stdout>, given: Options, note: &[u8]) {
+// Reads the positions in the file that an argument names, as many as fit. Without a name there is
+// nothing to read.
+fn read_positions(
+    program: Program<'_>,
+    named: Option<usize>,
+    part: &mut [u8],
+    positions: &mut [i16],
+) -> Result<usize, TextError>
+    ensures { IfOk result (λ n. n ≤ length positions.new) }
+{
+    let Some(i) = named else {
+        return Ok(0);
+    };
+    let mut numbers = [0u16; POSITIONS];
+    let n = program.read_input_numbers(i, POSITIONS_FORM, part, &mut numbers)?;
+    Ok(put_positions(&numbers[..n], positions))
+}
+
+// Reads the positions, if a file is named for them, then a model, and packs it, with a note if it
+// is given.
+fn run_noted(program: Program<'_>, out: &mut Output<Stdout>, given: Options, note: Option<&[u8]>) {
     let mut part = [0u8; PART];
-    let mut positions = [0u16; POSITIONS];
-    if given.positions == 0 {
-        pack_model(rt, out, &mut part, given, &positions, note);
-        return;
-    }
-    match read_input_numbers(
-        rt,
-        b"pack",
-        given.positions,
-        true,
-        &mut part,
-        &mut positions,
-    ) {
-        Told::Numbers(n) => pack_model(rt, out, &mut part, given, &positions[..n], note),
-        Told::NoNumbers => no_positions(rt),
-        Told::Unread(_) => {}
-        Told::TooLong => {}
+    let mut positions = [0i16; POSITIONS];
+    if let Ok(n) = read_positions(program, given.positions, &mut part, &mut positions) {
+        let positions = given.positions.map(|_| &positions[..n]);
+        let extras = Extras { positions, note };
+        pack_model(program, out, &mut part, given, extras);
     }
 }
 
 // Reads the note, if a file is named for it, then the positions and a model, and packs it.
-fn run(rt: &HostRuntime, given: Options) {
+fn run(program: Program<'_>, given: Options) {
     let mut note = [0u8; NOTE_BUFFER];
-    let mut out = Output::fresh(rt);
-    if let Read::To(n) = read_note(rt, given.note, &mut note) {
-        run_noted(rt, &mut out, given, &note[..n]);
+    let mut out = Output::to(program.rt.stdout());
+    if let Ok(n) = read_note(program, given.note, &mut note) {
+        run_noted(program, &mut out, given, given.note.map(|_| &note[..n]));
     }
-    out.end(rt, b"pack");
+    out.end(program);
 }
 
 fn main(rt: HostRuntime) {
+    let program = Program {
+        rt: &rt,
+        name: "pack",
+    };
     let given = read_options(&rt);
-    match wish(&rt, given) {
-        Wish::Run => run(&rt, given),
-        Wish::Help => print_use(&rt, rt.stdout()),
-        Wish::Wrong => print_use(&rt, rt.stderr()),
-    }
+    program.start(wish(&rt, given), USAGE, |program| run(program, given));
 }

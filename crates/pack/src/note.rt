@@ -2,19 +2,19 @@
 ghost use Rattle.text.specs.Reads.{Fills};
 
 use rules::MOST_NOTE;
-use text::inputs::read_input;
-use text::streams::Read;
+use std::io;
+use text::program::Program;
 
 // The most bytes of a note, and one more to tell a longer file.
 pub const NOTE_BUFFER: usize = MOST_NOTE + 1;
 
-// Reads the file that an argument names, its bytes as they are, as many as fit, or says why it cannot be read. Without a name (0) there
-// is nothing to read.
-pub fn read_note(rt: &HostRuntime, named: usize, note: &mut [u8]) -> Read
+// Reads the file that an argument names, its bytes as they are, as many as fit, or says why it
+// cannot be read. Without a name there is nothing to read.
+pub fn read_note(program: Program<'_>, named: Option<usize>, note: &mut [u8]) -> io::Result<usize>
     ensures { Fills result 0 note.new }
 {
-    if named == 0 {
-        return Read::To(0);
+    match named {
+        Some(i) => program.read_input(i, note),
+        None => Ok(0),
     }
-    read_input(rt, b"pack", named, note)
 }

@@ -1,22 +1,20 @@
 // The order's file.
-use text::outputs::{Opened, open_output};
+use text::program::Program;
 use text::show::print_rows;
 use text::streams::{MOST_NAME, Output};
 
-// Writes the order of t triangles to the file that an argument names, or says why it cannot be written. Without a name (0) there is
-// nothing to write.
-pub fn write_order(rt: &HostRuntime, order: &[u16], t: usize, named: usize) -> bool {
-    if named == 0 {
+// Writes the order of the triangles to the file that an argument names, or says why it cannot be
+// written: whether the pack may follow. Without a name there is nothing to write. (A flag and no
+// Result: why it failed has been said then.)
+pub fn write_order(program: Program<'_>, order: &[u16], named: Option<usize>) -> bool {
+    let Some(i) = named else {
         return true;
-    }
-    if order.len() < t {
-        return false;
-    }
+    };
     let mut name = [0u8; MOST_NAME];
-    let Opened::At(file, n) = open_output(rt, b"pack", named, &mut name) else {
+    let Some((file, n)) = program.open_output(i, &mut name) else {
         return false;
     };
     let mut out = Output::to(file);
-    print_rows(&mut out, &order[..t], 1);
-    out.close(rt, b"pack", &name[..n])
+    print_rows(&mut out, order, 1);
+    out.close(program, &name[..n])
 }

@@ -1,34 +1,45 @@
 // Packing a list with what is given besides.
-use crate::grid::{POSITIONS, put_positions};
-use crate::options::Options;
 use notes::packing::{pack_note_on, pack_positions_note_on};
 use packer::pack_on;
 use positions::packing::pack_positions_on;
-use rules::{Builder, Packed};
+use rules::refusal::Refusal;
+use rules::{Builder, TRIANGLES, VERTICES};
+use text::packs::MOST_BYTES;
 
-// Packs a list, with the positions that numbers stand for and with the note, each if it is given.
+// What is packed besides the list, each if it is given.
+#[derive(Clone, Copy)]
+pub struct Extras<'a> {
+    pub positions: Option<&'a [i16]>,
+    pub note: Option<&'a [u8]>,
+}
+
+// What a packing is lent: a numbering, and room for the pack and for the order.
+#[derive(Drop)]
+pub struct Rooms {
+    pub numbering: [u16; VERTICES],
+    pub buffer: [u8; MOST_BYTES],
+    pub order: [u16; TRIANGLES],
+}
+
+// Packs a list with what is given besides: the length of the pack, or the refusal.
 pub fn pack_list(
     v: usize,
     list: &[u16],
-    given: Options,
-    numbers: &[u16],
-    note: &[u8],
-    numbering: &mut [u16],
-    buffer: &mut [u8],
-    order: &mut [u16],
-) -> Packed {
+    extras: Extras<'_>,
+    rooms: &mut Rooms,
+) -> Result<u32, Refusal> {
     let places = Builder::MAX_PLACES;
-    if given.positions == 0 {
-        if given.note == 0 {
-            return pack_on(v, list, numbering, buffer, order, places);
+    let numbering = &mut rooms.numbering;
+    let buffer = &mut rooms.buffer;
+    let order = &mut rooms.order;
+    match (extras.positions, extras.note) {
+        (None, None) => pack_on(v, list, numbering, buffer, order, places),
+        (None, Some(note)) => pack_note_on(v, list, note, numbering, buffer, order, places),
+        (Some(positions), None) => {
+            pack_positions_on(v, list, positions, numbering, buffer, order, places)
         }
-        return pack_note_on(v, list, note, numbering, buffer, order, places);
+        (Some(positions), Some(note)) => {
+            pack_positions_note_on(v, list, positions, note, numbering, buffer, order, places)
+        }
     }
-    let mut grid = [0i16; POSITIONS];
-    let n = put_positions(numbers, &mut grid);
-    let positions = &grid[..n];
-    if given.note == 0 {
-        return pack_positions_on(v, list, positions, numbering, buffer, order, places);
-    }
-    pack_positions_note_on(v, list, positions, note, numbering, buffer, order, places)
 }

@@ -1,6 +1,6 @@
 -- What the writer leaves in the pack buffer, as a packing uses it.
 -- Assumes nothing.
-use Prim.Native.Nat.{ℕ, ◌+◌, ◌*◌, ◌/◌, ◌≤◌}
+use Prim.Native.Nat.{ℕ, ◌+◌, ◌*◌, ◌/◌, ◌≤◌, min}
 use native.Mathlib.Nat.{min-eq_left}
 use native.Mathlib.Omega.{arith}
 use mathlib.Core.Bool.{Bool}
@@ -15,16 +15,13 @@ use Rattle.rules.specs.Buffer.{over}
 use Rattle.wire_theory.specs.Header.{header_of}
 use Rattle.wire_theory.specs.Buffer.{written_at, bytes_for}
 use Rattle.wire_theory.specs.Shape.{width_of}
-use Rattle.wire.specs.declared.writer.Written.{Written}
 use Rattle.wire.specs.Fields.{pick_buffer, headed}
-use Rattle.wire.specs.Writer.{last_number, written_of, buffer_after}
+use Rattle.wire.specs.Writer.{last_number, buffer_after}
 
 -- the position after an operation
-pub written_position : (buffer : List ℕ) (at : ℕ) (o : Operation) (w : Written) (budget : ℕ) → w ≡ written_of (length buffer) at o
-    → budget ≤ 32769
-    → at + width_of o ≤ 112 + 20 * budget → w.next ≡ at + width_of o
-written_position buffer at o w budget e b h =
-    let l : at + width_of o ≤ last_number = omega (arith, b, h) in ap (λ (r : Written). r.next) e ∙ min-eq_left l
+pub written_position : (at : ℕ) (o : Operation) (n budget : ℕ) → n ≡ min (at + width_of o) last_number → budget ≤ 32769
+    → at + width_of o ≤ 112 + 20 * budget → n ≡ at + width_of o
+written_position at o n budget e b h = let l : at + width_of o ≤ last_number = omega (arith, b, h) in e ∙ min-eq_left l
 
 -- what is written, if it fits
 pub written_buffer : (buffer buffer' : List ℕ) (at : ℕ) (o : Operation) → buffer' ≡ buffer_after buffer at o

@@ -9,13 +9,12 @@ mod start; // the lowest triangle left
 pub mod step; // one step, and the run of them
 
 ghost use Rattle.std.specs.Prelude.{List, ◌++◌, ◌≡◌, ℕ, ◌≤◌, length, replicate, drop};
-ghost use Rattle.rules.specs.declared.Checked.TheVariants as Checks;
-ghost use Rattle.rules.specs.declared.Packed.TheVariants as Packs;
+ghost use Rattle.rules.specs.Checked.{checked_of};
+ghost use Rattle.rules.specs.Packed.{packed_of};
 ghost use Rattle.rules.specs.Limits.{max_places, max_triangles, max_vertices};
 ghost use Rattle.mesh_theory.specs.Chains.Linked.{Chains};
 ghost use Rattle.mesh_theory.specs.Chains.Checks.{Answers};
 ghost use Rattle.border_theory.specs.Memory.Fresh.{all_free};
-ghost use Rattle.border_theory.specs.Records.Plain.{core_size};
 ghost use Rattle.pack_theory.specs.Packing.Numbers.{unnumbered};
 ghost use Rattle.pack_theory.specs.Packing.Doing.{stated_for};
 ghost use Rattle.pack_theory.specs.Packing.Order.{OrderLong};
@@ -29,8 +28,8 @@ use border::begin;
 use corners::Links;
 use cutborder::{CORE, Course, PLACES};
 use mesh::check_into;
-use places::buffers::fill;
-use rules::{Builder, CORNERS, Checked, Counts, Packed, TRIANGLES, VERTICES};
+use rules::refusal::Refusal;
+use rules::{Builder, CORNERS, Counts, TRIANGLES, VERTICES};
 
 // What a packing of v vertices and k triangles may not exceed.
 fn stated_for(v: usize, k: usize) -> Counts
@@ -46,14 +45,14 @@ fn stated_for(v: usize, k: usize) -> Counts
 }
 
 // The packing of v vertices and k triangles begins: every place is free, and no vertex has a number.
-fn begin_course(v: usize, k: usize, numbering: &mut [u16], m: &mut [u16]) -> Course
-    requires { (v ≤ max_vertices) × (k ≤ max_triangles) × (v ≤ length numbering.old) × (length m.old ≡ core_size) }
+fn begin_course(v: usize, k: usize, numbering: &mut [u16], m: &mut [u16; CORE]) -> Course
+    requires { (v ≤ max_vertices) × (k ≤ max_triangles) × (v ≤ length numbering.old) }
     ensures course { result ≡ empty_course v k }
     ensures numbers { numbering.new ≡ replicate v unnumbered ++ drop v numbering.old }
     ensures memory { m.new ≡ all_free max_places m.old max_places }
 {
-    fill(numbering, v, UNNUMBERED);
-    let front = begin(m, PLACES, stated_for(v, k));
+    numbering[..v].fill(UNNUMBERED);
+    let front = begin(m, stated_for(v, k));
     Course {
         front,
         given: 0,
@@ -70,11 +69,11 @@ fn run_from(
     numbering: &mut [u16],
     buffer: &mut [u8],
     order: &mut [u16],
-    m: &mut [u16],
-) -> Packed
+    m: &mut [u16; CORE],
+) -> Result<u32, Refusal>
     requires { Begins v list.now chains.now start numbering.old m.old × OrderLong list.now order.old }
     ensures { (ns : List ℕ) → drop v numbering.old ≡ drop v ns
-        → RunGives v list.now ns buffer.old order.old result numbering.new buffer.new
+        → RunGives v list.now ns buffer.old order.old (packed_of result) numbering.new buffer.new
         order.new }
 {
     let k = list.len() / 3;
@@ -94,10 +93,10 @@ fn pack_accepted(
     numbering: &mut [u16],
     buffer: &mut [u8],
     order: &mut [u16],
-    m: &mut [u16],
-) -> Packed
+    m: &mut [u16; CORE],
+) -> Result<u32, Refusal>
     requires { Fitting v list.now chains.now numbering.old m.old × OrderLong list.now order.old }
-    ensures { RunGives v list.now numbering.old buffer.old order.old result
+    ensures { RunGives v list.now numbering.old buffer.old order.old (packed_of result)
         numbering.new buffer.new order.new }
 {
     let start = begin_course(v, list.len() / 3, numbering, m);
@@ -114,34 +113,18 @@ pub fn test_rooms(
     order: usize,
     n: usize,
     chains: &mut Links,
-) -> Checked
+) -> Result<(), Refusal>
     requires { Chains list.now 0 chains.old }
-    ensures { Answers (rooms_checked v list.now numbering order n) list.now result chains.new }
+    ensures { Answers (rooms_checked v list.now numbering order n) list.now (checked_of result) chains.new }
 {
-    let checked = check_into(v, list, chains);
-    let Checked::Accepted = checked else {
-        return checked;
-    };
-    if numbering < v {
-        return Checked::Refused(8);
-    }
-    if n < PLACES {
-        return Checked::Refused(8);
+    check_into(v, list, chains)?;
+    if numbering < v || n < PLACES {
+        return Err(Refusal::PackingRoom);
     }
     if order < list.len() / 3 {
-        return Checked::Refused(22);
+        return Err(Refusal::OrderRoom);
     }
-    Checked::Accepted
-}
-
-// A refusal by these tests as the packing's.
-pub fn refusal_of(c: Checked) -> Packed
-    ensures { (k : ℕ) → c ≡ Checks.Refused k → result ≡ Packs.Refused k }
-{
-    match c {
-        Checked::Refused(k) => Packed::Refused(k),
-        Checked::Accepted => Packed::Refused(8),
-    }
+    Ok(())
 }
 
 // Packs any list of a model of v vertices into any buffers, where n place records were lent: of these only the number counts, for the
@@ -153,31 +136,23 @@ pub fn pack_on(
     buffer: &mut [u8],
     order: &mut [u16],
     n: usize,
-) -> Packed
-    ensures { PackedOn v list.now numbering.old buffer.old order.old n result
+) -> Result<u32, Refusal>
+    ensures { PackedOn v list.now numbering.old buffer.old order.old n (packed_of result)
         numbering.new buffer.new order.new }
 {
     let mut chains = [0u16; VERTICES + CORNERS];
-    let tested = test_rooms(v, list, numbering.len(), order.len(), n, &mut chains);
-    let Checked::Accepted = tested else {
-        return refusal_of(tested);
-    };
+    test_rooms(v, list, numbering.len(), order.len(), n, &mut chains)?;
     let mut m = [0u16; CORE];
     pack_accepted(v, list, &chains, numbering, buffer, order, &mut m)
 }
 
 // How many place records a packing clears, read off its answer: the first 1,024 after 9 to 11 and where it is accepted, else none.
-pub fn cleared(r: Packed) -> usize
-    ensures { result ≡ cleared_by r }
+pub fn cleared(r: &Result<u32, Refusal>) -> usize
+    ensures { result ≡ cleared_by (packed_of r.now) }
 {
-    let Packed::Refused(k) = r else {
-        return PLACES;
-    };
-    if k <= 8 {
-        return 0;
+    match r {
+        Ok(_) | Err(Refusal::TooManyPlaces | Refusal::TooManyLoops | Refusal::PackTooLong) =>
+            PLACES,
+        Err(_) => 0,
     }
-    if 11 < k {
-        return 0;
-    }
-    PLACES
 }

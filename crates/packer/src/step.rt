@@ -1,18 +1,21 @@
-// One step of a packing, and the run of them.
-ghost use Rattle.std.specs.Prelude.{false, ◌≡◌, ℕ, ◌+◌, ◌≤◌, ◌<◌, length};
-ghost use Rattle.cutborder.specs.declared.Taken.TheVariants as Takes;
-ghost use Rattle.cutborder.specs.declared.Ran.TheVariants as Runs;
+// One step of a packing, and the run of them. What a packing works on is passed part by part. `Held` holds between steps only, and the
+// kit may require a ghost field at each write through a `&mut` beside it. No trial of a struct is on record.
+ghost use Rattle.std.specs.Prelude.{false, ◌≡◌, ◌≤◌, ◌<◌, length};
 ghost use Rattle.border_theory.specs.Memory.Finish.{is_complete};
 ghost use Rattle.pack_theory.specs.Packing.Course.{Held, given_by, numbers_by};
 ghost use Rattle.pack_theory.specs.Packing.Order.{OrderLong, NotesOf, ListsOf};
 ghost use Rattle.pack_theory.specs.Packing.Steps.{Alive, StepOf, RunOf};
+ghost use Rattle.pack_theory.specs.Packing.Taken.{taken_of};
+ghost use Rattle.pack_theory.specs.Packing.Ran.{ran_of};
 
 use crate::choose::choose_move;
-use crate::operate::{operate, ready_for, refusal_of};
+use crate::operate::{operate, ready_for};
 use crate::start::begin_piece;
 use border::finish::is_complete;
 use corners::Links;
-use cutborder::{Course, Done, Flags, Ran, Taken};
+use cutborder::{CORE, Course, Flags};
+use rules::Operation;
+use rules::refusal::Refusal;
 use wire::fields::HEADER;
 use wire::writer::write_operation;
 
@@ -28,7 +31,7 @@ fn give(numbering: &mut [u16], fresh: bool, c: u16, k: u16) -> u16
     if !fresh {
         return k;
     }
-    numbering[c as usize] = k;
+    numbering[usize::from(c)] = k;
     k + 1
 }
 
@@ -40,33 +43,20 @@ fn go_on(
     built: &mut Flags,
     order: &mut [u16],
     numbering: &mut [u16],
-    m: &mut [u16],
-) -> Taken
+    m: &mut [u16; CORE],
+) -> Result<(Operation, Course), Refusal>
     requires { Alive list.now chains.now t built.old numbering.old m.old × OrderLong list.now order.old }
-    ensures step { StepOf list.now t built.old numbering.old m.old result built.new
+    ensures step { StepOf list.now t built.old numbering.old m.old (taken_of result) built.new
         numbering.new m.new }
-    ensures order { NotesOf list.now t built.old numbering.old m.old result
+    ensures order { NotesOf list.now t built.old numbering.old m.old (taken_of result)
         order.old order.new }
 {
-    let front = t.front;
-    let k = front.built;
-    let next = choose_move(list, chains, built, order, k, numbering, m, front.loops);
-    let o = next.operation;
-    let c = next.vertex;
-    let s = ready_for(front, c);
-    let d = operate(m, s, o);
-    let Done::Going(after) = d else {
-        return refusal_of(d);
-    };
-    let given = give(numbering, next.fresh, c, t.given);
-    Taken::Going(
-        o,
-        Course {
-            front: after,
-            given,
-            lowest: t.lowest,
-        },
-    )
+    let k = t.front.built;
+    let next = choose_move(list, chains, built, order, k, numbering, m, t.front.loops);
+    let s = ready_for(t.front, next.vertex);
+    let front = operate(m, s, next.operation)?;
+    let given = give(numbering, next.fresh, next.vertex, t.given);
+    Ok((next.operation, Course { front, given, ..t }))
 }
 
 // One step, where something is left to do: 9 or 10, or the operation that is taken and the state after it.
@@ -77,31 +67,19 @@ pub fn step(
     built: &mut Flags,
     order: &mut [u16],
     numbering: &mut [u16],
-    m: &mut [u16],
-) -> Taken
+    m: &mut [u16; CORE],
+) -> Result<(Operation, Course), Refusal>
     requires { Held list.now chains.now t built.old numbering.old m.old × (is_complete t.front ≡ false)
         × OrderLong list.now order.old }
-    ensures step { StepOf list.now t built.old numbering.old m.old result built.new
+    ensures step { StepOf list.now t built.old numbering.old m.old (taken_of result) built.new
         numbering.new m.new }
-    ensures order { NotesOf list.now t built.old numbering.old m.old result
+    ensures order { NotesOf list.now t built.old numbering.old m.old (taken_of result)
         order.old order.new }
 {
-    let front = t.front;
-    let loops = front.loops;
-    if loops.live == 0 {
+    if t.front.loops.live == 0 {
         return begin_piece(list, t, built, order, numbering, m);
     }
     go_on(list, chains, t, built, order, numbering, m)
-}
-
-// A step's refusal, as the run's.
-fn refusal_from(r: Taken) -> Ran
-    ensures { (k : ℕ) → r ≡ Takes.Refused k → result ≡ Runs.Refused k }
-{
-    match r {
-        Taken::Refused(k) => Ran::Refused(k),
-        Taken::Going(_, _) => Ran::Refused(9),
-    }
 }
 
 // Steps until nothing is left to do, by at most `budget` of them, each operation written after the header's bytes in the buffer
@@ -115,30 +93,24 @@ pub fn run(
     order: &mut [u16],
     numbering: &mut [u16],
     buffer: &mut [u8],
-    m: &mut [u16],
-) -> Ran
+    m: &mut [u16; CORE],
+) -> Result<(Course, usize), Refusal>
     requires { Held list.now chains.now start built.old numbering.old m.old × (budget ≤ 32769)
         × OrderLong list.now order.old }
     ensures run { RunOf list.now budget start built.old numbering.old buffer.old
-        m.old result built.new numbering.new buffer.new m.new }
-    ensures order { ListsOf list.now budget start built.old numbering.old m.old result
+        m.old (ran_of result) built.new numbering.new buffer.new m.new }
+    ensures order { ListsOf list.now budget start built.old numbering.old m.old (ran_of result)
         order.old order.new }
 {
     let mut t = start;
     let mut at = FIRST;
-    let mut left = budget;
-    while 0 < left {
+    for _ in 0..budget {
         if is_complete(t.front) {
-            return Ran::Ended(t, at);
+            return Ok((t, at));
         }
-        let r = step(list, chains, t, built, order, numbering, m);
-        let Taken::Going(o, after) = r else {
-            return refusal_from(r);
-        };
-        let w = write_operation(buffer, at, o);
+        let (o, after) = step(list, chains, t, built, order, numbering, m)?;
+        at = write_operation(buffer, at, o).next;
         t = after;
-        at = w.next;
-        left -= 1;
     }
-    Ran::Ended(t, at)
+    Ok((t, at))
 }

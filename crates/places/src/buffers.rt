@@ -7,11 +7,7 @@ pub fn fill(xs: &mut [u16], n: usize, x: u16)
     requires { n ≤ length xs.old }
     ensures { xs.new ≡ replicate n x ++ drop n xs.old }
 {
-    let mut i = 0;
-    while i < n {
-        xs[i] = x;
-        i += 1;
-    }
+    xs[..n].fill(x);
 }
 
 // The first n numbers become zero.
@@ -19,17 +15,12 @@ pub fn clear(xs: &mut [u16], n: usize)
     requires { n ≤ length xs.old }
     ensures { xs.new ≡ zeroed n xs.old }
 {
-    fill(xs, n, 0);
+    xs[..n].fill(0);
 }
 
 // All bytes become zero.
 pub fn clear_bytes(xs: &mut [u8])
     ensures { xs.new ≡ zeroed (length xs.old) xs.old }
 {
-    let n = xs.len();
-    let mut i = 0;
-    while i < n {
-        xs[i] = 0;
-        i += 1;
-    }
+    xs.fill(0);
 }

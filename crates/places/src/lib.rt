@@ -53,21 +53,19 @@ pub fn clear(s: &mut [Place], n: usize)
     requires { n ≤ length s.old }
     ensures { s.new ≡ cleared_to n s.old }
 {
-    let mut i = 0;
-    while i < n {
+    for i in 0..n {
         free(s, i);
-        i += 1;
     }
 }
 
-// An edge's openness as a number: 1 for open, else 0.
+// An edge's openness as a number: 1 for open, else 0. (A function of its own, named for `number_of` of Records/Plain.)
 pub fn number(open: bool) -> u16
     ensures { result ≡ number_of «open» }
 {
-    if open { 1 } else { 0 }
+    u16::from(open)
 }
 
-// Whether a number says that an edge is open: what is not 1 is not open.
+// Whether a number says that an edge is open: what is not 1 is not open. (Named for `is_one` of Records/Plain.)
 pub fn is_one(x: u16) -> bool
     ensures { result ≡ is_one x }
 {
@@ -114,12 +112,10 @@ pub fn settle(m: &mut Memory)
     ensures small { (p : ℕ) → p < max_places → get_or m.new (4 * p + 3) 0 ≤ 1 }
     ensures same { (p : ℕ) → record_at m.new p ≡ record_at m.old p }
 {
-    let mut i = 0;
-    while i < PLACES {
+    // By number: the clauses `small` and `same` speak of each record p by its number.
+    for i in 0..PLACES {
         let at = 4 * i + 3;
-        let x = number(is_one(m[at]));
-        m[at] = x;
-        i += 1;
+        m[at] = number(is_one(m[at]));
     }
 }
 
@@ -128,10 +124,7 @@ pub fn settle(m: &mut Memory)
 pub fn count(n: usize) -> usize
     ensures { result ≡ count_of n }
 {
-    if n < PLACES {
-        return n;
-    }
-    PLACES
+    n.min(PLACES)
 }
 
 // The list's first n records go into the plain memory; its other numbers stay.
@@ -140,25 +133,20 @@ pub fn load(s: &[Place], m: &mut Memory, n: usize)
     requires { (n ≤ length s.now) × (n ≤ max_places) }
     ensures { m.new ≡ loaded n s.now m.old }
 {
-    let mut i = 0;
-    while i < n {
+    // By number: `loaded` of Records/Plain stores record i of the list as record i of the memory, which is one row of numbers.
+    for i in 0..n {
         store_record(&mut *m, i, take(s, i));
-        i += 1;
     }
 }
 
-// A number of the memory as an index.
-fn wide(x: u16) -> usize
-    ensures { result ≡ x }
-{
-    x as usize
-}
+// What an operation linked and freed stands at the memory's end, and is read there by its place, as `linked_count`, `linked_place`,
+// `freed_start`, `freed_end` and `freed_place` of Records/Notes have it.
 
 // How many records an operation linked.
 pub fn linked_count(m: &Memory) -> usize
     ensures { result ≡ linked_count m.now }
 {
-    wide(m[LINKED])
+    usize::from(m[LINKED])
 }
 
 // The record that it linked as number k, from 0 on.
@@ -166,20 +154,20 @@ pub fn linked_at(m: &Memory, k: usize) -> usize
     requires { k < 5 }
     ensures { result ≡ linked_place m.now k }
 {
-    wide(m[LINKED + 1 + k])
+    usize::from(m[LINKED + 1 + k])
 }
 
 // Where the records that it freed start on the stack of free places, and where they end.
 pub fn freed_start(m: &Memory) -> usize
     ensures { result ≡ freed_start m.now }
 {
-    wide(m[FREED])
+    usize::from(m[FREED])
 }
 
 pub fn freed_end(m: &Memory) -> usize
     ensures { result ≡ freed_end m.now }
 {
-    wide(m[FREED + 1])
+    usize::from(m[FREED + 1])
 }
 
 // The record at k on that stack.
@@ -187,7 +175,7 @@ pub fn freed_at(m: &Memory, k: usize) -> usize
     requires { k < max_places }
     ensures { result ≡ freed_place m.now k }
 {
-    wide(m[RECORDS + k])
+    usize::from(m[RECORDS + k])
 }
 
 // The records that an operation linked go into the list, out of the plain memory.
@@ -196,12 +184,9 @@ pub fn link_all(m: &Memory, s: &mut [Place])
     requires { Linkable m.now (length s.old) }
     ensures { s.new ≡ linked_all m.now s.old }
 {
-    let n = linked_count(m);
-    let mut k = 0;
-    while k < n {
+    for k in 0..linked_count(m) {
         let i = linked_at(m, k);
         link(s, i, record_at(m, i));
-        k += 1;
     }
 }
 
@@ -211,11 +196,7 @@ pub fn free_all(m: &Memory, s: &mut [Place])
     requires { Freeable m.now (length s.old) }
     ensures { s.new ≡ freed_all m.now s.old }
 {
-    let end = freed_end(m);
-    let mut k = freed_start(m);
-    while k < end {
-        let i = freed_at(m, k);
-        free(s, i);
-        k += 1;
+    for k in freed_start(m)..freed_end(m) {
+        free(s, freed_at(m, k));
     }
 }

@@ -3,6 +3,7 @@ ghost use Rattle.std.specs.Prelude.{◌≡◌, ◌+◌, ◌*◌, ◌<◌, pos, l
 ghost use Rattle.rules.specs.Grid.{in_grid, signed_of, positions_from};
 ghost use Rattle.rules.specs.Later.{given};
 ghost use Rattle.rules.specs.UnpackWhole.{field_fits};
+ghost use Rattle.wire.specs.Told.{lent};
 
 use wire::fields::word_at;
 
@@ -15,10 +16,7 @@ const START: u16 = 63488;
 pub(crate) fn is_in_range(w: u16) -> bool
     ensures { result ≡ in_grid (signed_of w) }
 {
-    if w < END {
-        return true;
-    }
-    START <= w
+    w < END || START <= w
 }
 
 // Whether position i is in range.
@@ -33,15 +31,24 @@ fn is_in_grid(field: &[u8], i: usize) -> bool
 pub fn is_field(field: &[u8], v: u16) -> bool
     ensures { result ≡ field_fits v (given field.now) }
 {
-    if field.len() != 6 * (v as usize) {
+    if field.len() != 6 * usize::from(v) {
         return false;
     }
-    let mut i = 3 * (v as usize);
-    while 0 < i {
-        i -= 1;
+    // By number: position i is that of `positions_from` of rules, which the clause of `is_in_grid` names, in bytes 2i and 2i + 1.
+    for i in (0..3 * usize::from(v)).rev() {
         if !is_in_grid(field, i) {
             return false;
         }
     }
     true
+}
+
+// 23, where there may be no field: none fits always.
+pub fn are_fit(positions: Option<&[u8]>, v: u16) -> bool
+    ensures { result ≡ field_fits v (lent positions.entry) }
+{
+    match positions {
+        Some(field) => is_field(field, v),
+        None => true,
+    }
 }

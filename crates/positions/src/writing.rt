@@ -8,14 +8,11 @@ use crate::field::is_in_range;
 use wire::fields::POSITIONS_TAG;
 
 // A signed number as one of 16 bits: a negative number n is 65,536 + n.
+// Named for `unsigned_of` of rules, which its clause says of the cast.
 fn unsigned(z: i16) -> u16
     ensures { result ≡ unsigned_of z }
 {
-    let n = z as i32;
-    if n < 0 {
-        return (n + 65536) as u16;
-    }
-    n as u16
+    z.cast_unsigned()
 }
 
 // Whether a position is in range.
@@ -29,15 +26,11 @@ fn is_position(z: i16) -> bool
 pub fn are_positions(positions: &[i16], v: usize) -> bool
     ensures { result ≡ positions_fit v positions.now }
 {
-    if positions.len() / 3 != v {
+    if positions.len() / 3 != v || positions.len() % 3 != 0 {
         return false;
     }
-    if positions.len() % 3 != 0 {
-        return false;
-    }
-    let mut i = positions.len();
-    while 0 < i {
-        i -= 1;
+    // No `.all`: it is many times slower on a list that is read whole.
+    for i in (0..positions.len()).rev() {
         if !is_position(positions[i]) {
             return false;
         }
@@ -50,16 +43,9 @@ fn put_word(buffer: &mut [u8], at: usize, w: u16)
     requires { at + 1 < length buffer.old }
     ensures { buffer.new ≡ set_word buffer.old at w }
 {
-    let n = w as usize;
-    buffer[at] = (n / 256 % 256) as u8;
-    buffer[at + 1] = (n % 256) as u8;
-}
-
-// A number that was read.
-fn wide(x: u16) -> usize
-    ensures { (result ≡ x) × (result < 65536) }
-{
-    x as usize
+    let [high, low] = w.to_be_bytes();
+    buffer[at] = high;
+    buffer[at + 1] = low;
 }
 
 // The place of position i among the positions in new numbering.
@@ -67,7 +53,7 @@ fn place_of(numbering: &[u16], i: usize) -> usize
     requires { i < 3 * length numbering.now }
     ensures { result ≡ place_of numbering.now i }
 {
-    3 * wide(numbering[i / 3]) + i % 3
+    3 * usize::from(numbering[i / 3]) + i % 3
 }
 
 // Writes the positions of old vertices in new numbering, from a byte on.
@@ -75,12 +61,10 @@ fn put_positions(buffer: &mut [u8], from: usize, positions: &[i16], numbering: &
     requires { Puttable buffer.old from positions.now numbering.now }
     ensures { Put buffer.old from positions.now numbering.now buffer.new }
 {
-    let n = positions.len();
-    let mut i = 0;
-    while i < n {
+    // By number, as `Filled` of positions_theory counts: `place_of` goes by it.
+    for i in 0..positions.len() {
         let place = place_of(numbering, i);
         put_word(buffer, from + 2 * place, unsigned(positions[i]));
-        i += 1;
     }
 }
 

@@ -9,11 +9,11 @@ use lib.Dec.{eqb, leb, ltb}
 use lib.IntN.{ℤ}
 use lib.ListN.{length, take, drop, get_or, length-append, length-drop, take-append-drop}
 use lib.Seq.{length-take-le, take-append-le, drop-append-le, drop-drop}
-use borrow.Author.Tests.{eqb-true, leb-true, lt-ltb, le-ltb}
-use Rattle.rules.specs.declared.Checked.{Checked}
-use Rattle.rules.specs.declared.Checked.TheVariants as C
-use Rattle.rules.specs.declared.Packed.{Packed}
-use Rattle.rules.specs.declared.Packed.TheVariants as P
+use borrow.Author.Tests.{eqb-true, leb-true}
+use Rattle.rules.specs.Checked.{Checked}
+use Rattle.rules.specs.Checked as C
+use Rattle.rules.specs.Packed.{Packed}
+use Rattle.rules.specs.Packed as P
 use Rattle.rules.specs.Limits.{max_places}
 use Rattle.rules.specs.Triangle.{triangles_of}
 use Rattle.rules.specs.Check.{check}
@@ -42,15 +42,6 @@ use Rattle.positions_theory.specs.Filling.{Renumbered, FieldRoom, FieldPut}
 use Rattle.positions_theory.specs.Packing.{PackedWholeOn, buffer_after, Followable, Follows}
 use Rattle.positions_theory.proofs.Packing.{rooms_pass, alone_down, no_pass, whole_down}
 use Rattle.positions_theory.proofs.Renumbering.{field_room, renumbered}
-
--- what is cleared, by its number
-pub cleared_some : (r : Packed) (n : ℕ) (bs bs' : List ℕ) → n ≡ cleared_by r → 0 < n → bs' ≡ zeroed (length bs) bs → bs' ≡ buffer_after r bs
-cleared_some r n bs bs' e h g =
-    g ∙ sym (ap (λ (t : Bool). elim t [ true ↦ zeroed (length bs) bs | false ↦ bs ]) (lt-ltb 0 (cleared_by r) (omega (arith, e))))
-
-pub cleared_none : (r : Packed) (n : ℕ) (bs : List ℕ) → n ≡ cleared_by r → n ≤ 0 → bs ≡ buffer_after r bs
-cleared_none r n bs e h =
-    sym (ap (λ (t : Bool). elim t [ true ↦ zeroed (length bs) bs | false ↦ bs ]) (le-ltb 0 (cleared_by r) (omega (arith, e))))
 
 -- what follows, by the answer
 module _ (zs : List ℤ) (ns bs : List ℕ) (r : Packed) (k : ℕ) where

@@ -9,8 +9,8 @@ use lib.Dec.{eqb, leb}
 use lib.ListN.{length, take}
 use Rattle.rules.specs.declared.Place.{Place}
 use Rattle.rules.specs.declared.Model.{Model}
-use Rattle.rules.specs.declared.Measured.{Measured}
-use Rattle.rules.specs.declared.Measured.TheVariants as M
+use Rattle.rules.specs.Measured.{Measured}
+use Rattle.rules.specs.Measured as M
 use Rattle.rules.specs.Limits.{max_places}
 use Rattle.rules.specs.Triangle.{triangles_of}
 use Rattle.rules.specs.Answer.{Answer, refusal, accepted, triangle, no_triangle, numbers, packed, unpacked}

@@ -11,19 +11,17 @@ use lib.ListN.{length, take, drop, get_or}
 use lib.Seq.{get_or-take}
 use borrow.Author.Tests.{eqb-true, eqb-false, eq-eqb, ne_eqb}
 use Rattle.rules.specs.declared.Model.{Model}
-use Rattle.rules.specs.declared.Unpacked.{Unpacked}
-use Rattle.rules.specs.declared.Unpacked.TheVariants as U
-use Rattle.rules.specs.declared.Measured.{Measured}
-use Rattle.rules.specs.declared.Measured.TheVariants as M
+use Rattle.rules.specs.Unpacked as U
+use Rattle.rules.specs.Measured as M
 use Rattle.rules.specs.Triangle.{triangles_of}
-use Rattle.rules.specs.Answer.{Answer, refusal, unpacked, unpacked_answer}
+use Rattle.rules.specs.Answer.{Answer, refusal, unpacked}
 use Rattle.rules.specs.Buffer.{zeroed}
 use Rattle.rules.specs.Unpack.{UnpackResult, unpack}
 use Rattle.rules.specs.Later.{Given, not_given, given, parts_of}
 use Rattle.rules.specs.Grid.{positions_from}
 use Rattle.rules.specs.Volume.{six_volumes}
 use Rattle.rules.specs.UnpackWhole.{field_fits, model_in, left_by20}
-use Rattle.rules.specs.Reading.{VolumeResult, measured_answer, measured_six, positions_in, six_of, measured}
+use Rattle.rules.specs.Reading.{VolumeResult, positions_in, six_of, measured}
 use Rattle.border_theory.specs.Records.Lent.{lent}
 use Rattle.volume_theory.specs.Near.{HasPositions, Measurable}
 use Rattle.volume_theory.proofs.Whole.{Accepts, accepts}
@@ -36,6 +34,7 @@ use Rattle.roundtrip.proofs.Back.{triangles_are, list_is, checks}
 use Rattle.mesh_theory.proofs.Fans.Checks.{check_accepted}
 use Rattle.mesh_theory.proofs.Chains.Listing.{below_each}
 use Rattle.mesh_theory.proofs.Chains.Prefix.{length_numbers}
+use Rattle.rules.specs.Measured.{Measured}
 use Rattle.positions_theory.specs.Unpacking.{UnpackedWholeOn, IsMeasured, measured_by, measured_triangles}
 use Rattle.positions_theory.proofs.Unpacking.{zeroed_same, whole_long}
 
@@ -54,15 +53,13 @@ module _ (g : Given (List ℕ)) (ts : List ℕ) (n : ℕ) (u : UnpackResult) whe
   refused_by_lem (given bs) = refl
 
   -- a refusal of the unpacking
-  pub measured_refused : (r : Unpacked) (s : Measured) (k : ℕ) (ts' : List ℕ) → unpacked_answer r ≡ u.answer
-      → ts' ≡ u.buffers.triangles → r ≡ U.Refused k → s ≡ M.Refused k
-      → IsMeasured (measured g (lent n ts) u (model_in u.answer)) s ts'
-  measured_refused r s k ts' h l e f =
-      let a : refusal k ≡ u.answer = sym (ap (λ (x : Unpacked). unpacked_answer x) e) ∙ h in
-      let v = by_answer (refusal k) a ∙ refused_by_lem g in
+  pub measured_refused : (k : ℕ) (ts' : List ℕ) → refusal k ≡ u.answer → ts' ≡ u.buffers.triangles
+      → IsMeasured (measured g (lent n ts) u (model_in u.answer)) (M.Refused k) ts'
+  measured_refused k ts' h l =
+      let v = by_answer (refusal k) h ∙ refused_by_lem g in
       record {
-        answer = ap measured_answer f ∙ a ∙ sym (ap (λ (x : VolumeResult). x.answer) v);
-        six = ap measured_six f ∙ sym (ap (λ (x : VolumeResult). x.six) v);
+        answer = h ∙ sym (ap (λ (x : VolumeResult). x.answer) v);
+        six = sym (ap (λ (x : VolumeResult). x.six) v);
         triangles = l ∙ sym (ap (λ (x : VolumeResult). x.buffers.triangles) v);
       }
 
@@ -73,19 +70,18 @@ module _ (g : Given (List ℕ)) (ts : List ℕ) (n : ℕ) (u : UnpackResult) whe
     no_volume = record { answer = refusal 24; six = not_given; buffers = left_by20 m (lent n ts) }
 
     -- 24
-    none_measured : w ≡ no_volume → (ts'' : List ℕ) → ts'' ≡ zeroed (3 * m.triangles) ts' → IsMeasured w (M.Refused 24) ts''
-    none_measured v ts'' z = record {
+    none_measured : w ≡ no_volume → IsMeasured w (M.Refused 24) (zeroed (3 * m.triangles) ts')
+    none_measured v = record {
       answer = sym (ap (λ (x : VolumeResult). x.answer) v);
       six = sym (ap (λ (x : VolumeResult). x.six) v);
-      triangles = z ∙ zeroed_same (3 * m.triangles) ts ts' beyond ∙ sym (ap (λ (x : VolumeResult). x.buffers.triangles) v);
+      triangles = zeroed_same (3 * m.triangles) ts ts' beyond ∙ sym (ap (λ (x : VolumeResult). x.buffers.triangles) v);
     }
 
-    pub no_third_measured : g ≡ not_given → (s : Measured) → s ≡ M.Refused 24 → (ts'' : List ℕ) → ts'' ≡ zeroed (3 * m.triangles) ts'
-        → IsMeasured (measured g (lent n ts) u (model_in u.answer)) s ts''
+    pub no_third_measured : g ≡ not_given
+        → IsMeasured (measured g (lent n ts) u (model_in u.answer)) (M.Refused 24) (zeroed (3 * m.triangles) ts')
     unfolding measured
-    no_third_measured e s f ts'' z =
-        subst (λ (x : Measured). IsMeasured w x ts'') (sym f)
-        (none_measured (by_answer (unpacked m) h ∙ ap (λ (y : Given (List ℕ)). measured y (lent n ts) u (given m)) e) ts'' z)
+    no_third_measured e =
+        none_measured (by_answer (unpacked m) h ∙ ap (λ (y : Given (List ℕ)). measured y (lent n ts) u (given m)) e)
 
     module _ (bs : List ℕ) (third : g ≡ given bs) where
       by_rims : (t : Bool) → eqb m.totals.rims 0 ≡ t → w ≡ elim t [
@@ -100,11 +96,11 @@ module _ (g : Given (List ℕ)) (ts : List ℕ) (n : ℕ) (u : UnpackResult) whe
             | false ↦ no_volume
           ]) e
 
-      rim_measured : (m.totals.rims ≡ 0 → ⊥) → (ts'' : List ℕ) → ts'' ≡ zeroed (3 * m.triangles) ts'
-          → IsMeasured w (M.Refused 24) ts''
+      rim_measured : (m.totals.rims ≡ 0 → ⊥) → IsMeasured w (M.Refused 24) (zeroed (3 * m.triangles) ts')
       rim_measured k = none_measured (by_rims false (ne_eqb m.totals.rims 0 k))
 
-      volume_measured : m.totals.rims ≡ 0 → (z : ℤ) → z ≡ six_volumes (positions_from bs) (triangles_of (take (3 * m.triangles) ts'))
+      volume_measured : m.totals.rims ≡ 0 → (z : ℤ)
+          → z ≡ six_volumes (positions_from bs) (triangles_of (take (3 * m.triangles) ts'))
           → IsMeasured w (M.Volume m z) ts'
       volume_measured k z e =
           let v = by_rims true (eq-eqb m.totals.rims 0 k) in
@@ -133,10 +129,11 @@ module _ (g : Given (List ℕ)) (ts : List ℕ) (n : ℕ) (u : UnpackResult) whe
               let a : s ≡ M.Refused 24 =
               e ∙ ap (λ (t : Bool). elim t as (λ _. Measured) [ true ↦ M.Volume m z | false ↦ M.Refused 24 ]) k in
               let b = f ∙ ap (λ (t : Bool). elim t as (λ _. List ℕ) [ true ↦ ts' | false ↦ zeroed (3 * m.triangles) ts' ]) k in
-              subst (λ (x : Measured). IsMeasured w x ts'') (sym a) (rim_measured (eqb-false m.totals.rims 0 k) ts'' b)
+              subst (λ (x : Measured). IsMeasured w x ts'') (sym a)
+              (subst (IsMeasured w (M.Refused 24)) (sym b) (rim_measured (eqb-false m.totals.rims 0 k)))
 
 -- the field has the positions of the triangles' corners
-pub measurable : (bytes ts : List ℕ) (n : ℕ) (m : Model) (ts' : List ℕ) → UnpackedWholeOn bytes ts n (U.Model m) ts' → (bs : List ℕ)
+pub measurable : (bytes ts : List ℕ) (n : ℕ) (m : Model) (ts' : List ℕ) → UnpackedWholeOn bytes ts n (U.Gives m) ts' → (bs : List ℕ)
     → positions_in (parts_of bytes) ≡ given bs → Measurable ts' m.triangles bs
 measurable bytes ts n m ts' h bs third = record { few = few; each = each }
   where
@@ -185,21 +182,14 @@ measurable bytes ts n m ts' h bs third = record { few = few; each = each }
       r = omega (arith, six, below (3 * t + 2) (omega arith));
     }
 
--- a refusal keeps its number
-pub same_number : (r : Unpacked) (j k : ℕ) → r ≡ U.Refused j → r ≡ U.Refused k → M.Refused j ≡ M.Refused k
-same_number r j k e f = let q : U.Refused j ≡ U.Refused k = sym e ∙ f in let p : j ≡ k = cc in ap M.Refused p
-
-pub no_number : {A : Type 0} (r : Unpacked) (m : Model) (k : ℕ) → r ≡ U.Model m → r ≡ U.Refused k → A
-no_number r m k e f = let q : U.Model m ≡ U.Refused k = sym e ∙ f in let z : ◌≡◌ {A = ℕ} 0 1 = cc in absurd (omega arith)
-
 -- measuring a model with a rim, and without
-pub measured_rim : (bs ts : List ℕ) (m : Model) → (m.totals.rims ≡ 0 → ⊥) → (s : Measured) (ts' : List ℕ) → s ≡ M.Refused 24
-    → ts' ≡ zeroed (3 * m.triangles) ts → (s ≡ measured_by bs m ts) × (ts' ≡ measured_triangles m ts)
-measured_rim bs ts m k s ts' e f =
+pub measured_rim : (bs ts : List ℕ) (m : Model) → (m.totals.rims ≡ 0 → ⊥)
+    → (M.Refused 24 ≡ measured_by bs m ts) × (zeroed (3 * m.triangles) ts ≡ measured_triangles m ts)
+measured_rim bs ts m k =
     let z = six_volumes (positions_from bs) (triangles_of (take (3 * m.triangles) ts)) in
     let n = ne_eqb m.totals.rims 0 k in (
-      e ∙ sym (ap (λ (t : Bool). elim t as (λ _. Measured) [ true ↦ M.Volume m z | false ↦ M.Refused 24 ]) n),
-      f ∙ sym (ap (λ (t : Bool). elim t as (λ _. List ℕ) [ true ↦ ts | false ↦ zeroed (3 * m.triangles) ts ]) n),
+      sym (ap (λ (t : Bool). elim t as (λ _. Measured) [ true ↦ M.Volume m z | false ↦ M.Refused 24 ]) n),
+      sym (ap (λ (t : Bool). elim t as (λ _. List ℕ) [ true ↦ ts | false ↦ zeroed (3 * m.triangles) ts ]) n),
     )
 
 pub measured_closed : (bs ts : List ℕ) (m : Model) → m.totals.rims ≡ 0 → (z : ℤ)

@@ -6,24 +6,23 @@ use mathlib.Core.Bool.{Bool, true, false, ◌&&◌}
 use mathlib.Core.List.{List}
 use mathlib.Core.Path.{◌≡◌, refl, sym, ap, ap₂, ◌∙◌, subst}
 use lib.Dec.{leb}
-use lib.IntN.{ℤ}
 use lib.ListN.{length, length-replicate}
-use Rattle.rules.specs.declared.Checked.{Checked}
-use Rattle.rules.specs.declared.Checked.TheVariants as C
-use Rattle.rules.specs.declared.Packed.{Packed}
-use Rattle.rules.specs.declared.Packed.TheVariants as P
+use Rattle.rules.specs.Checked.{Checked}
+use Rattle.rules.specs.Checked as C
+use Rattle.rules.specs.Packed.{Packed}
+use Rattle.rules.specs.Packed as P
 use Rattle.rules.specs.Limits.{max_places}
 use Rattle.rules.specs.Buffer.{free_place}
 use Rattle.rules.specs.Note.{note_fits}
 use Rattle.rules.specs.Pack.{PackBuffers, PackResult, turned_down, pack_long_enough, pack}
-use Rattle.rules.specs.PackWhole.{Extras, given_fit, positions_fit, pack_whole}
+use Rattle.rules.specs.PackWhole.{Extras, given_fit, pack_whole}
 use Rattle.pack_theory.specs.Packing.Lent.{lent, IsResult, ran_on}
 use Rattle.pack_theory.specs.Packing.Rooms.{rooms_checked}
 use Rattle.mesh_theory.proofs.Fans.Checks.{accepted_refused}
 use Rattle.pack_theory.proofs.Packing.Rooms.{past, pack_by_rooms, rooms_accepted, rooms_passed}
 use Rattle.volume_theory.specs.Whole.{PassesRooms}
-use Rattle.volume_theory.proofs.Beside.{by_extras, placed, run, earlier, passed}
-use Rattle.positions_theory.specs.Packing.{PackedWholeOn, fault_of, Unfit}
+use Rattle.volume_theory.proofs.Beside.{by_extras, run, earlier, passed}
+use Rattle.positions_theory.specs.Packing.{Unfit}
 
 -- the refusal of what is given besides
 fault : (r : PackBuffers) (p : PackResult) (s t : Bool) (k : ℕ)
@@ -73,10 +72,9 @@ module _ (v : ℕ) (xs : List ℕ) (a b n : ℕ) (c : Checked) (e : c ≡ rooms_
   of_lengths ns qs la lb = ap₂ (λ (i j : ℕ). rooms_checked v xs i j n) la lb ∙ sym e
 
   -- 1 to 8 and 22 come before 23 and 25
-  pub unfit_earlier : (j : ℕ) → c ≡ C.Refused j → (p : Packed) → p ≡ P.Refused j → (k : ℕ) → Unfit v xs a b n k p
-  unfit_earlier j f p g k x h l ns bs qs la lb =
-      subst (λ (q : Packed). PackedWholeOn v xs x ns bs qs n q ns bs qs) (sym g)
-      (is_down (lent n ns bs qs) _ j (whole_down v xs n ns bs qs j (of_lengths ns qs la lb ∙ f) x))
+  pub unfit_earlier : (j : ℕ) → c ≡ C.Refused j → (k : ℕ) → Unfit v xs a b n k (P.Refused j)
+  unfit_earlier j f k x h l ns bs qs la lb =
+      is_down (lent n ns bs qs) _ j (whole_down v xs n ns bs qs j (of_lengths ns qs la lb ∙ f) x)
 
   pub unfit_last : c ≡ C.Accepted → (k : ℕ) → Unfit v xs a b n k (P.Refused k)
   unfit_last f k x h l ns bs qs la lb =
@@ -84,7 +82,3 @@ module _ (v : ℕ) (xs : List ℕ) (a b n : ℕ) (c : Checked) (e : c ≡ rooms_
       is_down w _ k
       (passed v xs w x (rooms_pass v xs n ns bs qs (of_lengths ns qs la lb ∙ f))
       ∙ fault w (run v xs w x) (given_fit v x.positions) (note_fits x.note) k h l)
-
--- what the refusal is
-pub fault_23 : (v : ℕ) (zs : List ℤ) → positions_fit v zs ≡ false → fault_of v (placed zs) ≡ 23
-fault_23 v zs h = ap (λ (t : Bool). elim t as (λ _. ℕ) [ true ↦ 0 | false ↦ 23 ]) h

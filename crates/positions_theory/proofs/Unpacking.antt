@@ -8,13 +8,13 @@ use mathlib.Core.Path.{◌≡◌, refl, sym, ap, ◌∙◌, subst}
 use lib.ListN.{length, take, drop, replicate, length-take}
 use lib.Seq.{drop_at}
 use Rattle.rules.specs.declared.Model.{Model}
-use Rattle.rules.specs.declared.Unpacked.{Unpacked}
-use Rattle.rules.specs.declared.Unpacked.TheVariants as U
+use Rattle.rules.specs.Unpacked.{Unpacked}
+use Rattle.rules.specs.Unpacked as U
 use Rattle.rules.specs.Answer.{Answer, refusal, unpacked, unpacked_answer}
 use Rattle.rules.specs.Buffer.{zeroed, Buffers}
 use Rattle.rules.specs.Unpack.{numbers_of, UnpackResult, unpack}
-use Rattle.rules.specs.Later.{not_given, given, Parts, no_parts, parts, parts_of}
-use Rattle.rules.specs.UnpackWhole.{model_in, left_by20, then_tested, unpack_parts, unpack_whole}
+use Rattle.rules.specs.Later.{Given, given, Parts, no_parts, parts, parts_of}
+use Rattle.rules.specs.UnpackWhole.{field_fits, model_in, left_by20, then_tested, unpack_parts}
 use borrow.Author.Tests.{leb-true}
 use Rattle.counting.proofs.Bools.{and_left}
 use Rattle.border_theory.specs.Records.Lent.{lent}
@@ -22,8 +22,8 @@ use Rattle.unpack_theory.specs.Lent.{UnpackedOn}
 use Rattle.mesh_theory.proofs.Chains.Prefix.{length_numbers}
 use Rattle.roundtrip.proofs.Results.{unpacked_by}
 use Rattle.roundtrip.proofs.Back.{triangles_are, list_is}
-use Rattle.volume_theory.proofs.Whole.{tested_none, accepts}
-use Rattle.positions_theory.specs.Unpacking.{UnpackedWholeOn, tested_answer, tested_triangles, always, TestTold, positions_test, RoomFor}
+use Rattle.volume_theory.proofs.Whole.{accepts}
+use Rattle.positions_theory.specs.Unpacking.{UnpackedWholeOn, tested_answer, tested_triangles, positions_test, always, TestTold}
 
 -- the buffer of an accepted unpacking, past its triangles
 beyond : (bytes : List ℕ) (r : Buffers) (m : Model) → (unpack bytes r).answer ≡ unpacked m
@@ -38,24 +38,13 @@ beyond bytes r m e =
 pub zeroed_same : (n : ℕ) (ts us : List ℕ) → drop n us ≡ drop n ts → zeroed n us ≡ zeroed n ts
 zeroed_same n ts us e = ap (λ (vs : List ℕ). replicate n 0 ++ vs) e
 
--- no fields, and two
+-- no fields
 pub no_parts_on : (bytes ts : List ℕ) (n : ℕ) → parts_of bytes ≡ no_parts → UnpackedWholeOn bytes ts n (U.Refused 12) ts
 unfolding unpack_parts
 no_parts_on bytes ts n e = record {
   answer = sym (ap (λ (p : Parts). (unpack_parts (lent n ts) p).answer) e);
   triangles = sym (ap (λ (p : Parts). (unpack_parts (lent n ts) p).buffers.triangles) e);
 }
-
-pub two_parts_on : (bytes ts : List ℕ) (n : ℕ) (r : Unpacked) (ts' : List ℕ) → parts_of bytes ≡ parts bytes not_given
-    → UnpackedOn bytes ts n r ts' → UnpackedWholeOn bytes ts n r ts'
-unfolding unpack_parts
-two_parts_on bytes ts n r ts' e h =
-    let u = unpack bytes (lent n ts) in
-    let w : unpack_whole bytes (lent n ts) ≡ u = ap (unpack_parts (lent n ts)) e ∙ tested_none 23 (lent n ts) u (model_in u.answer) in
-    record {
-      answer = h.answer ∙ sym (ap (λ (x : UnpackResult). x.answer) w);
-      triangles = h.triangles ∙ sym (ap (λ (x : UnpackResult). x.buffers.triangles) w);
-    }
 
 -- a test after an unpacking u into the buffer ts, which leaves what stands past the triangles of an accepted model
 module _ (k : ℕ) (fits : Model → Bool) (ts : List ℕ) (n : ℕ) (u : UnpackResult)
@@ -72,7 +61,7 @@ module _ (k : ℕ) (fits : Model → Bool) (ts : List ℕ) (n : ℕ) (u : Unpack
   tested_on (U.Refused j) ts' a b =
       let w = by_answer (refusal j) a in
       (a ∙ sym (ap (λ (x : UnpackResult). x.answer) w), b ∙ sym (ap (λ (x : UnpackResult). x.buffers.triangles) w))
-  tested_on (U.Model m) ts' a b = go (fits m) refl
+  tested_on (U.Gives m) ts' a b = go (fits m) refl
     where
       w : then_tested k fits (lent n ts) u (model_in u.answer) ≡ then_tested k fits (lent n ts) u (given m)
       w = by_answer (unpacked m) a
@@ -81,7 +70,7 @@ module _ (k : ℕ) (fits : Model → Bool) (ts : List ℕ) (n : ℕ) (u : Unpack
       w_by t = elim t [ true ↦ u | false ↦ record { answer = refusal k; buffers = left_by20 m (lent n ts) } ]
 
       go : (t : Bool) → fits m ≡ t
-          → (unpacked_answer (elim t [ true ↦ U.Model m | false ↦ U.Refused k ])
+          → (unpacked_answer (elim t [ true ↦ U.Gives m | false ↦ U.Refused k ])
           ≡ (then_tested k fits (lent n ts) u (model_in u.answer)).answer)
           × (elim t [ true ↦ ts' | false ↦ zeroed (3 * m.triangles) ts' ]
           ≡ (then_tested k fits (lent n ts) u (model_in u.answer)).buffers.triangles)
@@ -95,72 +84,67 @@ module _ (k : ℕ) (fits : Model → Bool) (ts : List ℕ) (n : ℕ) (u : Unpack
                 ∙ sym (ap (λ (x : UnpackResult). x.buffers.triangles) v),
           )
 
+-- what is answered and left by a test of an accepted model that holds, and by one that fails
+module _ (k : ℕ) (fits : Model → Bool) (m : Model) (ts : List ℕ) (P : Unpacked → List ℕ → Type 0)
+    (p : P (tested_answer k fits (U.Gives m)) (tested_triangles fits (U.Gives m) ts)) where
+  by_test : (t : Bool) → fits m ≡ t
+      → P (elim t [ true ↦ U.Gives m | false ↦ U.Refused k ]) (elim t [ true ↦ ts | false ↦ zeroed (3 * m.triangles) ts ])
+  by_test t f =
+      subst (λ (s : Bool).
+      P (elim s as (λ _. Unpacked) [ true ↦ U.Gives m | false ↦ U.Refused k ])
+      (elim s as (λ _. List ℕ) [ true ↦ ts | false ↦ zeroed (3 * m.triangles) ts ])) f p
+
+  pub tested_fits : fits m ≡ true → P (U.Gives m) ts
+  tested_fits f = by_test true f
+
+  pub tested_fails : fits m ≡ false → P (U.Refused k) (zeroed (3 * m.triangles) ts)
+  tested_fails f = by_test false f
+
+-- the outcome is that of the test, if there is a model
+pub told_answer : (fits : Model → Bool) (b : Bool) (k : ℕ) (r : Unpacked) → TestTold fits r b
+    → tested_answer k (always b) r ≡ tested_answer k fits r
+told_answer fits b k (U.Gives m) h = ap (λ (t : Bool). elim t as (λ _. Unpacked) [ true ↦ U.Gives m | false ↦ U.Refused k ]) (h m refl)
+told_answer fits b k (U.Refused j) h = refl
+
+-- the first two fields are unpacked, then 23 is tested
+module _ (bytes two : List ℕ) (ps : Given (List ℕ)) (ts : List ℕ) (n : ℕ) (e : parts_of bytes ≡ parts two ps) where
+  parts_on : (r : Unpacked) (ts' : List ℕ) → UnpackedOn two ts n r ts'
+      → UnpackedWholeOn bytes ts n (tested_answer 23 (positions_test ps) r) (tested_triangles (positions_test ps) r ts')
+  unfolding unpack_parts
+  parts_on r ts' h =
+      let w = ap (unpack_parts (lent n ts)) e in
+      let t = tested_on 23 (positions_test ps) ts n (unpack two (lent n ts)) (beyond two (lent n ts)) r ts' h.answer h.triangles in
+      record {
+        answer = t.0 ∙ sym (ap (λ (x : UnpackResult). x.answer) w);
+        triangles = t.1 ∙ sym (ap (λ (x : UnpackResult). x.buffers.triangles) w);
+      }
+
+  pub parts_refused : (k : ℕ) (ts' : List ℕ) → UnpackedOn two ts n (U.Refused k) ts' → UnpackedWholeOn bytes ts n (U.Refused k) ts'
+  parts_refused k ts' h = parts_on (U.Refused k) ts' h
+
+  module _ (m : Model) (ts' : List ℕ) (h : UnpackedOn two ts n (U.Gives m) ts') (b : Bool) (f : b ≡ field_fits m.vertices ps) where
+    pub parts_fit : b ≡ true → UnpackedWholeOn bytes ts n (U.Gives m) ts'
+    parts_fit t = tested_fits 23 (positions_test ps) m ts' (UnpackedWholeOn bytes ts n) (parts_on (U.Gives m) ts' h) (sym f ∙ t)
+
+    pub parts_unfit : b ≡ false → UnpackedWholeOn bytes ts n (U.Refused 23) (zeroed (3 * m.triangles) ts')
+    parts_unfit t = tested_fails 23 (positions_test ps) m ts' (UnpackedWholeOn bytes ts n) (parts_on (U.Gives m) ts' h) (sym f ∙ t)
+
 -- three
 pub three_parts_on : (bytes two bs ts : List ℕ) (n : ℕ) → parts_of bytes ≡ parts two (given bs) → (r : Unpacked) (ts' : List ℕ)
     → UnpackedOn two ts n r ts'
-    → UnpackedWholeOn bytes ts n (tested_answer 23 (positions_test bs) r) (tested_triangles (positions_test bs) r ts')
-unfolding unpack_parts
-three_parts_on bytes two bs ts n e r ts' h =
-    let w = ap (unpack_parts (lent n ts)) e in
-    let t = tested_on 23 (positions_test bs) ts n (unpack two (lent n ts)) (beyond two (lent n ts)) r ts' h.answer h.triangles in
-    record {
-      answer = t.0 ∙ sym (ap (λ (x : UnpackResult). x.answer) w);
-      triangles = t.1 ∙ sym (ap (λ (x : UnpackResult). x.buffers.triangles) w);
-    }
+    → UnpackedWholeOn bytes ts n (tested_answer 23 (positions_test (given bs)) r) (tested_triangles (positions_test (given bs)) r ts')
+three_parts_on bytes two bs ts n e = parts_on bytes two (given bs) ts n e
 
 -- the buffer holds the triangles of an accepted unpacking
-pub room_on : (bytes ts : List ℕ) (n : ℕ) (r : Unpacked) (ts' : List ℕ) → UnpackedOn bytes ts n r ts' → length ts' ≡ length ts
-    → RoomFor r ts'
-room_on bytes ts n (U.Refused k) ts' h l = tt
-room_on bytes ts n (U.Model m) ts' h l =
+pub model_long : (bytes ts : List ℕ) (n : ℕ) (m : Model) (ts' : List ℕ) → UnpackedOn bytes ts n (U.Gives m) ts' → length ts' ≡ length ts
+    → 3 * m.triangles ≤ length ts'
+model_long bytes ts n m ts' h l =
     let u = unpacked_by bytes (lent n ts) m (sym h.answer) in
     let k = leb-true (3 * u.counts.triangles) (length ts) (and_left _ _ u.enough) in
     omega (arith, l, k, ap (λ (x : Model). x.triangles) u.model)
 
--- a test of an accepted unpacking, with the outcome b
-module _ (k : ℕ) (b : Bool) (ts : List ℕ) (r : Unpacked) (m : Model) (e : r ≡ U.Model m) where
-  pub test_passes : b ≡ true → (U.Model m ≡ tested_answer k (always b) r) × (ts ≡ tested_triangles (always b) r ts)
-  test_passes h =
-      subst (λ (x : Unpacked). (U.Model m ≡ tested_answer k (always b) x) × (ts ≡ tested_triangles (always b) x ts)) (sym e) (
-        sym (ap (λ (t : Bool). elim t as (λ _. Unpacked) [ true ↦ U.Model m | false ↦ U.Refused k ]) h),
-        sym (ap (λ (t : Bool). elim t as (λ _. List ℕ) [ true ↦ ts | false ↦ zeroed (3 * m.triangles) ts ]) h),
-      )
-
-  pub test_fails : b ≡ false → (ts' : List ℕ) → ts' ≡ zeroed (3 * m.triangles) ts
-      → (U.Refused k ≡ tested_answer k (always b) r) × (ts' ≡ tested_triangles (always b) r ts)
-  test_fails h ts' z =
-      subst (λ (x : Unpacked). (U.Refused k ≡ tested_answer k (always b) x) × (ts' ≡ tested_triangles (always b) x ts)) (sym e) (
-        sym (ap (λ (t : Bool). elim t as (λ _. Unpacked) [ true ↦ U.Model m | false ↦ U.Refused k ]) h),
-        z ∙ sym (ap (λ (t : Bool). elim t as (λ _. List ℕ) [ true ↦ ts | false ↦ zeroed (3 * m.triangles) ts ]) h),
-      )
-
-pub room_for : (ts : List ℕ) (r : Unpacked) (m : Model) → r ≡ U.Model m → RoomFor r ts → 3 * m.triangles ≤ length ts
-room_for ts r m e h = subst (λ (x : Unpacked). RoomFor x ts) e h
-
--- the outcome is that of the test, if there is a model
-module _ (fits : Model → Bool) (b : Bool) where
-  pub told_answer : (k : ℕ) (r : Unpacked) → TestTold fits r b → tested_answer k (always b) r ≡ tested_answer k fits r
-  told_answer k (U.Model m) h = ap (λ (t : Bool). elim t as (λ _. Unpacked) [ true ↦ U.Model m | false ↦ U.Refused k ]) (h m refl)
-  told_answer k (U.Refused j) h = refl
-
-  pub told_triangles : (r : Unpacked) (ts : List ℕ) → TestTold fits r b → tested_triangles (always b) r ts ≡ tested_triangles fits r ts
-  told_triangles (U.Model m) ts h =
-      ap (λ (t : Bool). elim t as (λ _. List ℕ) [ true ↦ ts | false ↦ zeroed (3 * m.triangles) ts ]) (h m refl)
-  told_triangles (U.Refused j) ts h = refl
-
-  pub refused_told : (r : Unpacked) (k : ℕ) → r ≡ U.Refused k → TestTold fits r b
-  refused_told r k e m f = let q : U.Refused k ≡ U.Model m = sym e ∙ f in let z : ◌≡◌ {A = ℕ} 0 1 = cc in absurd (omega arith)
-
-  pub model_told : (r : Unpacked) (m : Model) → r ≡ U.Model m → b ≡ fits m → TestTold fits r b
-  model_told r m e h n f = let q : U.Model m ≡ U.Model n = sym e ∙ f in let p : m ≡ n = cc in h ∙ ap fits p
-
--- what is answered and left is the definition's
-pub as_told : (bytes ts : List ℕ) (n : ℕ) (r s : Unpacked) (us vs : List ℕ) → UnpackedWholeOn bytes ts n s vs → r ≡ s → us ≡ vs
-    → UnpackedWholeOn bytes ts n r us
-as_told bytes ts n r s us vs h e f = record { answer = ap unpacked_answer e ∙ h.answer; triangles = f ∙ h.triangles }
-
 -- the triangle buffer of an accepted one, past its triangles, whatever the parts
-pub whole_beyond : (bytes ts : List ℕ) (n : ℕ) (m : Model) (ts' : List ℕ) → UnpackedWholeOn bytes ts n (U.Model m) ts'
+pub whole_beyond : (bytes ts : List ℕ) (n : ℕ) (m : Model) (ts' : List ℕ) → UnpackedWholeOn bytes ts n (U.Gives m) ts'
     → drop (3 * m.triangles) ts' ≡ drop (3 * m.triangles) ts
 whole_beyond bytes ts n m ts' h =
     let a = accepts bytes (lent n ts) m (sym h.answer) in
@@ -168,7 +152,7 @@ whole_beyond bytes ts n m ts' h =
     ∙ beyond a.two (lent n ts) m a.accepted
 
 -- the buffer holds the triangles of an accepted one
-pub whole_long : (bytes ts : List ℕ) (n : ℕ) (m : Model) (ts' : List ℕ) → UnpackedWholeOn bytes ts n (U.Model m) ts'
+pub whole_long : (bytes ts : List ℕ) (n : ℕ) (m : Model) (ts' : List ℕ) → UnpackedWholeOn bytes ts n (U.Gives m) ts'
     → 3 * m.triangles ≤ length ts'
 whole_long bytes ts n m ts' h =
     let a = accepts bytes (lent n ts) m (sym h.answer) in
@@ -178,7 +162,3 @@ whole_long bytes ts n m ts' h =
     ap (λ (us : List ℕ). length (take (3 * m.triangles) us)) same ∙ ap length (list_is a.two (lent n ts) m by)
     ∙ length_numbers by.end.triangles ∙ ap (λ (k : ℕ). 3 * k) (triangles_are a.two (lent n ts) m by) in
     omega (arith, e, length-take (3 * m.triangles) ts')
-
-pub whole_room : (bytes ts : List ℕ) (n : ℕ) (r : Unpacked) (ts' : List ℕ) → UnpackedWholeOn bytes ts n r ts' → RoomFor r ts'
-whole_room bytes ts n (U.Refused k) ts' h = tt
-whole_room bytes ts n (U.Model m) ts' h = whole_long bytes ts n m ts' h

@@ -1,6 +1,6 @@
 -- A signed number of 16 bits as an unsigned one.
 -- Assumes nothing.
-use Prim.Native.Nat.{ℕ, suc, ◌+◌, ◌-◌, ◌<◌, ◌^◌}
+use Prim.Native.Nat.{ℕ, suc, ◌-◌, ◌<◌, ◌^◌}
 use native.Mathlib.Nat.{lt_trans}
 use native.Mathlib.Omega.{arith}
 use mathlib.Core.Bool.{Bool, true, false, false≢true, cond}
@@ -95,7 +95,3 @@ by_word z h w b e f = f ∙ ap in_grid (ap signed_of e ∙ signed_16 z h)
 pub test_told : (b : Bool) (zs : List ℤ) (i : ℕ) → mag (get_or zs i (pos 0)) < 2 ^ hbits w16
     → b ≡ in_grid (to_z w16 (of_z w16 (get_or zs i (pos 0)))) → b ≡ in_grid (get_or zs i (pos 0))
 test_told b zs i l e = e ∙ ap in_grid (to_z-of_z {w = w16} {z = get_or zs i (pos 0)} (record { sfits = l }))
-
-pub word_told : (w : ℕ) (zs : List ℤ) (i : ℕ) → mag (get_or zs i (pos 0)) < 2 ^ hbits w16
-    → w ≡ unsigned_of (to_z w16 (of_z w16 (get_or zs i (pos 0)))) → w ≡ unsigned_of (get_or zs i (pos 0))
-word_told w zs i l e = e ∙ ap unsigned_of (to_z-of_z {w = w16} {z = get_or zs i (pos 0)} (record { sfits = l }))

@@ -1,8 +1,8 @@
 -- Packing with what is given besides and n place records, of which only the number counts.
 -- Assumes nothing.
 use Rattle.std.specs.Prelude.{ℕ, ◌+◌, ◌*◌, ◌≤◌, ◌<◌, true, false, List, ◌≡◌, ltb, ℤ, length}
-use Rattle.rules.specs.declared.Packed.{Packed}
-use Rattle.rules.specs.declared.Packed.TheVariants as P
+use Rattle.rules.specs.Packed.{Packed}
+use Rattle.rules.specs.Packed as P
 use Rattle.rules.specs.Buffer.{zeroed}
 use Rattle.rules.specs.Pack.{PackResult}
 use Rattle.rules.specs.Note.{note_fits}

@@ -5,9 +5,9 @@ use Rattle.rules.specs.declared.Counts.{Counts}
 use Rattle.rules.specs.declared.Operation.{Operation}
 use Rattle.rules.specs.declared.Place.{Place}
 use Rattle.rules.specs.declared.Builder.{Builder}
-use Rattle.rules.specs.declared.Begun.{Begun}
-use Rattle.rules.specs.declared.Performed.{Performed}
-use Rattle.rules.specs.declared.Finished.{Finished}
+use Rattle.rules.specs.Begun.{Begun}
+use Rattle.rules.specs.Operated.{Performed}
+use Rattle.rules.specs.Finished.{Finished}
 use Rattle.rules.specs.Limits.{max_places}
 use Rattle.rules.specs.Triangle.{corners, edges_of}
 use Rattle.rules.specs.Count.{different, pairs}

@@ -6,14 +6,14 @@ use Rattle.rules.specs.declared.Counts.{Counts}
 use Rattle.rules.specs.declared.Operation.{Operation}
 use Rattle.rules.specs.declared.Place.{Place}
 use Rattle.rules.specs.declared.Builder.{Builder}
-use Rattle.rules.specs.declared.Checked.{Checked}
-use Rattle.rules.specs.declared.Packed.{Packed}
-use Rattle.rules.specs.declared.Unpacked.{Unpacked}
-use Rattle.rules.specs.declared.Benched.{Benched}
-use Rattle.rules.specs.declared.Measured.{Measured}
-use Rattle.rules.specs.declared.Begun.{Begun}
-use Rattle.rules.specs.declared.Performed.{Performed}
-use Rattle.rules.specs.declared.Finished.{Finished}
+use Rattle.rules.specs.Checked.{Checked}
+use Rattle.rules.specs.Packed.{Packed}
+use Rattle.rules.specs.Unpacked.{Unpacked}
+use Rattle.rules.specs.Benched.{Benched}
+use Rattle.rules.specs.Measured.{Measured}
+use Rattle.rules.specs.Begun.{Begun}
+use Rattle.rules.specs.Operated.{Performed}
+use Rattle.rules.specs.Finished.{Finished}
 use Rattle.rules.specs.Answer.{checked_answer, packed_answer, unpacked_answer, begun_answer, operated_answer, finished_answer}
 use Rattle.rules.specs.Book.{answer_of}
 use Rattle.rules.specs.Buffer.{Buffers}

@@ -2,7 +2,10 @@
 -- Assumes nothing.
 use Prim.Native.Nat.{ℕ, suc, ◌<◌}
 use mathlib.Core.List.{List, [], ◌∷◌, ◌++◌}
-use mathlib.Core.Path.{◌≡◌, refl, sym, ap, subst}
+use mathlib.Core.Path.{◌≡◌, refl, sym, ap, ◌∙◌, subst}
+use Rattle.std.specs.Prelude.{Result, Ok, Err}
+use Rattle.std.specs.Result.{result_unwrap_or}
+use Rattle.rules.specs.declared.refusal.Refusal.{Refusal}
 use lib.ListN.{length, take, get_or}
 use lib.Seq.{take-suc, take-length}
 use Rattle.rules.specs.declared.Counts.{Counts}
@@ -10,16 +13,16 @@ use Rattle.rules.specs.declared.Operation.{Operation}
 use Rattle.rules.specs.declared.Operation.TheVariants.{New}
 use Rattle.rules.specs.declared.Place.{Place}
 use Rattle.rules.specs.declared.Builder.{Builder}
-use Rattle.rules.specs.declared.Checked.{Checked}
-use Rattle.rules.specs.declared.Checked.TheVariants.{Accepted, Refused}
-use Rattle.rules.specs.declared.Begun.{Begun}
-use Rattle.rules.specs.declared.Performed.{Performed}
-use Rattle.rules.specs.declared.Finished.{Finished}
+use Rattle.rules.specs.Checked.{Checked}
+use Rattle.rules.specs.Checked.{Accepted, Refused}
+use Rattle.rules.specs.Begun.{Begun}
+use Rattle.rules.specs.Operated.{Performed}
+use Rattle.rules.specs.Finished.{Finished}
 use Rattle.rules.specs.Answer.{Answer, begun_answer, operated_answer, finished_answer}
 use Rattle.rules.specs.Book.{Call, begin, operate, finish}
 use Rattle.rules.specs.Calls.{last_state}
 use Rattle.rules.specs.Buffer.{Buffers}
-use Rattle.rules.specs.Build.{empty_builder, BegunBy}
+use Rattle.rules.specs.Build.{empty_builder, begun_of, BegunBy}
 use Rattle.promises.specs.Promises.{lent_to, Beginning, Operating, Finishing}
 use Rattle.promises.specs.BuildersBook.{World, Called, Run}
 use Rattle.rehearsal.specs.Rehearsal.{operations, world, lent_world, Rehearsed}
@@ -75,6 +78,11 @@ reached_first s ts ps r ts' ps' h = record {
     answers = refl;
   };
 }
+
+-- the state that a beginning gives; of a refused one the builder that was never begun
+pub begun_state : (x : Result Builder Refusal) (d b : Builder) → d ≡ empty_builder → b ≡ result_unwrap_or x d → b ≡ (begun_of x).state
+begun_state (Ok a) d b h e = e
+begun_state (Err k) d b h e = e ∙ h
 
 operations_more : (os : List Operation) (o : Operation) → operations os ++ (operate o ∷ []) ≡ operations (os ++ (o ∷ []))
 unfolding operations

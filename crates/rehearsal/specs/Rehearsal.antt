@@ -6,7 +6,7 @@ use Rattle.rules.specs.declared.Operation.{Operation}
 use Rattle.rules.specs.declared.Operation.TheVariants.{New, Forward, Close, Start}
 use Rattle.rules.specs.declared.Place.{Place}
 use Rattle.rules.specs.declared.Builder.{Builder}
-use Rattle.rules.specs.declared.Finished.{Finished}
+use Rattle.rules.specs.Finished.{Finished}
 use Rattle.rules.specs.Limits.{max_places, in_range}
 use Rattle.rules.specs.Answer.{Answer, numbers, finished_answer}
 use Rattle.rules.specs.Book.{Call, begin, operate, finish, Book, empty_book, answer}

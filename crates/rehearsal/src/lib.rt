@@ -3,45 +3,27 @@
 // The contract cites specs/Rehearsal.antt.
 #![tactic(auto)]
 
-ghost use Rattle.std.specs.Prelude.{◌≡◌};
+ghost use Rattle.rules.specs.Finished.{finished_of};
 ghost use Rattle.rehearsal.specs.Rehearsal.{Rehearsed};
 
-use rules::{Begun, Builder, Counts, Finished, Operation, Performed, Place};
+use rules::refusal::Refusal;
+use rules::{Builder, Counts, Operation, Place, Totals};
 use service::{begin, finish, operation};
 
-// The state that a beginning gave.
-fn begun_state(b: Begun) -> Builder
-    ensures { result ≡ b.state }
-{
-    b.state
-}
-
-// The state that an operation gave.
-fn performed_state(p: Performed) -> Builder
-    ensures { result ≡ p.state }
-{
-    p.state
-}
-
 // Begins with the counts stated, does these operations one after the other, whatever is answered, and finishes: the answer is the
-// finish's.
+// finish's. After a refused beginning the state is the builder that was never begun.
 pub fn rehearse(
     stated: Counts,
     ops: &[Operation],
     triangles: &mut [u16],
     places: &mut [Place],
-) -> Finished
-    ensures { Rehearsed stated ops.now triangles.old places.old result triangles.new
+) -> Result<Totals, Refusal>
+    ensures { Rehearsed stated ops.now triangles.old places.old (finished_of result) triangles.new
         places.new }
 {
-    let n = ops.len();
-    let begun = begin(stated, triangles, places);
-    let mut state = begun_state(begun);
-    let mut i = 0;
-    while i < n {
-        let performed = operation(state, ops[i], triangles, places);
-        state = performed_state(performed);
-        i += 1;
+    let mut state = begin(stated, triangles, places).unwrap_or(Builder::empty());
+    for &op in ops {
+        let _answer = operation(&mut state, op, triangles, places);
     }
     finish(state, triangles, places)
 }

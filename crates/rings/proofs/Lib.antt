@@ -1,0 +1,2 @@
+-- A walk of one place more.
+mod Steps

@@ -14,7 +14,7 @@ use Rattle.rules.specs.declared.Counts.{Counts}
 use Rattle.rules.specs.declared.Place.{Place}
 use Rattle.rules.specs.declared.Model.{Model}
 use Rattle.rules.specs.declared.Operation.{Operation}
-use Rattle.rules.specs.declared.Checked.TheVariants.{Accepted}
+use Rattle.rules.specs.Checked.{Accepted}
 use Rattle.rules.specs.Triangle.{tri, triangles_of, at_p}
 use Rattle.rules.specs.Limits.{max_places}
 use Rattle.rules.specs.Fan.{one_fan_each}

@@ -9,7 +9,7 @@ use lib.ListN.{length, length-append}
 use Rattle.rules.specs.declared.Triangle.{Triangle}
 use Rattle.rules.specs.declared.Operation.{Operation}
 use Rattle.rules.specs.declared.Operation.TheVariants.{New, Forward, Backward, Border, Split, Close, Union, Start}
-use Rattle.rules.specs.declared.Checked.TheVariants.{Accepted}
+use Rattle.rules.specs.Checked.{Accepted}
 use Rattle.rules.specs.Limits.{min_vertices, max_vertices, max_triangles, min_places, max_places, max_loops, between, vertex_range}
 use Rattle.rules.specs.Limits.{in_range}
 use Rattle.rules.specs.Triangle.{triangles_of}

@@ -11,7 +11,7 @@ use lib.Dec.{leb}
 use Rattle.rules.specs.declared.Triangle.{Triangle}
 use Rattle.rules.specs.declared.Operation.{Operation}
 use Rattle.rules.specs.declared.Operation.TheVariants.{New}
-use Rattle.rules.specs.declared.Across.TheVariants.{Found}
+use Rattle.rules.specs.Across.{Found}
 use Rattle.rules.specs.Triangle.{tri, triangles_of, In}
 use Rattle.rules.specs.Across.{across}
 use Rattle.rules.specs.Ring.{Node, Ring, vertex, is_open, start_or, reached, places, loop_at}

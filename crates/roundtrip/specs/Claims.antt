@@ -6,9 +6,9 @@ use Rattle.rules.specs.declared.Operation.{Operation}
 use Rattle.rules.specs.declared.Counts.{Counts}
 use Rattle.rules.specs.declared.Model.{Model}
 use Rattle.rules.specs.declared.Totals.{Totals}
-use Rattle.rules.specs.declared.Across.TheVariants.{Found}
+use Rattle.rules.specs.Across.{Found}
 use Rattle.rules.specs.declared.Place.{Place}
-use Rattle.rules.specs.declared.Checked.TheVariants.{Accepted}
+use Rattle.rules.specs.Checked.{Accepted}
 use Rattle.rules.specs.Limits.{max_places}
 use Rattle.rules.specs.Triangle.{tri, Edge, triangles_of, corners, Rot, In}
 use Rattle.rules.specs.Count.{different}

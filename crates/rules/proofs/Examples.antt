@@ -13,7 +13,7 @@ use borrow.Author.Tests.{eqb-true}
 use Rattle.rules.specs.declared.Triangle.{Triangle}
 use Rattle.rules.specs.declared.Builder.{Builder}
 use Rattle.rules.specs.declared.Operation.TheVariants.{Start}
-use Rattle.rules.specs.declared.Checked.TheVariants.{Accepted, Refused}
+use Rattle.rules.specs.Checked.{Accepted, Refused}
 use Rattle.rules.specs.Triangle.{tri, edge, edges_of, at_p, at_q, at_r, here, there, Free}
 use Rattle.rules.specs.Limits.{max_places}
 use Rattle.rules.specs.Count.{num, same, hit, occurs, count}

@@ -1,14 +1,13 @@
 -- Models, packs and lists of calls that pin the rules, with the answers of the second program: one table, by computation.
 -- Written by tests/definitions, never by hand; Bench has M1 to M10 as the rules write them, States the states of 21.
 -- Assumes nothing.
-use Prim.Native.Nat.{ℕ}
-use mathlib.Core.Bool.{Bool, true, false, ◌&&◌}
+use mathlib.Core.Bool.{true, false, ◌&&◌}
 use mathlib.Core.List.{List, [], ◌∷◌, ◌++◌}
 use lib.ListN.{replicate}
 use lib.Dec.{T}
 use lib.IntN.{pos, negsuc}
 use Rattle.rules.specs.declared.Operation.TheVariants.{New, Forward, Backward, Border, Split, Close, Union, Start}
-use Rattle.rules.specs.declared.Melted.TheVariants.{Six, Refused}
+use Rattle.rules.specs.Melted.{Six, Refused}
 use Rattle.rules.specs.Triangle.{tri}
 use Rattle.rules.specs.Answer.{refusal, accepted, triangle, no_triangle, numbers, packed}
 use Rattle.rules.specs.Book.{begin, operate, finish}

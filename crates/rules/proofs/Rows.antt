@@ -10,10 +10,10 @@ use lib.IntN.{ℤ, pos, negsuc}
 use Rattle.rules.specs.declared.Counts.{Counts}
 use Rattle.rules.specs.declared.Place.{Place}
 use Rattle.rules.specs.declared.Totals.{Totals}
-use Rattle.rules.specs.declared.Across.{Across}
-use Rattle.rules.specs.declared.Across.TheVariants.{Found, Nothing}
-use Rattle.rules.specs.declared.Melted.{Melted}
-use Rattle.rules.specs.declared.Melted.TheVariants.{Six, Refused}
+use Rattle.rules.specs.Across.{Across}
+use Rattle.rules.specs.Across.{Found, Nothing}
+use Rattle.rules.specs.Melted.{Melted}
+use Rattle.rules.specs.Melted.{Six, Refused}
 use Rattle.rules.specs.Triangle.{Edge, triangles_of}
 use Rattle.rules.specs.Count.{num}
 use Rattle.rules.specs.Ring.{Ring, vertex, is_open}

@@ -1,9 +1,18 @@
 -- The triangle that has a directed edge.
 -- Assumes nothing.
-use Rattle.std.specs.Prelude.{ℕ, suc, true, false, ◌&&◌, List, [], ◌∷◌, eqb}
+use Rattle.std.specs.Prelude.{ℕ, suc, Option, Some, None, true, false, ◌&&◌, List, [], ◌∷◌, eqb}
 use Rattle.rules.specs.declared.Triangle.{Triangle}
-use Rattle.rules.specs.declared.Across.{Across}
-use Rattle.rules.specs.declared.Across.TheVariants.{Found, Nothing}
+use Rattle.rules.specs.declared.Opposite.{Opposite}
+
+-- where a directed edge is: the number of the triangle, the corner that the edge does not touch, and the vertex there
+pub data Across : Type 0 where
+  Found : ℕ → ℕ → ℕ → Across
+  Nothing : Across
+
+-- what a result of the code stands for
+abbrev pub across_of : Option Opposite → Across
+across_of (Some x) = Found x.triangle x.corner x.vertex
+across_of None = Nothing
 
 -- x→y in one triangle, as the list's first
 unfoldable pub in_triangle : ℕ → ℕ → Triangle → Across

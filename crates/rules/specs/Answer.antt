@@ -4,17 +4,17 @@ use Rattle.std.specs.Prelude.{ℕ}
 use Rattle.rules.specs.declared.Triangle.{Triangle}
 use Rattle.rules.specs.declared.Totals.{Totals}
 use Rattle.rules.specs.declared.Model.{Model}
-use Rattle.rules.specs.declared.Checked.{Checked}
-use Rattle.rules.specs.declared.Checked.TheVariants.{Accepted, Refused}
-use Rattle.rules.specs.declared.Packed.{Packed}
-use Rattle.rules.specs.declared.Packed.TheVariants as P
-use Rattle.rules.specs.declared.Unpacked.{Unpacked}
-use Rattle.rules.specs.declared.Unpacked.TheVariants as U
-use Rattle.rules.specs.declared.Begun.{Begun}
-use Rattle.rules.specs.declared.Operated.{Operated}
-use Rattle.rules.specs.declared.Operated.TheVariants as O
-use Rattle.rules.specs.declared.Finished.{Finished}
-use Rattle.rules.specs.declared.Finished.TheVariants as F
+use Rattle.rules.specs.Checked.{Checked}
+use Rattle.rules.specs.Checked.{Accepted, Refused}
+use Rattle.rules.specs.Packed.{Packed}
+use Rattle.rules.specs.Packed as P
+use Rattle.rules.specs.Unpacked.{Unpacked}
+use Rattle.rules.specs.Unpacked as U
+use Rattle.rules.specs.Begun.{Begun}
+use Rattle.rules.specs.Operated.{Operated}
+use Rattle.rules.specs.Operated as O
+use Rattle.rules.specs.Finished.{Finished}
+use Rattle.rules.specs.Finished as F
 
 pub data Answer : Type 0 where
   -- a refusal, by its number
@@ -44,7 +44,7 @@ operated_answer O.Marked = no_triangle
 operated_answer (O.Refused n) = refusal n
 
 abbrev pub finished_answer : Finished → Answer
-finished_answer (F.Totals x) = numbers x
+finished_answer (F.Gives x) = numbers x
 finished_answer (F.Refused n) = refusal n
 
 abbrev pub packed_answer : Packed → Answer
@@ -52,5 +52,5 @@ packed_answer (P.Length n) = packed n
 packed_answer (P.Refused n) = refusal n
 
 abbrev pub unpacked_answer : Unpacked → Answer
-unpacked_answer (U.Model m) = unpacked m
+unpacked_answer (U.Gives m) = unpacked m
 unpacked_answer (U.Refused n) = refusal n

@@ -1,14 +1,17 @@
 -- The building calls on any state and any lent buffers: 21 before 15 to 20, and what each call leaves behind.
 -- Assumes nothing.
-use Rattle.std.specs.Prelude.{ℕ, ◌+◌, ◌-◌, ◌*◌, ◌≤◌, ◌<◌, true, false, List, [], ◌∷◌, ◌++◌, ◌≡◌, length, take, drop, replicate}
+use Rattle.std.specs.Prelude.{Result, Ok, Err, ℕ, ◌+◌, ◌-◌, ◌*◌, ◌≤◌, ◌<◌, true, false, List, [], ◌∷◌, ◌++◌, ◌≡◌, length, take, drop}
+use Rattle.std.specs.Prelude.{replicate}
 use Rattle.rules.specs.declared.Triangle.{Triangle}
 use Rattle.rules.specs.declared.Counts.{Counts}
 use Rattle.rules.specs.declared.Operation.{Operation}
 use Rattle.rules.specs.declared.Place.{Place}
 use Rattle.rules.specs.declared.Builder.{Builder}
-use Rattle.rules.specs.declared.Begun.{Begun}
-use Rattle.rules.specs.declared.Checked.{Checked}
-use Rattle.rules.specs.declared.Checked.TheVariants.{Accepted, Refused}
+use Rattle.rules.specs.declared.refusal.Refusal.{Refusal}
+use Rattle.rules.specs.Refusal.{number_of}
+use Rattle.rules.specs.Begun.{Begun}
+use Rattle.rules.specs.Checked.{Checked}
+use Rattle.rules.specs.Checked.{Accepted, Refused}
 use Rattle.rules.specs.Limits.{max_places, max_loops}
 use Rattle.rules.specs.Machine.{Machine, Step, refused, begun, built, declared, finished, beginning, operation, finishing}
 use Rattle.rules.specs.Buffer.{free_place, cleared, Buffers, lengths}
@@ -50,6 +53,11 @@ begun_builder s = record {
 -- the builder that was never begun
 abbrev pub empty_builder : Builder
 empty_builder = begun_builder (record { vertices = 0; triangles = 0; places = 0; loops = 0 })
+
+-- what a result of the code stands for: a refusal, for the empty builder
+abbrev pub begun_of : Result Builder Refusal → Begun
+begun_of (Ok b) = record { state = b; answer = Accepted }
+begun_of (Err e) = record { state = empty_builder; answer = Refused (number_of e) }
 
 -- an accepted beginning leaves the first 1,024 place records zero and the triangle buffer untouched
 abbrev pub begun_buffers : Buffers → Buffers

@@ -4,8 +4,8 @@
 use Rattle.std.specs.Prelude.{ℕ, zero, suc, Bool, true, false, ◌&&◌, List, length, eqb, leb}
 use Rattle.rules.specs.declared.Counts.{Counts}
 use Rattle.rules.specs.declared.Operation.{Operation}
-use Rattle.rules.specs.declared.Melted.{Melted}
-use Rattle.rules.specs.declared.Melted.TheVariants.{Six, Refused}
+use Rattle.rules.specs.Melted.{Melted}
+use Rattle.rules.specs.Melted.{Six, Refused}
 use Rattle.rules.specs.Limits.{furnace_places, furnace_loops, in_range}
 use Rattle.rules.specs.Table.{Effect, not_allowed, builds, marks, effect}
 use Rattle.rules.specs.Machine.{Machine, empty, after_build, after_mark, Step, refused, begun, built, declared, finished, test, within}

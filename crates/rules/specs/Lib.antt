@@ -209,6 +209,16 @@ pub mod Places
 pub mod Buffer
 pub mod Machine
 pub mod Answer
+pub mod Refusal
+pub mod Checked
+pub mod Packed
+pub mod Unpacked
+pub mod Measured
+pub mod Melted
+pub mod Begun
+pub mod Operated
+pub mod Finished
+pub mod Benched
 pub mod Book
 pub mod Calls
 pub mod Bits

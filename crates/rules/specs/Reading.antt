@@ -2,8 +2,8 @@
 -- Assumes nothing.
 use Rattle.std.specs.Prelude.{ℕ, ◌+◌, ◌*◌, true, false, List, [], ℤ, length, take, eqb}
 use Rattle.rules.specs.declared.Model.{Model}
-use Rattle.rules.specs.declared.Measured.{Measured}
-use Rattle.rules.specs.declared.Measured.TheVariants as M
+use Rattle.rules.specs.Measured.{Measured}
+use Rattle.rules.specs.Measured as M
 use Rattle.rules.specs.Triangle.{triangles_of}
 use Rattle.rules.specs.Answer.{Answer, refusal, unpacked}
 use Rattle.rules.specs.Buffer.{Buffers}

@@ -2,6 +2,8 @@
 // lend too, place records and builders, lies in memory as C lays it out (`repr(C)`).
 #![tactic(auto)]
 
+pub mod refusal; // why a call is refused
+
 ghost use Rattle.std.specs.Prelude.{◌≡◌};
 ghost use Rattle.rules.specs.Build.{empty_builder};
 
@@ -21,7 +23,7 @@ pub const FURNACE_PLACES: usize = 200;
 pub const FURNACE_LOOPS: usize = 12;
 
 // A triangle p q r has the directed edges p→q, q→r and r→p.
-#[derive(Clone, Copy)]
+#[derive(Clone, Copy, Debug, PartialEq, Eq)]
 pub struct Triangle {
     pub p: u16,
     pub q: u16,
@@ -29,7 +31,7 @@ pub struct Triangle {
 }
 
 // Where a vertex is.
-#[derive(Clone, Copy)]
+#[derive(Clone, Copy, Debug, PartialEq, Eq)]
 pub struct Point {
     pub x: i64,
     pub y: i64,
@@ -38,7 +40,7 @@ pub struct Point {
 
 // The counts that a pack or a beginning states.
 #[repr(C)]
-#[derive(Clone, Copy)]
+#[derive(Clone, Copy, Debug, PartialEq, Eq)]
 pub struct Counts {
     pub vertices: u16,
     pub triangles: u16,
@@ -47,7 +49,7 @@ pub struct Counts {
 }
 
 // The eight operations, with their indices.
-#[derive(Clone, Copy)]
+#[derive(Clone, Copy, Debug, PartialEq, Eq)]
 pub enum Operation {
     New,
     Forward,
@@ -63,7 +65,7 @@ pub enum Operation {
 // whether its edge to the next place is open (else it is marked as border). A record that is no place may hold anything where a
 // state is lent; in a model begun here it is zero.
 #[repr(C)]
-#[derive(Clone, Copy)]
+#[derive(Clone, Copy, Debug, PartialEq, Eq)]
 pub struct Place {
     pub vertex: u16,
     pub before: u16,
@@ -73,7 +75,7 @@ pub struct Place {
 
 // The most places and the most live loops so far.
 #[repr(C)]
-#[derive(Clone, Copy)]
+#[derive(Clone, Copy, Debug, PartialEq, Eq)]
 pub struct Peaks {
     pub places: u16,
     pub loops: u16,
@@ -82,7 +84,7 @@ pub struct Peaks {
 // A model that is being built. Of the live loops the current one stands at `live - 1`, the latest waiting one before it,
 // and so on: `current` has the place where a loop's current edge starts, `sizes` how many places it has.
 #[repr(C)]
-#[derive(Clone, Copy)]
+#[derive(Clone, Copy, Debug, PartialEq, Eq)]
 pub struct Builder {
     pub stated: Counts,
     pub used: u16,
@@ -134,7 +136,7 @@ impl Builder {
 }
 
 // What a finish gives.
-#[derive(Clone, Copy)]
+#[derive(Clone, Copy, Debug, PartialEq, Eq)]
 pub struct Totals {
     pub edges: u16,
     pub rims: u16,
@@ -143,91 +145,40 @@ pub struct Totals {
 }
 
 // What an unpacking gives.
-#[derive(Clone, Copy)]
+#[derive(Clone, Copy, Debug, PartialEq, Eq)]
 pub struct Model {
     pub vertices: u16,
     pub triangles: u16,
     pub totals: Totals,
 }
 
-// Where a directed edge is: the number of the triangle, the corner that the edge does not touch, and the vertex there.
-#[derive(Clone, Copy)]
-pub enum Across {
-    Found(u16, u8, u16),
-    Nothing,
+/// Where a directed edge is: the number of the triangle that has it, the corner that the edge does not
+/// touch, and the vertex there.
+#[derive(Clone, Copy, Debug, PartialEq, Eq)]
+pub struct Opposite {
+    pub triangle: u16,
+    pub corner: u8,
+    pub vertex: u16,
 }
 
-// The answers of the calls.
-#[derive(Clone, Copy)]
-pub enum Checked {
-    Accepted,
-    Refused(u8),
-}
-
-#[derive(Clone, Copy)]
-pub enum Packed {
-    Length(u32),
-    Refused(u8),
-}
-
-#[derive(Clone, Copy)]
-pub enum Unpacked {
-    Model(Model),
-    Refused(u8),
-}
-
-// The bench reader tells besides where the note stands in the pack and how many bytes it has, twice 0 if there is none.
-#[derive(Clone, Copy)]
-pub struct Benched {
-    pub answer: Unpacked,
+/// A part of the pack that was lent: from which byte on, and how many bytes.
+#[derive(Clone, Copy, Debug, PartialEq, Eq)]
+pub struct Span {
     pub start: usize,
     pub length: usize,
 }
 
-// The same, with the note as a part of the pack that was lent.
+/// What the bench reader gives: the model, and where in the pack its note stands, if it has one.
+#[derive(Clone, Copy, Debug, PartialEq, Eq)]
+pub struct Located {
+    pub model: Model,
+    pub note: Option<Span>,
+}
+
+/// The same, with the note as a part of the pack that was lent, empty if there is none. (No `Option`: a note that is there is not
+/// empty, and what is handed back is always a part of the pack.)
 #[derive(Clone, Copy)]
 pub struct Noted<'a> {
-    pub answer: Unpacked,
+    pub model: Model,
     pub note: &'a [u8],
-}
-
-// The volume call gives six times the volume besides.
-#[derive(Clone, Copy)]
-pub enum Measured {
-    Volume(Model, i64),
-    Refused(u8),
-}
-
-// The furnace's own reader gives six times the volume alone.
-#[derive(Clone, Copy)]
-pub enum Melted {
-    Six(i64),
-    Refused(u8),
-}
-
-// A beginning gives the state of the model that is begun; a refused one gives the empty builder, and the old model goes on.
-#[derive(Clone, Copy)]
-pub struct Begun {
-    pub state: Builder,
-    pub answer: Checked,
-}
-
-#[derive(Clone, Copy)]
-pub enum Operated {
-    Built(Triangle),
-    Marked,
-    Refused(u8),
-}
-
-// An operation gives the state back, changed or as it was.
-#[derive(Clone, Copy)]
-pub struct Performed {
-    pub state: Builder,
-    pub answer: Operated,
-}
-
-#[derive(Clone, Copy)]
-pub enum Finished {
-    Totals(Totals),
-    Refused(u8),
 }

@@ -7,9 +7,9 @@ use mathlib.Core.List.{List}
 use mathlib.Core.Path.{◌≡◌, refl, ap, ◌∙◌}
 use lib.Dec.{leb}
 use borrow.Author.Tests.{leb-false}
-use Rattle.rules.specs.declared.Across.{Across}
-use Rattle.rules.specs.declared.Checked.{Checked}
-use Rattle.rules.specs.declared.Checked.TheVariants.{Refused}
+use Rattle.rules.specs.Across.{Across}
+use Rattle.rules.specs.Checked.{Checked}
+use Rattle.rules.specs.Checked.{Refused}
 use Rattle.rules.specs.Triangle.{triangles_of}
 use Rattle.rules.specs.Across.{across}
 use Rattle.rules.specs.Check.{check}

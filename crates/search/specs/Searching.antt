@@ -1,10 +1,10 @@
 -- What the two functions promise: a list is linked, then searched.
 -- Assumes nothing.
 use Rattle.std.specs.Prelude.{ℕ, true, false, List, [], ◌∷◌, ◌≡◌, length, leb}
-use Rattle.rules.specs.declared.Across.{Across}
-use Rattle.rules.specs.declared.Across.TheVariants.{Found, Nothing}
-use Rattle.rules.specs.declared.Checked.{Checked}
-use Rattle.rules.specs.declared.Checked.TheVariants.{Accepted, Refused}
+use Rattle.rules.specs.Across.{Across}
+use Rattle.rules.specs.Across.{Found, Nothing}
+use Rattle.rules.specs.Checked.{Checked}
+use Rattle.rules.specs.Checked.{Accepted, Refused}
 use Rattle.rules.specs.Check.{check}
 use Rattle.mesh_theory.specs.Fans.Passing.{PassesFour}
 use Rattle.mesh_theory.specs.Fans.Search.{Searched}

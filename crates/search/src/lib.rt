@@ -6,17 +6,16 @@ ghost use Rattle.search.specs.Searching.{LinkGives, SearchGives};
 
 use corners::{Links, across, link_each};
 use mesh::check_numbers;
-use rules::{Across, CORNERS, Checked, VERTICES};
+use rules::{CORNERS, VERTICES};
 
 // Links a list of a model of v vertices, for searching: refusals 1 to 4.
 #[unsafe(no_mangle)]
 pub extern "C" fn cutborder_link(v: usize, list: &[u16], links: &mut Links) -> u32
     ensures { LinkGives v list.now links.old result links.new }
 {
-    let first = check_numbers(v, list);
-    match first {
-        Checked::Refused(n) => n as u32,
-        Checked::Accepted => {
+    match check_numbers(v, list) {
+        Err(refusal) => u32::from(refusal.number()),
+        Ok(()) => {
             *links = [0u16; VERTICES + CORNERS];
             link_each(list, links);
             0
@@ -36,12 +35,9 @@ pub extern "C" fn cutborder_search(
 ) -> u32
     ensures { SearchGives list.now links.now p q found.old result found.new }
 {
-    let a = across(list, links, p, q);
-    match a {
-        Across::Found(n, k, z) => {
-            *found = [n, k as u16, z];
-            1
-        }
-        Across::Nothing => 0,
-    }
+    let Some(x) = across(list, links, p, q) else {
+        return 0;
+    };
+    *found = [x.triangle, u16::from(x.corner), x.vertex];
+    1
 }

@@ -2,19 +2,17 @@
 -- Assumes nothing.
 use Prim.Native.Nat.{ℕ, ◌+◌, ◌≤◌, ◌<◌}
 use native.Mathlib.Omega.{arith}
-use mathlib.Core.List.{List}
-use mathlib.Core.Path.{◌≡◌, sym, ap, ◌∙◌, subst}
+use mathlib.Core.List.{List, []}
+use mathlib.Core.Path.{◌≡◌, refl, sym, ap, ◌∙◌, subst}
 use lib.ListN.{length, take, drop}
 use Rattle.rules.specs.declared.Counts.{Counts}
 use Rattle.rules.specs.declared.Place.{Place}
-use Rattle.rules.specs.declared.Operation.{Operation}
 use Rattle.rules.specs.declared.Builder.{Builder}
-use Rattle.rules.specs.declared.Unpacked.{Unpacked}
-use Rattle.rules.specs.declared.Benched.{Benched}
-use Rattle.rules.specs.declared.Measured.{Measured}
-use Rattle.rules.specs.declared.Begun.{Begun}
-use Rattle.rules.specs.declared.Performed.{Performed}
-use Rattle.rules.specs.declared.Finished.{Finished}
+use Rattle.rules.specs.Unpacked.{Unpacked, Refused}
+use Rattle.rules.specs.Benched.{Benched}
+use Rattle.rules.specs.Measured.{Measured}
+use Rattle.rules.specs.Begun.{Begun}
+use Rattle.rules.specs.Finished.{Finished}
 use Rattle.rules.specs.Answer.{Answer, unpacked_answer}
 use Rattle.rules.specs.Note.{take_note}
 use Rattle.rules.specs.UnpackWhole.{model_in}
@@ -22,12 +20,11 @@ use Rattle.rules.specs.Reading.{unpack_noted, measured_answer, volume, handed_ba
 use Rattle.rules.specs.Book.{answer_of}
 use Rattle.border_theory.specs.Memory.Layout.{open_of}
 use Rattle.border_theory.specs.Records.Lent.{lent}
-use Rattle.border_theory.specs.Records.Notes.{linked_all, freed_all}
 use Rattle.border_theory.specs.Records.Changes.{cleared_to}
 use Rattle.border_theory.proofs.Records.Reading.{counted, memory_of}
 use Rattle.border_theory.proofs.Records.Counting.{count_within}
 use Rattle.border_theory.proofs.Records.Clearing.{Clears}
-use Rattle.promises.specs.Promises.{lent_to, Unpacks, Measures, Tells, HandsBack, further, Beginning, Operating, Finishing}
+use Rattle.promises.specs.Promises.{lent_to, Unpacks, Measures, Tells, HandsBack, further, Beginning, Finishing}
 use Rattle.unpack_theory.specs.Lent.{cleared_by}
 use Rattle.unpack_theory.proofs.Lending.{Alike}
 use Rattle.unpack_theory.proofs.Cleared.{cleared_after, cleared_by_lem}
@@ -37,10 +34,9 @@ use Rattle.notes_theory.specs.Unpacking.{UnpackedNotedOn, MeasuredOn, BenchedOn,
 use Rattle.notes_theory.proofs.Lending.{lend_unpack, lend_volume, unpack_noted_clears, volume_clears}
 use Rattle.notes_theory.proofs.Reading.{the_note_is_a_part_of_the_pack}
 use Rattle.state_theory.proofs.Reading.Flags.{loaded_open}
-use Rattle.state_theory.specs.Finishing.Core.{BeginsOn, FinishesOn, cleared_by as clearedBegun}
+use Rattle.state_theory.specs.Finishing.Core.{BeginsOn, FinishesOn, refused_by, cleared_by as clearedBegun}
 use Rattle.state_theory.proofs.Finishing.Lifting.{begins_lifted}
-use Rattle.state_theory.specs.Performing.Core.{OperatesOn}
-use Rattle.state_theory.proofs.Performing.Lifting.{operates_lent, finishes_same}
+use Rattle.state_theory.proofs.Performing.Lifting.{finishes_same}
 
 module _ (bytes ts : List ℕ) (ps : List Place) (r : Unpacked) (ts' : List ℕ) (p : UnpackedNotedOn bytes ts (counted ps) r ts') where
   unpacks_same : Alike (unpack_noted bytes (lent_to ts ps)) (unpack_noted bytes (lent (counted ps) ts))
@@ -110,6 +106,10 @@ module _ (bytes ts : List ℕ) (ps : List Place) (b : Benched) (ts' : List ℕ) 
         places = u.places;
       }
 
+-- the place where the pack begins
+pub further_none : (p : ℕ × ℕ) → p ≡ further 0 p
+further_none p = let e : p.1 ≡ 0 + p.1 = omega arith in ap (λ (n : ℕ). (p.0, n)) e
+
 -- the note that it tells of, as a part of the pack
 module _ (bytes ts : List ℕ) (ps : List Place) (b : Benched) (ts' : List ℕ) (ps' : List Place) (t : Tells bytes ts ps b ts' ps') where
   pub note_within : b.start + b.length ≤ length bytes
@@ -127,6 +127,12 @@ module _ (bytes ts : List ℕ) (ps : List Place) (b : Benched) (ts' : List ℕ) 
     places = t.places;
   }
 
+-- none is handed back of a pack that is refused
+pub hands_none : (bytes ts : List ℕ) (ps : List Place) (k : ℕ) (ts' : List ℕ) (ps' : List Place) (p : ℕ × ℕ)
+    → Tells bytes ts ps (record { answer = Refused k; start = 0; length = 0 }) ts' ps' → HandsBack bytes p ts ps (Refused k) [] p ts' ps'
+hands_none bytes ts ps k ts' ps' p t =
+    hands_back bytes ts ps (record { answer = Refused k; start = 0; length = 0 }) ts' ps' t p p [] (refl, further_none p)
+
 -- what the cores of the operation and of the finish ask of the memory that a list is read into
 pub loaded_fits : (ps : List Place) → (counted ps ≤ 1024) × ((p : ℕ) → p < 1024 → open_of (memory_of ps) p ≤ 1)
 loaded_fits ps = ((count_within (length ps)).1, loaded_open ps)
@@ -139,9 +145,11 @@ begins_as s ts ps r ts' p ps' e =
     let l = begins_lifted s ts ps r ts' ps' p e in
     record { answer = l.0; after = l.1 }
 
-pub operates_as : (b : Builder) (o : Operation) (ts : List ℕ) (ps : List Place) (r : Performed) (ts' m' : List ℕ) (ps' : List Place)
-    → OperatesOn b o ts (memory_of ps) (counted ps) r ts' m' → ps' ≡ freed_all m' (linked_all m' ps) → Operating b o ts ps r ts' ps'
-operates_as b o ts ps r ts' m' ps' p e = operates_lent b o ts ps r ts' m' ps' p e
+-- a refused beginning clears nothing
+pub begins_refused : (s : Counts) (ts : List ℕ) (ps : List Place) (k : ℕ) (ts' : List ℕ) → BeginsOn s ts (counted ps) (refused_by k) ts'
+    → Beginning s ts ps (refused_by k) ts' ps
+unfolding cleared_to
+begins_refused s ts ps k ts' p = begins_as s ts ps (refused_by k) ts' p ps refl
 
 pub finishes_as : (b : Builder) (ts : List ℕ) (ps : List Place) (r : Finished) (m' : List ℕ)
     → FinishesOn b ts (memory_of ps) (counted ps) r m' → Finishing b ts ps r

@@ -5,7 +5,7 @@ use mathlib.Core.List.{List}
 use mathlib.Core.Path.{◌≡◌, sym, ap, ◌∙◌, subst}
 use lib.ListN.{length}
 use Rattle.rules.specs.declared.Place.{Place}
-use Rattle.rules.specs.declared.Packed.{Packed}
+use Rattle.rules.specs.Packed.{Packed}
 use Rattle.rules.specs.Answer.{packed_answer}
 use Rattle.rules.specs.Pack.{PackResult}
 use Rattle.rules.specs.Later.{not_given}

@@ -4,21 +4,28 @@
 // each call promises stands on one page, promises/specs/Promises.antt.
 #![tactic(auto)]
 
-ghost use Rattle.std.specs.Prelude.{◌≡◌, ◌+◌, ◌≤◌, length, take, drop};
+ghost use Rattle.std.specs.Prelude.{◌≡◌, ◌+◌, ◌≤◌, MatchResult, [], length, take, drop};
+ghost use Rattle.rules.specs.Benched.{benched_of, start_of, length_of};
+ghost use Rattle.rules.specs.Build.{begun_of};
+ghost use Rattle.rules.specs.Checked.{checked_of};
+ghost use Rattle.rules.specs.Finished.{finished_of};
 ghost use Rattle.rules.specs.Later.{not_given, given};
+ghost use Rattle.rules.specs.Measured.{measured_of};
+ghost use Rattle.rules.specs.Operated.{performed_of};
 ghost use Rattle.rules.specs.PackWhole.{extras};
+ghost use Rattle.rules.specs.Packed.{packed_of};
+ghost use Rattle.rules.specs.Refusal.{number_of};
+ghost use Rattle.rules.specs.Unpacked.{unpacked_of, Gives, Refused};
 ghost use Rattle.promises.specs.Promises.{Beginning, Operating, Finishing};
 ghost use Rattle.promises.specs.Promises.{Checking, Packs, Unpacks, Measures, Tells, HandsBack, further};
 
 use places::{clear, count, empty, free_all, link_all, load};
-use rules::{
-    Begun, Benched, Builder, Checked, Counts, Finished, Measured, Noted, Operation, Packed,
-    Performed, Place, Unpacked,
-};
+use rules::refusal::Refusal;
+use rules::{Builder, Counts, Located, Model, Noted, Operation, Place, Span, Totals, Triangle};
 
 // Checks any list of a model of v vertices: refusals 1 to 7, or its acceptance. It needs no place records.
-pub fn check(v: usize, list: &[u16]) -> Checked
-    ensures { Checking v list.now result }
+pub fn check(v: usize, list: &[u16]) -> Result<(), Refusal>
+    ensures { Checking v list.now (checked_of result) }
 {
     mesh::check(v, list)
 }
@@ -26,61 +33,81 @@ pub fn check(v: usize, list: &[u16]) -> Checked
 // Unpacks any bytes: refusals 12 to 20, 23, 25, or the model, whose triangles then stand in the first entries as built. After 15 to 20,
 // 23 and 25 the first 3T triangle entries are zero. Past 14 the first 1,024 place records are left zero; after 12 to 14 nothing has
 // changed.
-pub fn unpack(pack: &[u8], triangles: &mut [u16], places: &mut [Place]) -> Unpacked
-    ensures { Unpacks pack.now triangles.old places.old result triangles.new
+pub fn unpack(pack: &[u8], triangles: &mut [u16], places: &mut [Place]) -> Result<Model, Refusal>
+    ensures { Unpacks pack.now triangles.old places.old (unpacked_of result) triangles.new
         places.new }
 {
     let n = count(places.len());
     let r = notes::unpacking::unpack_noted_on(pack, triangles, n);
-    clear(places, unpacker::cleared(r));
+    clear(places, unpacker::cleared(&r));
     r
 }
 
 // Unpacks any bytes and gives six times the volume besides: refusals 12 to 20, 23, 25 and 24, the last for a pack without positions and
 // for a model with a rim. The buffers are left as unpacking leaves them; after 24 as after 20.
-pub fn volume(pack: &[u8], triangles: &mut [u16], places: &mut [Place]) -> Measured
-    ensures { Measures pack.now triangles.old places.old result triangles.new
+pub fn volume(
+    pack: &[u8],
+    triangles: &mut [u16],
+    places: &mut [Place],
+) -> Result<(Model, i64), Refusal>
+    ensures { Measures pack.now triangles.old places.old (measured_of result) triangles.new
         places.new }
 {
     let n = count(places.len());
     let r = measuring::volume_on(pack, triangles, n);
-    clear(places, measuring::cleared(r));
+    clear(places, measuring::cleared(&r));
     r
 }
 
 // The bench reader, for callers that take no part of their pack: unpacks any bytes as `unpack` does, and tells where the note stands in
-// them and how many bytes it has, twice 0 if there is none or the pack is refused.
-pub fn bench_at(pack: &[u8], triangles: &mut [u16], places: &mut [Place]) -> Benched
-    ensures { Tells pack.now triangles.old places.old result triangles.new
+// them and how many bytes it has, if there is one.
+pub fn bench_at(
+    pack: &[u8],
+    triangles: &mut [u16],
+    places: &mut [Place],
+) -> Result<Located, Refusal>
+    ensures { Tells pack.now triangles.old places.old (benched_of result) triangles.new
         places.new }
 {
     let n = count(places.len());
     let r = notes::reading::bench_on(pack, triangles, n);
-    clear(places, notes::reading::cleared(r));
+    clear(places, notes::reading::cleared(&r));
     r
 }
 
-// The part of a pack that starts at a byte and has so many: the very bytes, where they stand.
-fn part(pack: &[u8], start: usize, size: usize) -> &[u8]
-    requires { start + size ≤ length pack.now }
-    ensures { (result.now ≡ take size (drop start pack.now)) × (result.ref_ptr ≡ further start pack.entry.ref_ptr) }
+// The part of a pack that is told of, the very bytes, where they stand; an empty one, where the pack begins, if none is.
+fn part(pack: &[u8], told: Option<Span>) -> &[u8]
+    requires { start_of told + length_of told ≤ length pack.now }
+    ensures { (result.now ≡ take (length_of told) (drop (start_of told) pack.now))
+        × (result.ref_ptr ≡ further (start_of told) pack.entry.ref_ptr) }
 {
-    &pack[start..start + size]
+    let Some(Span { start, length }) = told else {
+        return &pack[..0];
+    };
+    &pack[start..start + length]
 }
 
 // The bench reader: unpacks any bytes as `unpack` does, and hands back the note, which is a part of the pack; an empty part if there is
-// none or the pack is refused.
-pub fn bench<'a>(pack: &'a [u8], triangles: &mut [u16], places: &mut [Place]) -> Noted<'a>
-    ensures { HandsBack pack.now pack.entry.ref_ptr triangles.old places.old result.answer
-        result.note.now result.note.ref_ptr triangles.new places.new }
+// none.
+pub fn bench<'a>(
+    pack: &'a [u8],
+    triangles: &mut [u16],
+    places: &mut [Place],
+) -> Result<Noted<'a>, Refusal>
+    ensures { MatchResult result
+        (λ x. HandsBack pack.now pack.entry.ref_ptr triangles.old places.old (Gives x.model)
+        x.note.now x.note.ref_ptr triangles.new places.new)
+        (λ e. HandsBack pack.now pack.entry.ref_ptr triangles.old places.old (Refused (number_of e))
+        [] pack.entry.ref_ptr triangles.new places.new) }
 {
-    let b = bench_at(pack, triangles, places);
-    let note = part(pack, b.start, b.length);
-    Noted {
-        answer: b.answer,
-        note,
-    }
+    let told = bench_at(pack, triangles, places)?;
+    Ok(Noted {
+        model: told.model,
+        note: part(pack, told.note),
+    })
 }
+
+// The four packings stay four functions: README and CLAIMS name each, and `capi` calls each for its export of the same name.
 
 // Packs any list of a model of v vertices: refusals 1 to 8, 22, 9 to 11, or the pack's length. Then the pack stands in the first bytes of
 // the pack buffer, the numbering buffer holds the new number of each old vertex, and the order buffer for each built triangle, in
@@ -93,14 +120,14 @@ pub fn pack(
     buffer: &mut [u8],
     order: &mut [u16],
     places: &mut [Place],
-) -> Packed
+) -> Result<u32, Refusal>
     ensures { Packs v list.now (extras not_given not_given) numbering.old buffer.old
-        order.old places.old result numbering.new buffer.new order.new
+        order.old places.old (packed_of result) numbering.new buffer.new order.new
         places.new }
 {
     let n = count(places.len());
     let r = packer::pack_on(v, list, numbering, buffer, order, n);
-    clear(places, packer::cleared(r));
+    clear(places, packer::cleared(&r));
     r
 }
 
@@ -114,14 +141,14 @@ pub fn pack_positions(
     buffer: &mut [u8],
     order: &mut [u16],
     places: &mut [Place],
-) -> Packed
+) -> Result<u32, Refusal>
     ensures { Packs v list.now (extras (given positions.now) not_given) numbering.old
-        buffer.old order.old places.old result numbering.new buffer.new
+        buffer.old order.old places.old (packed_of result) numbering.new buffer.new
         order.new places.new }
 {
     let n = count(places.len());
     let r = positions::packing::pack_positions_on(v, list, positions, numbering, buffer, order, n);
-    clear(places, packer::cleared(r));
+    clear(places, packer::cleared(&r));
     r
 }
 
@@ -135,14 +162,14 @@ pub fn pack_note(
     buffer: &mut [u8],
     order: &mut [u16],
     places: &mut [Place],
-) -> Packed
+) -> Result<u32, Refusal>
     ensures { Packs v list.now (extras not_given (given note.now)) numbering.old
-        buffer.old order.old places.old result numbering.new buffer.new
+        buffer.old order.old places.old (packed_of result) numbering.new buffer.new
         order.new places.new }
 {
     let n = count(places.len());
     let r = notes::packing::pack_note_on(v, list, note, numbering, buffer, order, n);
-    clear(places, packer::cleared(r));
+    clear(places, packer::cleared(&r));
     r
 }
 
@@ -156,52 +183,56 @@ pub fn pack_positions_note(
     buffer: &mut [u8],
     order: &mut [u16],
     places: &mut [Place],
-) -> Packed
+) -> Result<u32, Refusal>
     ensures { Packs v list.now (extras (given positions.now) (given note.now))
-        numbering.old buffer.old order.old places.old result numbering.new
+        numbering.old buffer.old order.old places.old (packed_of result) numbering.new
         buffer.new order.new places.new }
 {
     let n = count(places.len());
     let r = notes::packing::pack_positions_note_on(
         v, list, positions, note, numbering, buffer, order, n,
     );
-    clear(places, packer::cleared(r));
+    clear(places, packer::cleared(&r));
     r
 }
 
 // Begins a building with the counts stated: 13, 14, or a builder that holds nothing. An accepted beginning leaves the first 1,024
-// place records zero and the triangle buffer untouched; a refused one changes nothing, and gives the empty builder.
-pub fn begin(stated: Counts, triangles: &mut [u16], places: &mut [Place]) -> Begun
-    ensures { Beginning stated triangles.old places.old result triangles.new places.new }
+// place records zero and the triangle buffer untouched; a refused one changes nothing.
+pub fn begin(
+    stated: Counts,
+    triangles: &mut [u16],
+    places: &mut [Place],
+) -> Result<Builder, Refusal>
+    ensures { Beginning stated triangles.old places.old (begun_of result) triangles.new places.new }
 {
-    let n = count(places.len());
-    let r = builder::begin::begin_on(stated, triangles, n);
-    clear(places, builder::begin::cleared(r));
-    r
+    let state = builder::begin::begin_on(stated, triangles, count(places.len()))?;
+    clear(places, Builder::MAX_PLACES);
+    Ok(state)
 }
 
 // Does an operation on any state, in any buffers: 21, then 16 to 18, or the state after it and the triangle that it built, which then
-// stands in the triangle buffer after those built before. A refused operation changes nothing, and gives the state back.
+// stands in the triangle buffer after those built before. A refused operation changes nothing.
 pub fn operation(
-    state: Builder,
+    state: &mut Builder,
     op: Operation,
     triangles: &mut [u16],
     places: &mut [Place],
-) -> Performed
-    ensures { Operating state op triangles.old places.old result triangles.new places.new }
+) -> Result<Option<Triangle>, Refusal>
+    ensures { Operating state.old op triangles.old places.old (performed_of state.new result)
+        triangles.new places.new }
 {
     let n = count(places.len());
     let mut m = empty();
     load(places, &mut m, n);
-    let r = builder::operation::operation_on(state, op, triangles, &mut m, n);
+    let built = builder::operation::operation_on(state, op, triangles, &mut m, n)?;
     link_all(&m, places);
     free_all(&m, places);
-    r
+    Ok(built)
 }
 
 // The finish of a building, on any state, in any buffers: 21, then 15, 19, 20, or edges, rims, unions and the Euler number.
-pub fn finish(state: Builder, triangles: &[u16], places: &[Place]) -> Finished
-    ensures { Finishing state triangles.now places.now result }
+pub fn finish(state: Builder, triangles: &[u16], places: &[Place]) -> Result<Totals, Refusal>
+    ensures { Finishing state triangles.now places.now (finished_of result) }
 {
     let n = count(places.len());
     let mut m = empty();

@@ -9,67 +9,41 @@ use rules::Builder;
 use wire::fields::{is_in_range, is_long_enough};
 
 // Whether the loops together have at most the places stated.
+#[tactic(auto, unfolding(rules::specs::Sound::sizes_of))]
 fn sizes_fit(b: Builder) -> bool
     requires { b.live ≤ max_loops }
     ensures { result ≡ leb (sizes_of b b.live) b.stated.places }
 {
-    let stated = b.stated;
-    let mut left = stated.places;
-    let mut w = b.live;
-    while 0 < w {
-        w -= 1;
-        let k = b.sizes[w as usize];
-        if left < k {
-            return false;
-        }
-        left -= k;
+    let mut sum = 0;
+    // By number, as `sizes_of` of rules counts.
+    for w in 0..usize::from(b.live) {
+        sum += u32::from(b.sizes[w]);
     }
-    true
+    sum <= u32::from(b.stated.places)
 }
 
 // Whether the counts exceed neither those stated nor 13's ranges.
 fn counts_fit(b: Builder) -> bool
     ensures { result ≡ counts_fit b }
 {
-    let stated = b.stated;
-    let peaks = b.peaks;
-    if !is_in_range(stated) {
-        return false;
-    }
-    if stated.vertices < b.used {
-        return false;
-    }
-    if stated.triangles < b.built {
-        return false;
-    }
-    if stated.loops < b.live {
-        return false;
-    }
-    if !sizes_fit(b) {
-        return false;
-    }
-    if stated.loops < peaks.loops {
-        return false;
-    }
-    peaks.places <= stated.places
+    is_in_range(b.stated)
+        && b.used <= b.stated.vertices
+        && b.built <= b.stated.triangles
+        && b.live <= b.stated.loops
+        && sizes_fit(b)
+        && b.peaks.loops <= b.stated.loops
+        && b.peaks.places <= b.stated.places
 }
 
 // Whether edges, starts, unions and rims do not exceed 3T.
 fn sums_fit(b: Builder) -> bool
     ensures { result ≡ sums_fit b }
 {
-    let stated = b.stated;
-    let most = 3 * (stated.triangles as usize);
-    if most < b.edges as usize {
-        return false;
-    }
-    if most < b.starts as usize {
-        return false;
-    }
-    if most < b.unions as usize {
-        return false;
-    }
-    b.rims as usize <= most
+    let most = 3 * u32::from(b.stated.triangles);
+    u32::from(b.edges) <= most
+        && u32::from(b.starts) <= most
+        && u32::from(b.unions) <= most
+        && u32::from(b.rims) <= most
 }
 
 // Whether the numbers of the triangles built so far are below the count so far.
@@ -77,23 +51,16 @@ fn triangles_fit(b: Builder, triangles: &[u16]) -> bool
     requires { 3 * b.built ≤ length triangles.now }
     ensures { result ≡ triangles_fit b triangles.now }
 {
-    let n = 3 * (b.built as usize);
-    all_below(b.used, &triangles[..n])
+    all_below(b.used, &triangles[..3 * usize::from(b.built)])
 }
 
 // What 21 asks of the numbers beside the loops' places.
+#[tactic(auto, unfolding(state_theory::specs::Opening::Marks::numbers_fit))]
 pub(crate) fn numbers_fit(b: Builder, triangles: &[u16], n: usize) -> bool
     ensures { result ≡ numbers_fit b triangles.now n }
 {
-    let stated = b.stated;
-    if !is_long_enough(stated, triangles.len(), n) {
-        return false;
-    }
-    if !counts_fit(b) {
-        return false;
-    }
-    if !sums_fit(b) {
-        return false;
-    }
-    triangles_fit(b, triangles)
+    is_long_enough(b.stated, triangles.len(), n)
+        && counts_fit(b)
+        && sums_fit(b)
+        && triangles_fit(b, triangles)
 }

@@ -10,13 +10,14 @@ use cutborder::{Memory, PLACES};
 use places::{FREE, record_at};
 use rules::{Builder, Place};
 
-// For each place whether it is marked (1) or not (0).
+// For each place whether it is marked (1) or not (0): numbers, as the definitions have them.
 pub type Flags = [u8; PLACES];
 
 // The record of place i; of none that there is, a free one.
 fn place_at(m: &Memory, i: u16) -> Place
     ensures { result ≡ place_at (records max_places m.now) i }
 {
+    // `as`, here and below: tried with usize::from, the proof did not close: the answers speak of the number itself.
     if PLACES <= i as usize {
         return FREE;
     }
@@ -27,79 +28,57 @@ fn place_at(m: &Memory, i: u16) -> Place
 fn place_fits(m: &Memory, v: u16, i: u16) -> bool
     ensures { result ≡ place_fits (records max_places m.now) v i }
 {
-    let p = place_at(m, i);
-    let next = place_at(m, p.after);
-    if next.before != i {
-        return false;
-    }
-    if v <= p.vertex {
-        return false;
-    }
-    if p.open {
-        return true;
-    }
-    next.open
+    let here = place_at(m, i);
+    let next = place_at(m, here.after);
+    next.before == i && here.vertex < v && (here.open || next.open)
 }
 
 // Marks place i, unless there is no such place, it is marked already, or it does not fit.
+// A bool beside the flags and no `Result`: `MarksPlace` of state_theory says `markable`, and all that fails is 21.
+#[tactic(auto, unfolding(state_theory::specs::Opening::Marks::markable))]
 fn mark_place(m: &Memory, v: u16, i: u16, flags: &mut Flags) -> bool
     ensures { MarksPlace m.now v i flags.old result flags.new }
 {
-    if PLACES <= i as usize {
-        return false;
+    let fits = usize::from(i) < PLACES && flags[usize::from(i)] == 0 && place_fits(m, v, i);
+    if fits {
+        flags[usize::from(i)] = 1;
     }
-    if flags[i as usize] != 0 {
-        return false;
-    }
-    if !place_fits(m, v, i) {
-        return false;
-    }
-    flags[i as usize] = 1;
-    true
+    fits
 }
 
 // Marks k places from e on, and says whether the last of them leads back to e.
+// A bool, as there: `MarksWalk` says `returns`.
 fn mark_walk(m: &Memory, v: u16, k: u16, e: u16, flags: &mut Flags) -> bool
     ensures { MarksWalk m.now v k e flags.old result flags.new }
 {
     let mut at = e;
-    let mut left = k;
-    while 0 < left {
+    for _ in 0..k {
         if !mark_place(m, v, at, flags) {
             return false;
         }
-        let p = place_at(m, at);
-        at = p.after;
-        left -= 1;
+        at = place_at(m, at).after;
     }
     at == e
 }
 
 // Marks a loop of k places whose current edge starts at place e: it has a place, this edge is open, and it returns.
+// A bool, as there: `MarksLoop` says `loop_marks`.
+#[tactic(auto, unfolding(state_theory::specs::Opening::Marks::loop_marks))]
 fn mark_loop(m: &Memory, v: u16, k: u16, e: u16, flags: &mut Flags) -> bool
     ensures { MarksLoop m.now v k e flags.old result flags.new }
 {
-    if k < 1 {
-        return false;
-    }
-    let p = place_at(m, e);
-    if !p.open {
-        return false;
-    }
-    mark_walk(m, v, k, e, flags)
+    1 <= k && place_at(m, e).open && mark_walk(m, v, k, e, flags)
 }
 
 // Marks all live loops.
+// A bool, as there: `MarksLoops` says `loops_mark`; `open` makes 21 of it.
 pub(crate) fn mark_loops(b: Builder, m: &Memory, flags: &mut Flags) -> bool
     requires { b.live ≤ max_loops }
     ensures { MarksLoops b m.now b.live flags.old result flags.new }
 {
-    let mut w = b.live;
-    while 0 < w {
-        w -= 1;
-        let k = b.sizes[w as usize];
-        let e = b.current[w as usize];
-        if !mark_loop(m, b.used, k, e, flags) {
+    // By number, as `loops_mark` of state_theory counts: the last loop first, its size and its place by the same number.
+    for w in (0..usize::from(b.live)).rev() {
+        if !mark_loop(m, b.used, b.sizes[w], b.current[w], flags) {
             return false;
         }
     }

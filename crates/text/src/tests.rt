@@ -1,6 +1,6 @@
 // Reading and writing that fail in the midst.
-use crate::numbers::{Told, read_numbers};
-use crate::streams::{Output, Read, read_full};
+use crate::numbers::{Form, MODEL, Sign, TextError, read_numbers};
+use crate::streams::{Output, read_full};
 use std::io;
 use std::io::{Error, ErrorKind};
 
@@ -61,16 +61,22 @@ fn bytes_of(text: &[u8], fails: bool) -> Slow<'_> {
 fn a_read_that_fails_is_no_end(rt: HostRuntime) {
     let mut buffer = [0u8; 8];
     let whole = read_full(&mut bytes_of(b"3 0", false), &mut buffer);
-    assert!(rt; matches!(whole, Read::To(3)));
+    assert!(rt; matches!(whole, Ok(3)));
     assert_eq!(rt; buffer[2], b'0');
     let cut = read_full(&mut bytes_of(b"3 0", true), &mut buffer);
-    let Read::Failed(why) = cut else {
+    let Err(why) = cut else {
         panic!(rt; "a read that fails is taken for the end");
     };
     assert!(rt; why.kind() == ErrorKind::TimedOut);
     let full = read_full(&mut bytes_of(b"3 0 1 2 ", true), &mut buffer);
-    assert!(rt; matches!(full, Read::To(8)));
+    assert!(rt; matches!(full, Ok(8)));
 }
+
+// Signed numbers.
+const SIGNED: Form = Form {
+    sign: Sign::Signed,
+    expected: "signed numbers are expected",
+};
 
 #[test]
 fn numbers_in_pieces(rt: HostRuntime) {
@@ -78,45 +84,44 @@ fn numbers_in_pieces(rt: HostRuntime) {
     let mut numbers = [0u16; 3];
     let told = read_numbers(
         &mut bytes_of(b"4096 0\n17", false),
-        false,
+        MODEL,
         &mut part,
         &mut numbers,
     );
-    assert!(rt; matches!(told, Told::Numbers(3)));
+    assert!(rt; matches!(told, Ok(3)));
     assert_eq!(rt; numbers[0], 4096);
     assert_eq!(rt; numbers[2], 17);
     let unread = read_numbers(
         &mut bytes_of(b"4096 0\n17", true),
-        false,
+        MODEL,
         &mut part,
         &mut numbers,
     );
-    assert!(rt; matches!(unread, Told::Unread(_)));
+    assert!(rt; matches!(unread, Err(TextError::Unread(_))));
     let signed = read_numbers(
         &mut bytes_of(b"-1 -0 9", false),
-        true,
+        SIGNED,
         &mut part,
         &mut numbers,
     );
-    assert!(rt; matches!(signed, Told::Numbers(3)));
+    assert!(rt; matches!(signed, Ok(3)));
     assert_eq!(rt; numbers[0], 65535);
     let bad = read_numbers(
         &mut bytes_of(b"-1 -0 9", false),
-        false,
+        MODEL,
         &mut part,
         &mut numbers,
     );
-    assert!(rt; matches!(bad, Told::NoNumbers));
+    assert!(rt; matches!(bad, Err(TextError::NoNumbers(_))));
 }
 
 // Whether a write has failed after a line that fits, and after a number that does not.
 fn print_some(to: &mut Full) -> (bool, bool) {
     let mut out = Output::to(to);
     out.bytes(b"six ");
-    out.signed(-125);
-    out.bytes(b"\n");
+    writeln!(out, "{}", -125);
     let before = out.has_failed();
-    out.number(65535, b' ');
+    write!(out, "{} ", 65535);
     let after = out.has_failed();
     out.bytes(b"more");
     (before, after)

@@ -4,14 +4,14 @@ use Prim.Native.Nat.{ℕ, zero, suc, ◌*◌, ◌≤◌, ◌<◌}
 use native.Mathlib.Omega.{arith}
 use mathlib.Core.Bool.{Bool, true, false, ◌&&◌}
 use mathlib.Core.List.{List}
-use mathlib.Core.Path.{◌≡◌, refl, sym, ap, ◌∙◌, subst}
+use mathlib.Core.Path.{◌≡◌, refl, sym, subst}
 use lib.ListN.{length}
 use lib.Dec.{leb}
-use borrow.Author.Tests.{leb-true, le-leb, lt-leb}
+use borrow.Author.Tests.{leb-true, lt-leb}
 use Rattle.rules.specs.declared.Counts.{Counts}
 use Rattle.rules.specs.declared.Place.{Place}
-use Rattle.rules.specs.declared.Unpacked.{Unpacked}
-use Rattle.rules.specs.declared.Unpacked.TheVariants as U
+use Rattle.rules.specs.Unpacked.{Unpacked}
+use Rattle.rules.specs.Unpacked as U
 use Rattle.rules.specs.Limits.{max_places, in_range}
 use Rattle.rules.specs.Fan.{one_fan_each}
 use Rattle.rules.specs.Code.{Read, breaks_off, read, read_operation}
@@ -104,7 +104,7 @@ cleared_after (packed n) = max_places
 cleared_after (unpacked m) = max_places
 
 pub cleared_by_lem : (r : Unpacked) → cleared_by r ≡ cleared_after (unpacked_answer r)
-cleared_by_lem (U.Model m) = refl
+cleared_by_lem (U.Gives m) = refl
 cleared_by_lem (U.Refused k) = refl
 
 -- a call that was lent r, answers a and leaves r' has cleared as many as its answer says
@@ -147,10 +147,3 @@ fields_clear r (fields s ops) = go (in_range s) (long_enough (lengths r) s) refl
 -- past 14 the first 1,024, before it none
 pub unpack_clears : (bytes : List ℕ) (r : Buffers) → ClearsBy r (unpack bytes r).answer (unpack bytes r).buffers
 unpack_clears bytes r = fields_clear r (fields_of bytes)
-
--- a refusal's number tells it
-pub cleared_early : (r : Unpacked) (k : ℕ) → r ≡ U.Refused k → k ≤ 14 → 0 ≡ cleared_by r
-cleared_early r k e h = sym (ap cleared_by e ∙ ap (λ (b : Bool). elim b [ true ↦ 0 | false ↦ max_places ]) (le-leb k 14 h))
-
-pub cleared_late : (r : Unpacked) (k : ℕ) → r ≡ U.Refused k → 14 < k → max_places ≡ cleared_by r
-cleared_late r k e h = sym (ap cleared_by e ∙ ap (λ (b : Bool). elim b [ true ↦ 0 | false ↦ max_places ]) (lt-leb k 14 h))

@@ -2,24 +2,21 @@
 -- Assumes nothing.
 use Prim.Native.Nat.{ℕ, ◌*◌, ◌≤◌, ◌<◌}
 use native.Mathlib.Omega.{arith}
-use mathlib.Core.Bool.{Bool, true, false, ◌&&◌, not}
+use mathlib.Core.Bool.{Bool, true, false, ◌&&◌}
 use mathlib.Core.List.{List}
 use mathlib.Core.Path.{◌≡◌, refl, sym, ap, ap₂, ◌∙◌, subst}
 use lib.ListN.{length, get_or, take}
 use lib.Seq.{length-take-le}
-use borrow.Author.Tests.{not-true, not-false}
 use Rattle.rules.specs.declared.Model.{Model}
 use Rattle.rules.specs.Limits.{max_vertices}
 use Rattle.rules.specs.Triangle.{triangles_of}
 use Rattle.rules.specs.Fan.{about, one_run, one_fan_each}
 use Rattle.rules.specs.Machine.{Machine, as_stated}
-use Rattle.rules.specs.Answer.{Answer, refusal, unpacked}
+use Rattle.rules.specs.Answer.{refusal, unpacked}
 use Rattle.rules.specs.Unpack.{rest_fits}
 use Rattle.mesh_theory.specs.Chains.Linked.{Linked}
 use Rattle.cutborder.specs.declared.Front.{Front}
-use Rattle.cutborder.specs.declared.Stepped.{Stepped}
-use Rattle.cutborder.specs.declared.Stepped.TheVariants.{Going, Refused}
-use Rattle.unpack_theory.specs.Runs.{Runs, model_answer, Whole, Concludes, Ended, Answers, bits_from}
+use Rattle.unpack_theory.specs.Runs.{Runs, model_answer, Whole, Concludes, bits_from}
 use Rattle.border_theory.specs.Memory.Finish.{is_as_stated}
 use Rattle.unpack_theory.proofs.Ending.{end_19, end_20, end_done, whole_built, whole_linked, whole_fans, whole_unmet}
 use Rattle.border_theory.proofs.Memory.Finish.{stated_same}
@@ -48,44 +45,30 @@ module _ (s : Front) (ts cs ks : List ℕ) (w : Whole s ts cs ks) where
   used_most = (runs_ready w.machine s ts w.memory cs ks w.runs).used
 
 module _ (ops : List ℕ) (at : ℕ) (s : Front) (ts cs ks : List ℕ) where
-  pub concludes_rest : (a : Bool) → a ≡ rest_fits (bits_from ops at) → not a ≡ true → Concludes ops at s ts cs ks (refusal 19)
+  pub concludes_rest : (a : Bool) → a ≡ rest_fits (bits_from ops at) → a ≡ false → Concludes ops at s ts cs ks (refusal 19)
   concludes_rest a e h M m g all =
-      end_19 s.stated M (rest_fits (bits_from ops at)) _ refl (ap (λ (b : Bool). b && as_stated M) (sym e ∙ not-true a h))
+      end_19 s.stated M (rest_fits (bits_from ops at)) _ refl (ap (λ (b : Bool). b && as_stated M) (sym e ∙ h))
 
-  module _ (a : Bool) (e : a ≡ rest_fits (bits_from ops at)) (h : not a ≡ false) (b : Bool) (f : b ≡ is_as_stated s) where
-    pub concludes_stated : not b ≡ true → Concludes ops at s ts cs ks (refusal 19)
+  module _ (a : Bool) (e : a ≡ rest_fits (bits_from ops at)) (h : a ≡ true) (b : Bool) (f : b ≡ is_as_stated s) where
+    pub concludes_stated : b ≡ false → Concludes ops at s ts cs ks (refusal 19)
     concludes_stated i M m g all =
         end_19 s.stated M (rest_fits (bits_from ops at)) _ refl
-        (ap₂ ◌&&◌ (sym e ∙ not-false a h) (stated_same _ s m M g.keeps ∙ sym f ∙ not-true b i))
+        (ap₂ ◌&&◌ (sym e ∙ h) (stated_same _ s m M g.keeps ∙ sym f ∙ i))
 
-    module _ (i : not b ≡ false) (n v : ℕ) (en : n ≡ 3 * s.built) (ev : v ≡ s.used) (c : Bool)
+    module _ (i : b ≡ true) (n v : ℕ) (en : n ≡ 3 * s.built) (ev : v ≡ s.used) (c : Bool)
         (fans : c ≡ one_fan_each v (triangles_of (take n ts))) where
       both : (M : Machine) (m : List ℕ) → Runs M s ts m cs ks → rest_fits (bits_from ops at) && as_stated M ≡ true
-      both M m g = ap₂ ◌&&◌ (sym e ∙ not-false a h) (stated_same _ s m M g.keeps ∙ sym f ∙ not-false b i)
+      both M m g = ap₂ ◌&&◌ (sym e ∙ h) (stated_same _ s m M g.keeps ∙ sym f ∙ i)
 
       fan_test : (M : Machine) (m : List ℕ) → Runs M s ts m cs ks → Rattle.rules.specs.Machine.complete M ≡ true
           → one_fan_each M.used M.triangles ≡ c
       fan_test M m g all =
           sym (fans ∙ ap (λ (k : ℕ). one_fan_each v (triangles_of (take k ts))) en ∙ whole_fans M s ts m cs ks g all v ev)
 
-      pub concludes_fans : not c ≡ true → Concludes ops at s ts cs ks (refusal 20)
-      concludes_fans j M m g all = end_20 s.stated M (rest_fits (bits_from ops at)) (both M m g) (fan_test M m g all ∙ not-true c j)
+      pub concludes_fans : c ≡ false → Concludes ops at s ts cs ks (refusal 20)
+      concludes_fans j M m g all = end_20 s.stated M (rest_fits (bits_from ops at)) (both M m g) (fan_test M m g all ∙ j)
 
-      pub concludes_done : not c ≡ false → (x : Model) → unpacked x ≡ model_answer s → Concludes ops at s ts cs ks (unpacked x)
+      pub concludes_done : c ≡ true → (x : Model) → unpacked x ≡ model_answer s → Concludes ops at s ts cs ks (unpacked x)
       concludes_done j x q M m g all =
           q ∙ sym (whole_model M s ts m cs ks g all)
-          ∙ end_done s.stated M (rest_fits (bits_from ops at)) (both M m g) (fan_test M m g all ∙ not-false c j)
-
--- the run's answer, taken apart
-pub ended_whole : (e : Stepped) (s : Front) (at : ℕ) (ts cs ks : List ℕ) → e ≡ Going s at → Ended e ts cs ks → Whole s ts cs ks
-ended_whole e s at ts cs ks q w = subst (λ (x : Stepped). Ended x ts cs ks) q w
-
-pub answers_whole : (ops : List ℕ) (e : Stepped) (s : Front) (at : ℕ) (ts cs ks : List ℕ) (a : Answer) → e ≡ Going s at
-    → Concludes ops at s ts cs ks a
-    → Answers ops e ts cs ks a
-answers_whole ops e s at ts cs ks a q h = subst (λ (x : Stepped). Answers ops x ts cs ks a) (sym q) h
-
-pub answers_refused : (ops : List ℕ) (e : Stepped) (k : ℕ) (ts cs ks : List ℕ) (a : Answer) → e ≡ Refused k
-    → ((j : ℕ) → e ≡ Refused j → a ≡ refusal j)
-    → Answers ops e ts cs ks a
-answers_refused ops e k ts cs ks a q h = subst (λ (x : Stepped). Answers ops x ts cs ks a) (sym q) (h k q)
+          ∙ end_done s.stated M (rest_fits (bits_from ops at)) (both M m g) (fan_test M m g all ∙ j)

@@ -1,6 +1,6 @@
 -- The end of a run: the model is complete; 19, 20, or the answer and the triangles as built.
 -- Assumes nothing.
-use Prim.Native.Nat.{ℕ, ◌+◌, ◌-◌, ◌*◌, ◌/◌, ◌<◌}
+use Prim.Native.Nat.{ℕ, ◌*◌, ◌/◌, ◌<◌}
 use native.Mathlib.Omega.{arith}
 use mathlib.Core.Bool.{Bool, true, false, ◌&&◌}
 use mathlib.Core.List.{List, ◌++◌}
@@ -11,7 +11,6 @@ use lib.Dec.{eqb}
 use borrow.Author.Tests.{eqb-true}
 use Rattle.rules.specs.declared.Counts.{Counts}
 use Rattle.rules.specs.declared.Totals.{Totals}
-use Rattle.rules.specs.declared.Unpacked.TheVariants as U
 use Rattle.rules.specs.Limits.{max_vertices, in_range}
 use Rattle.rules.specs.Triangle.{triangles_of}
 use Rattle.rules.specs.Fan.{about, one_run, one_fan_each}

@@ -11,8 +11,8 @@ use borrow.Author.Tests.{leb-true}
 use Rattle.rules.specs.declared.Counts.{Counts}
 use Rattle.rules.specs.declared.Place.{Place}
 use Rattle.rules.specs.declared.Model.{Model}
-use Rattle.rules.specs.declared.Unpacked.{Unpacked}
-use Rattle.rules.specs.declared.Unpacked.TheVariants as U
+use Rattle.rules.specs.Unpacked.{Unpacked}
+use Rattle.rules.specs.Unpacked as U
 use Rattle.rules.specs.Limits.{max_places, in_range}
 use Rattle.rules.specs.Fan.{one_fan_each}
 use Rattle.rules.specs.Machine.{Machine, as_stated, totals, long_enough}
@@ -23,8 +23,7 @@ use Rattle.rules.specs.Unpack.{Ran, stopped, completed, run_of, numbers_of, rest
 use Rattle.rules.specs.Unpack.{unpack_done}
 use Rattle.rules.specs.Unpack.{unpack_ended, unpack_run, unpack_fields}
 use Rattle.border_theory.specs.Records.Lent.{lent}
-use Rattle.cutborder.specs.declared.Stepped.{Stepped}
-use Rattle.cutborder.specs.declared.Stepped.TheVariants.{Going, Refused}
+use Rattle.unpack_theory.specs.Stepped.{Stepped, Going, Refused}
 use Rattle.counting.proofs.Bools.{and_left}
 use Rattle.unpack_theory.specs.Runs.{Beyond, bits_from, end_by, end_answer, Ends, Answers, tidied}
 use Rattle.unpack_theory.specs.Lent.{unpack_on}
@@ -124,9 +123,6 @@ module _ (bytes : List ℕ) (n : ℕ) (ts : List ℕ) (s : Counts) (ops : List �
         on_pick ∙ ap (λ (b : Bool).
         pick true b (unpack_run s (lent n ts) (run_of s ops)) (turned_down 14 (lent n ts)) (turned_down 13 (lent n ts))) long
 
-pub long_list : (k t n : ℕ) → leb k t && leb max_places n ≡ true → k ≤ t
-long_list k t n h = leb-true k t (and_left (leb k t) (leb max_places n) h)
-
 -- ---- the answer and the triangles from the run's end
 
 answer_pick : (a b : Bool) (m : Model) (x y z : UnpackResult) → x.answer ≡ unpacked m → y.answer ≡ refusal 20 → z.answer ≡ refusal 19
@@ -142,15 +138,15 @@ triangles_pick : (r : Unpacked) (a b : Bool) (m : Model) (n : ℕ) (ts ts' : Lis
     → unpacked_answer r ≡ end_by a b (unpacked m)
     → ts' ≡ x.buffers.triangles → zeroed n ts' ≡ y.buffers.triangles → zeroed n ts' ≡ z.buffers.triangles
     → tidied r n ts' ≡ (pick a b x y z).buffers.triangles
-triangles_pick (U.Model w) true true m n ts ts' x y z e h i j = h
-triangles_pick (U.Model w) true false m n ts ts' x y z e h i j = absurd (not_model w 20 e)
-triangles_pick (U.Model w) false b m n ts ts' x y z e h i j = absurd (not_model w 19 e)
+triangles_pick (U.Gives w) true true m n ts ts' x y z e h i j = h
+triangles_pick (U.Gives w) true false m n ts ts' x y z e h i j = absurd (not_model w 20 e)
+triangles_pick (U.Gives w) false b m n ts ts' x y z e h i j = absurd (not_model w 19 e)
 triangles_pick (U.Refused k) true true m n ts ts' x y z e h i j = absurd (not_model m k (sym e))
 triangles_pick (U.Refused k) true false m n ts ts' x y z e h i j = i
 triangles_pick (U.Refused k) false b m n ts ts' x y z e h i j = j
 
 tidied_refused : (r : Unpacked) (k n : ℕ) (ts : List ℕ) → unpacked_answer r ≡ refusal k → tidied r n ts ≡ zeroed n ts
-tidied_refused (U.Model w) k n ts e = absurd (not_model w k e)
+tidied_refused (U.Gives w) k n ts e = absurd (not_model w k e)
 tidied_refused (U.Refused j) k n ts e = refl
 
 module _ (c : Counts) (ops ts : List ℕ) (n : ℕ) (R : Ran) (r : Unpacked) where

@@ -1,8 +1,6 @@
 pub mod Cleared
-pub mod Clearing
 pub mod Concluding
 pub mod Ending
-pub mod Leading
 pub mod Lending
 pub mod Looping
 pub mod Meeting

@@ -3,22 +3,21 @@
 use Prim.Native.Nat.{ℕ, ◌-◌, ◌≤◌, ◌<◌}
 use mathlib.Core.Bool.{Bool, true, false}
 use mathlib.Core.List.{List}
-use mathlib.Core.Path.{◌≡◌, refl, sym, ◌∙◌, subst}
+use mathlib.Core.Path.{◌≡◌, refl, sym, ap, ◌∙◌}
 use Rattle.rules.specs.declared.Counts.{Counts}
 use Rattle.rules.specs.Machine.{Machine, complete}
 use Rattle.rules.specs.Unpack.{Ran, run_all}
 use Rattle.cutborder.specs.declared.Front.{Front}
-use Rattle.cutborder.specs.declared.Stepped.{Stepped}
-use Rattle.cutborder.specs.declared.Stepped.TheVariants.{Going, Refused}
-use Rattle.unpack_theory.specs.Turn.{turn}
-use Rattle.unpack_theory.specs.Runs.{Runs, bits_from, Steps, StepOf, ComesFrom, Ends, RunOf, Ended}
+use Rattle.unpack_theory.specs.Stepped.{Stepped, Going, Refused}
+use Rattle.unpack_theory.specs.Runs.{Runs, Held, bits_from, StepOf, ComesFrom, Ends, RunOf, Ended}
 use Rattle.border_theory.specs.Memory.Finish.{is_complete}
 use Rattle.unpack_theory.proofs.Turns.{ran_complete, ran_stops, ran_goes, ran_out}
 use Rattle.border_theory.proofs.Memory.Finish.{complete_same}
 
 module _ (ops : List ℕ) (budget : ℕ) (s₀ : Front) (ts₀ m₀ cs₀ ks₀ : List ℕ) where
-  pub comes_first : ComesFrom ops budget s₀ ts₀ m₀ cs₀ ks₀ budget s₀ 0 ts₀ m₀ cs₀ ks₀
-  comes_first M g = record { machine = M; ran = refl; runs = g; stated = refl }
+  pub comes_first : (left : ℕ) → left ≡ budget → ComesFrom ops budget s₀ ts₀ m₀ cs₀ ks₀ left s₀ 0 ts₀ m₀ cs₀ ks₀
+  comes_first left e M g =
+      record { machine = M; ran = ap (λ (k : ℕ). run_all k M (bits_from ops 0)) (sym e); runs = g; stated = refl }
 
   module _ (left : ℕ) (s : Front) (at : ℕ) (ts m cs ks : List ℕ) (come : ComesFrom ops budget s₀ ts₀ m₀ cs₀ ks₀ left s at ts m cs ks) where
     pub comes_end : left ≤ 0 → RunOf ops budget s₀ ts₀ m₀ cs₀ ks₀ (Refused 15) ts m cs ks
@@ -36,28 +35,32 @@ module _ (ops : List ℕ) (budget : ℕ) (s₀ : Front) (ts₀ m₀ cs₀ ks₀ 
           complete = done;
         }
 
-    module _ (l : 0 < left) (b : Bool) (e : b ≡ is_complete s) (h : b ≡ false) (r : Stepped) (ts' m' cs' ks' : List ℕ)
-        (step : StepOf ops at s ts m cs ks r ts' m' cs' ks') where
+    -- what is held, and that the counts stated stay
+    pub comes_held : Held s₀ ts₀ m₀ cs₀ ks₀ → Held s ts m cs ks
+    comes_held h = let k = come h.machine h.runs in record { machine = k.machine; runs = k.runs }
+
+    pub comes_stated : Held s₀ ts₀ m₀ cs₀ ks₀ → s.stated ≡ s₀.stated
+    comes_stated h = (come h.machine h.runs).stated
+
+    module _ (l : 0 < left) (b : Bool) (e : b ≡ is_complete s) (h : b ≡ false) (ts' m' cs' ks' : List ℕ) where
       going : (M : Machine) → Runs M s ts m cs ks → complete M ≡ false
       going M g = complete_same _ s m M g.keeps ∙ sym e ∙ h
 
-      pub comes_stopped : (k : ℕ) → r ≡ Refused k → RunOf ops budget s₀ ts₀ m₀ cs₀ ks₀ r ts' m' cs' ks'
-      comes_stopped k q M g =
+      pub comes_stopped : (k : ℕ) → StepOf ops at s ts m cs ks (Refused k) ts' m' cs' ks'
+          → RunOf ops budget s₀ ts₀ m₀ cs₀ ks₀ (Refused k) ts' m' cs' ks'
+      comes_stopped k step M g =
           let c = come M g in
-          let t = subst (λ (x : Stepped). Steps (turn c.machine (bits_from ops at)) ops s.stated x ts' m' cs' ks') q
-          (step c.machine c.runs) in
-          subst (λ (x : Stepped). Ends (run_all budget M (bits_from ops 0)) ops s₀.stated x ts' m' cs' ks') (sym q)
-          (c.ran ∙ ran_stops left c.machine (bits_from ops at) k l (going c.machine c.runs) t)
+          c.ran ∙ ran_stops left c.machine (bits_from ops at) k l (going c.machine c.runs) (step c.machine c.runs)
 
-      pub comes_on : (s' : Front) (at' : ℕ) → r ≡ Going s' at' → ComesFrom ops budget s₀ ts₀ m₀ cs₀ ks₀ (left - 1) s' at' ts' m' cs' ks'
-      comes_on s' at' q M g =
+      pub comes_on : (s' : Front) (at' : ℕ) → StepOf ops at s ts m cs ks (Going s' at') ts' m' cs' ks' → (left' : ℕ) → left' ≡ left - 1
+          → ComesFrom ops budget s₀ ts₀ m₀ cs₀ ks₀ left' s' at' ts' m' cs' ks'
+      comes_on s' at' step left' e M g =
           let c = come M g in
-          let t = subst (λ (x : Stepped). Steps (turn c.machine (bits_from ops at)) ops s.stated x ts' m' cs' ks') q
-          (step c.machine c.runs) in
+          let t = step c.machine c.runs in
           record {
             machine = t.next;
             ran = c.ran ∙ ran_goes left c.machine t.next (bits_from ops at) (bits_from ops at') l (going c.machine c.runs)
-                t.turns;
+                t.turns ∙ ap (λ (k : ℕ). run_all k t.next (bits_from ops at')) (sym e);
             runs = t.runs;
             stated = t.stated ∙ c.stated;
           }

@@ -8,7 +8,7 @@ use mathlib.Core.Path.{◌≡◌, refl, sym, ap, ◌∙◌, subst}
 use lib.ListN.{length, get_or, set, length-set}
 use lib.Seq.{get_or-set_same, get_or-set_other}
 use lib.Dec.{eqb}
-use borrow.Author.Tests.{eqb-true, eq-eqb, ne_eqb, not-true, not-false}
+use borrow.Author.Tests.{eqb-true, eq-eqb, ne_eqb, not-false}
 use Rattle.rules.specs.declared.Triangle.{Triangle}
 use Rattle.rules.specs.declared.Operation.{Operation}
 use Rattle.rules.specs.declared.Operation.TheVariants.{New, Forward, Backward, Border, Split, Close, Union, Start}
@@ -20,16 +20,6 @@ zero_unmet ks v e = ap not (eq-eqb (get_or ks v 0) 0 e)
 
 unmet_zero : (ks : List ℕ) (v : ℕ) → is_met_in ks v ≡ false → get_or ks v 0 ≡ 0
 unmet_zero ks v h = eqb-true (get_or ks v 0) 0 (not-false (eqb (get_or ks v 0) 0) h)
-
--- the ways through the code
-module _ (ks : List ℕ) (o : Operation) (v : ℕ) (b : Bool) (e : b ≡ is_meeting o) where
-  pub meets_not : not b ≡ true → ks ≡ met_after ks o v
-  unfolding met_after
-  meets_not h = let q : is_meeting o ≡ false = sym e ∙ not-true b h in sym (rw (met_after, q))
-
-  pub meets_it : not b ≡ false → set ks v 1 ≡ met_after ks o v
-  unfolding met_after
-  meets_it h = let q : is_meeting o ≡ true = sym e ∙ not-false b h in sym (rw (met_after, q))
 
 pub met_long : (ks : List ℕ) (o : Operation) (v : ℕ) → length (met_after ks o v) ≡ length ks
 unfolding met_after

@@ -68,10 +68,3 @@ module _ (xs cs : List ℕ) (p : Plan) where
       pub plan_rp : (c e : Bool) → SideIs xs cs p.qr t.q t.r c → not c ≡ false → SideIs xs cs p.rp t.r t.p e
           → PlanIs xs cs p e
       plan_rp c e v j w n k = w n k differ.z_x ∙ sym (rest_2 n k true (sym (v n k differ.y_z) ∙ not-false c j))
-
-pub rule_tested : (xs cs : List ℕ) (o : Operation) (p : Plan) (a b : Bool) → a ≡ is_tested o → a ≡ true → PlanIs xs cs p b
-    → RuleIs xs cs o p b
-rule_tested xs cs o p a b e h r n k = r n k ∙ sym (ap (λ (c : Bool). ruled_by c (plan_rule p (first_triangles n xs))) (sym e ∙ h))
-
-pub rule_untested : (xs cs : List ℕ) (o : Operation) (p : Plan) (a : Bool) → a ≡ is_tested o → a ≡ false → RuleIs xs cs o p true
-rule_untested xs cs o p a e h n k = sym (ap (λ (c : Bool). ruled_by c (plan_rule p (first_triangles n xs))) (sym e ∙ h))

@@ -1,6 +1,6 @@
 -- One law for each way through a step: the operation breaks off, is refused, fails the edge rule, builds a triangle or marks an edge.
 -- Assumes nothing.
-use Prim.Native.Nat.{ℕ, ◌+◌, ◌-◌, ◌*◌, ◌≤◌, ◌<◌}
+use Prim.Native.Nat.{ℕ, ◌+◌, ◌*◌, ◌≤◌, ◌<◌}
 use native.Mathlib.Omega.{arith}
 use mathlib.Core.Bool.{Bool, true, false, false≢true}
 use mathlib.Core.List.{List, ◌∷◌}
@@ -33,17 +33,21 @@ use Rattle.counting.proofs.Triangles.{written_long}
 use Rattle.rules.specs.Build.{with_triangle}
 use Rattle.cutborder.specs.declared.Front.{Front}
 use Rattle.cutborder.specs.declared.Plan.{Plan}
-use Rattle.cutborder.specs.declared.Decided.{Decided}
-use Rattle.cutborder.specs.declared.Decided.TheVariants as D
+use Rattle.std.specs.Prelude.{Ok, Err}
+use Rattle.rules.specs.declared.refusal.Refusal.{Refusal}
+use Rattle.rules.specs.declared.refusal.Refusal.TheVariants.{NotAllowed, ExceedsStated}
+use Rattle.rules.specs.Refusal.{number_of}
+use Rattle.cutborder.specs.declared.Action.TheVariants.{Builds, Marks}
 use Rattle.border_theory.specs.Memory.Moves.{marked_held}
-use Rattle.border_theory.specs.Memory.Decision.{proposed, proposed_by, rest_proposed, start_plan, room_for, room_by, decided_by, decided}
+use Rattle.border_theory.specs.Memory.Decision.{Decided, proposed, proposed_by, rest_proposed, start_plan, room_for, room_by, decided_by}
+use Rattle.border_theory.specs.Memory.Decision.{decided}
 use Rattle.border_theory.specs.Memory.Decision.{side_of}
 use Rattle.border_theory.specs.Memory.Decision.{held_after, built_front, marked_front}
 use Rattle.border_theory.specs.Memory.Keeps.{Ready, BuildsIt, MarksIt, Decides}
 use Rattle.border_theory.proofs.Memory.Ready.{ready}
 use Rattle.border_theory.proofs.Memory.Deciding.{decides}
 use Rattle.choice_theory.proofs.OneFan.Steps.{fanned_built, fanned_declared}
-use Rattle.cutborder.specs.declared.Stepped.TheVariants.{Going, Refused}
+use Rattle.unpack_theory.specs.Stepped.{Going}
 use Rattle.unpack_theory.specs.Turn.{stops, turn_by, turn_of, turn}
 use Rattle.unpack_theory.specs.Met.{met_after}
 use Rattle.unpack_theory.specs.Runs.{Runs, bits_from, Steps}
@@ -72,22 +76,22 @@ test_false true n s h = absurd (false≢true (sym h))
 test_false false n s h = refl
 
 -- with no live loop no edge is marked
-not_refused : (k x y : ℕ) → D.Refused k ≡ D.Marks x y → ⊥
+not_refused : (k : Refusal) (x y : ℕ) → ◌≡◌ {A = Decided} (Err k) (Ok (Marks x y)) → ⊥
 not_refused k x y e = let z : ◌≡◌ {A = ℕ} 0 1 = cc in omega arith
 
-not_planned : (b : Bool) (p : Plan) (x y : ℕ) → room_by b p ≡ D.Marks x y → ⊥
+not_planned : (b : Bool) (p : Plan) (x y : ℕ) → room_by b p ≡ Ok (Marks x y) → ⊥
 not_planned true p x y e = let z : ◌≡◌ {A = ℕ} 0 1 = cc in omega arith
-not_planned false p x y e = not_refused 17 x y e
+not_planned false p x y e = not_refused ExceedsStated x y e
 
-no_rest : (n : ℕ) (s : Front) (o : Operation) (x y : ℕ) → decided_by n s (rest_proposed s.used o) ≡ D.Marks x y → ⊥
+no_rest : (n : ℕ) (s : Front) (o : Operation) (x y : ℕ) → decided_by n s (rest_proposed s.used o) ≡ Ok (Marks x y) → ⊥
 unfolding start_plan
-no_rest n s New x y e = not_refused 16 x y e
-no_rest n s Forward x y e = not_refused 16 x y e
-no_rest n s Backward x y e = not_refused 16 x y e
-no_rest n s Border x y e = not_refused 16 x y e
-no_rest n s (Split i) x y e = not_refused 16 x y e
-no_rest n s Close x y e = not_refused 16 x y e
-no_rest n s (Union k j) x y e = not_refused 16 x y e
+no_rest n s New x y e = not_refused NotAllowed x y e
+no_rest n s Forward x y e = not_refused NotAllowed x y e
+no_rest n s Backward x y e = not_refused NotAllowed x y e
+no_rest n s Border x y e = not_refused NotAllowed x y e
+no_rest n s (Split i) x y e = not_refused NotAllowed x y e
+no_rest n s Close x y e = not_refused NotAllowed x y e
+no_rest n s (Union k j) x y e = not_refused NotAllowed x y e
 no_rest n s Start x y e = not_planned (room_for n s _) _ x y e
 
 module _ (M : Machine) (s : Front) (ts m cs ks : List ℕ) (g : Runs M s ts m cs ks) where
@@ -151,19 +155,20 @@ module _ (M : Machine) (s : Front) (ts m cs ks : List ℕ) (g : Runs M s ts m cs
   turned xs ys o reads c e = ap (turn_of M) reads ∙ ap (turn_by ys) e
 
   module _ (xs ys : List ℕ) (o : Operation) (reads : read_operation xs ≡ read o ys) where
-    pub turn_refused : (k : ℕ) → decided max_places s m o ≡ D.Refused k → turn M xs ≡ stops k
-    turn_refused k e = turned xs ys o reads (refused k) (decides_it o (D.Refused k) e)
+    pub turn_refused : (k : Refusal) → decided max_places s m o ≡ Err k → turn M xs ≡ stops (number_of k)
+    turn_refused k e = turned xs ys o reads (refused (number_of k)) (decides_it o (Err k) e)
 
-    pub turn_ruled : (p : Plan) → decided max_places s m o ≡ D.Builds p → (b : Bool) → RuleIs ts cs o p b → b ≡ false → turn M xs ≡ stops 18
+    pub turn_ruled : (p : Plan) → decided max_places s m o ≡ Ok (Builds p) → (b : Bool) → RuleIs ts cs o p b → b ≡ false
+        → turn M xs ≡ stops 18
     unfolding rule_of
     turn_ruled p e b r h =
-        let d = decides_it o (D.Builds p) e in
+        let d = decides_it o (Ok (Builds p)) e in
         turned xs ys o reads (refused 18) (d.step ∙ test_false (rule_of o p) 18 (built p.triangle d.next) (rule_told o p b d r ∙ h))
 
-  module _ (o : Operation) (p : Plan) (e : decided max_places s m o ≡ D.Builds p) (b : Bool) (r : RuleIs ts cs o p b)
+  module _ (o : Operation) (p : Plan) (e : decided max_places s m o ≡ Ok (Builds p)) (b : Bool) (r : RuleIs ts cs o p b)
       (holds : b ≡ true) where
     does : BuildsIt max_places s m M o p
-    does = decides_it o (D.Builds p) e
+    does = decides_it o (Ok (Builds p)) e
 
     made : operation M o ≡ built p.triangle does.next
     unfolding rule_of
@@ -258,9 +263,9 @@ module _ (M : Machine) (s : Front) (ts m cs ks : List ℕ) (g : Runs M s ts m cs
     pub built_third : p.triangle.r < max_vertices
     built_third = third_below
 
-  module _ (o : Operation) (x y : ℕ) (e : decided max_places s m o ≡ D.Marks x y) where
+  module _ (o : Operation) (x y : ℕ) (e : decided max_places s m o ≡ Ok (Marks x y)) where
     marked : MarksIt max_places s m M o x y
-    marked = decides_it o (D.Marks x y) e
+    marked = decides_it o (Ok (Marks x y)) e
 
     unchanged : (marked.next.triangles ≡ M.triangles) × (marked.next.stated ≡ M.stated)
     unchanged = grows M o (declared (edge x y) marked.next) marked.step

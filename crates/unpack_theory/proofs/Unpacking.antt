@@ -8,8 +8,8 @@ use mathlib.Core.Path.{◌≡◌, sym, ap, ◌∙◌, subst}
 use lib.ListN.{length}
 use lib.Dec.{leb}
 use Rattle.rules.specs.declared.Counts.{Counts}
-use Rattle.rules.specs.declared.Unpacked.{Unpacked}
-use Rattle.rules.specs.declared.Unpacked.TheVariants as U
+use Rattle.rules.specs.Unpacked.{Unpacked}
+use Rattle.rules.specs.Unpacked as U
 use Rattle.rules.specs.Limits.{max_places, max_vertices, in_range}
 use Rattle.rules.specs.Bits.{bits_of_bytes}
 use Rattle.rules.specs.Fields.{fields, fields_of}
@@ -21,7 +21,7 @@ use Rattle.mesh_theory.specs.Chains.Linked.{Chains}
 use Rattle.cutborder.specs.declared.Front.{Front}
 use Rattle.border_theory.specs.Memory.Fresh.{all_free, fresh_front}
 use Rattle.border_theory.specs.Records.Lent.{lent}
-use Rattle.cutborder.specs.declared.Stepped.{Stepped}
+use Rattle.unpack_theory.specs.Stepped.{Stepped}
 use Rattle.unpack_theory.specs.Runs.{Runs, Held, Beyond, Ends, RunOf, Ended, Answers, tidied}
 use Rattle.unpack_theory.specs.Lent.{unpack_on, UnpackedOn, Fitting, RunGives}
 use Rattle.unpack_theory.proofs.Starting.{starts_empty}

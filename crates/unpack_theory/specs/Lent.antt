@@ -2,8 +2,8 @@
 -- Assumes nothing.
 use Rattle.std.specs.Prelude.{ℕ, ◌*◌, ◌≤◌, ◌<◌, true, false, List, ◌≡◌, length, leb}
 use Rattle.rules.specs.declared.Counts.{Counts}
-use Rattle.rules.specs.declared.Unpacked.{Unpacked}
-use Rattle.rules.specs.declared.Unpacked.TheVariants as U
+use Rattle.rules.specs.Unpacked.{Unpacked}
+use Rattle.rules.specs.Unpacked as U
 use Rattle.rules.specs.Limits.{max_places, in_range}
 use Rattle.rules.specs.Answer.{unpacked_answer}
 use Rattle.rules.specs.Unpack.{UnpackResult, run_of, unpack_run, unpack}
@@ -15,7 +15,7 @@ unpack_on bytes n ts = unpack bytes (lent n ts)
 
 -- how many place records an unpacking clears, read off its answer: none after 12 to 14, and past 14 the first 1,024
 abbrev pub cleared_by : Unpacked → ℕ
-cleared_by (U.Model m) = max_places
+cleared_by (U.Gives m) = max_places
 cleared_by (U.Refused k) = elim (leb k 14) [ true ↦ 0 | false ↦ max_places ]
 
 -- an unpacking of any bytes, in any buffers: the answer r, and the triangle buffer afterwards

@@ -12,8 +12,8 @@ use Rattle.rules.specs.Fan.{one_fan_each}
 use Rattle.rules.specs.Machine.{Machine, complete, as_stated, totals}
 use Rattle.rules.specs.Answer.{Answer, refusal, unpacked}
 use Rattle.rules.specs.Buffer.{zeroed}
-use Rattle.rules.specs.declared.Unpacked.{Unpacked}
-use Rattle.rules.specs.declared.Unpacked.TheVariants as U
+use Rattle.rules.specs.Unpacked.{Unpacked}
+use Rattle.rules.specs.Unpacked as U
 use Rattle.rules.specs.Unpack.{Ran, stopped, completed, run_all, numbers_of, rest_fits}
 use Rattle.book.specs.Consistent.{Consistent}
 use Rattle.book.specs.Bounded.{Bounded}
@@ -22,8 +22,7 @@ use Rattle.choice_theory.specs.Fanned.{Fanned}
 use Rattle.cutborder.specs.declared.Front.{Front}
 use Rattle.border_theory.specs.Memory.Keeps.{Keeps}
 use Rattle.border_theory.specs.Memory.Finish.{totals_of}
-use Rattle.cutborder.specs.declared.Stepped.{Stepped}
-use Rattle.cutborder.specs.declared.Stepped.TheVariants.{Going, Refused}
+use Rattle.unpack_theory.specs.Stepped.{Stepped, Going, Refused}
 use Rattle.unpack_theory.specs.Turn.{Turn, stops, goes, turn}
 use Rattle.unpack_theory.specs.Met.{is_met_in}
 
@@ -144,5 +143,5 @@ Ended (Going s at) ts cs ks = Whole s ts cs ks
 
 -- the first n triangle entries are zero after a refusal
 abbrev pub tidied : Unpacked → ℕ → List ℕ → List ℕ
-tidied (U.Model x) n ts = ts
+tidied (U.Gives x) n ts = ts
 tidied (U.Refused k) n ts = zeroed n ts

@@ -1,3 +1,1 @@
-pub mod Arms
-pub mod Fielding
-pub mod Reading
+mod Fielding

@@ -11,20 +11,16 @@ use rules::Operation;
 fn is_meeting(o: Operation) -> bool
     ensures { result ≡ is_meeting o }
 {
-    match o {
-        Operation::Split(_) => true,
-        Operation::Union(_, _) => true,
-        _ => false,
-    }
+    matches!(o, Operation::Split(_) | Operation::Union(_, _))
 }
 
 // Notes the third corner v of the triangle of an operation that meets it.
+#[tactic(auto, unfolding(unpack_theory::specs::Met::met_after))]
 pub(crate) fn meet(met: &mut Met, o: Operation, v: u16)
     requires { v < max_vertices }
     ensures { met.new ≡ met_after met.old o v }
 {
-    if !is_meeting(o) {
-        return;
+    if is_meeting(o) {
+        met[usize::from(v)] = 1;
     }
-    met[v as usize] = 1;
 }

@@ -11,10 +11,7 @@ use rules::Operation;
 fn is_side(list: &[u16], chains: &Links, side: u16, x: u16, y: u16) -> bool
     ensures { SideIs list.now chains.now side x y result }
 {
-    if side == 0 {
-        return true;
-    }
-    is_unjoined(list, chains, x, y)
+    side == 0 || is_unjoined(list, chains, x, y)
 }
 
 // Whether the edge rule holds of a plan.
@@ -22,37 +19,25 @@ fn is_plan(list: &[u16], chains: &Links, p: Plan) -> bool
     ensures { PlanIs list.now chains.now p result }
 {
     let t = p.triangle;
-    if !is_distinct(t.p, t.q, t.r) {
-        return false;
-    }
-    if !is_side(list, chains, p.pq, t.p, t.q) {
-        return false;
-    }
-    if !is_side(list, chains, p.qr, t.q, t.r) {
-        return false;
-    }
-    is_side(list, chains, p.rp, t.r, t.p)
+    is_distinct(t.p, t.q, t.r)
+        && is_side(list, chains, p.pq, t.p, t.q)
+        && is_side(list, chains, p.qr, t.q, t.r)
+        && is_side(list, chains, p.rp, t.r, t.p)
 }
 
 // Whether the rule can fail at an operation of this kind.
 fn is_tested(o: Operation) -> bool
     ensures { result ≡ is_tested o }
 {
-    match o {
-        Operation::Forward => true,
-        Operation::Backward => true,
-        Operation::Split(_) => true,
-        Operation::Union(_, _) => true,
-        _ => false,
-    }
+    matches!(
+        o,
+        Operation::Forward | Operation::Backward | Operation::Split(_) | Operation::Union(_, _)
+    )
 }
 
 // Whether the edge rule holds of the plan of an operation.
 pub(crate) fn is_ruled(list: &[u16], chains: &Links, o: Operation, p: Plan) -> bool
     ensures { RuleIs list.now chains.now o p result }
 {
-    if is_tested(o) {
-        return is_plan(list, chains, p);
-    }
-    true
+    !is_tested(o) || is_plan(list, chains, p)
 }

@@ -1,21 +1,20 @@
 -- Integers that fit 64 bits.
 -- Assumes nothing.
 use Prim.Native.Nat.{ℕ, suc, ◌+◌, ◌-◌, ◌*◌, ◌≤◌, ◌<◌}
-use native.Mathlib.Nat.{lt_trans, mul-le-mul}
+use native.Mathlib.Nat.{mul-le-mul}
 use native.Mathlib.Omega.{arith}
 use lib.IntN.{ℤ, pos, negsuc, nat_abs, ◌+ℤ◌, ◌-ℤ◌, ◌*ℤ◌}
 use lib.Signed.{mag}
 use mathlib.Core.Path.{◌≡◌, refl, sym, ap, ap₂, ◌∙◌, subst}
-use mathlib.Core.Bool.{Bool, cond}
-use lib.Dec.{lit<}
-use borrow.Author.Tests.{lt-ltb}
-use mir.Syntax.{w64}
+use mathlib.Core.Bool.{Bool, true, false, cond}
+use lib.Dec.{ltb}
+use borrow.Author.Tests.{ltb-true, ltb-false}
+use mir.Syntax.{w16, w64}
 use mir.Val.{SFits, of_z, to_z}
 use mir.Facts.{to_z_pos, to_z-of_z}
-use Rattle.rules.specs.declared.Point.{Point}
 use Rattle.rules.specs.Grid.{signed_of}
 use Rattle.wire_theory.proofs.Positions.{signed_below, signed_from}
-use Rattle.volume_theory.specs.Near.{Near, limit64}
+use Rattle.volume_theory.specs.Near.{limit64}
 use Rattle.volume_theory.proofs.Integers.{amount_sum, amount_difference, amount_product}
 
 mag_amount : (z : ℤ) → mag z ≤ nat_abs z
@@ -24,46 +23,6 @@ mag_amount (negsuc n) = omega arith
 
 amount_fits : (z : ℤ) → nat_abs z < limit64 → SFits w64 z
 amount_fits z h = record { sfits = (let k = mag_amount z in let e : mag z < 9223372036854775808 = omega arith in e) }
-
--- an operation on two numbers as the machine keeps them
-module _ (f : ℤ → ℤ → ℤ) (a b : ℤ) (ha : SFits w64 a) (hb : SFits w64 b) (h : nat_abs (f a b) < limit64) where
-  pub kept : SFits w64 (f (to_z w64 (of_z w64 a)) (to_z w64 (of_z w64 b)))
-  kept = subst (SFits w64) (sym (ap₂ f (to_z-of_z ha) (to_z-of_z hb))) (amount_fits (f a b) h)
-
-  pub is : to_z w64 (of_z w64 (f (to_z w64 (of_z w64 a)) (to_z w64 (of_z w64 b)))) ≡ f a b
-  is = to_z-of_z kept ∙ ap₂ f (to_z-of_z ha) (to_z-of_z hb)
-
-pub small_product : (a b : ℤ) → nat_abs a * nat_abs b < limit64 → nat_abs (a *ℤ b) < limit64
-small_product a b h = omega (arith, amount_product a b)
-
-pub small_sum : (a b : ℤ) → nat_abs a + nat_abs b < limit64 → nat_abs (a +ℤ b) < limit64
-small_sum a b h = omega (arith, amount_sum a b)
-
-pub small_difference : (a b : ℤ) → nat_abs a + nat_abs b < limit64 → nat_abs (a -ℤ b) < limit64
-small_difference a b h = omega (arith, amount_difference a b)
-
--- a number of 16 bits, as the machine keeps it, made a signed one
-module _ (w : ℕ) (h : w < 65536) where
-  plain : to_z w64 w ≡ pos w
-  plain = to_z_pos w64 (lt_trans h (lit< tt))
-
-  abbrev IsSigned : ℤ → Type 0
-  IsSigned z = (z ≡ signed_of w) × (nat_abs z ≤ 32768)
-
-  pub low_signed : w < 32768 → IsSigned (to_z w64 w)
-  low_signed k = subst IsSigned (sym plain) (sym (signed_below w k), omega arith)
-
-  high_is : 32768 ≤ w → pos w -ℤ pos 65536 ≡ negsuc (65535 - w)
-  high_is k =
-      let e : 65536 - suc w ≡ 65535 - w = omega arith in
-      ap (λ (t : Bool). cond t (negsuc (65536 - suc w)) (pos (w - 65536))) (lt-ltb w 65536 h) ∙ ap negsuc e
-
-  pub high_fits : 32768 ≤ w → SFits w64 (to_z w64 w -ℤ pos 65536)
-  high_fits k = subst (SFits w64) (sym (ap (λ (z : ℤ). z -ℤ pos 65536) plain ∙ high_is k)) (amount_fits (negsuc (65535 - w)) (omega arith))
-
-  pub high_signed : 32768 ≤ w → IsSigned (to_z w64 (of_z w64 (to_z w64 w -ℤ pos 65536)))
-  high_signed k =
-      subst IsSigned (sym (to_z-of_z (high_fits k) ∙ ap (λ (z : ℤ). z -ℤ pos 65536) plain ∙ high_is k)) (sym (signed_from w k), omega arith)
 
 -- a number as the machine keeps it
 abbrev pub held : ℤ → ℤ
@@ -83,52 +42,65 @@ answered {z} {y} {m} h = subst (λ (x : ℤ). (x ≡ y) × (nat_abs x ≤ m)) (s
 
 -- an operation on two of them
 module _ {a b x y : ℤ} {m n : ℕ} (ha : Holds a x m) (hb : Holds b y n) where
-  pub product_may : m * n < limit64 → nat_abs (held a) * nat_abs (held b) < limit64
-  product_may h =
+  pub product_holds : m * n < limit64 → Holds (held a *ℤ held b) (x *ℤ y) (m * n)
+  product_holds h =
       let k : nat_abs (held a) * nat_abs (held b) ≤ m * n = mul-le-mul (answered ha).1 (answered hb).1 in
-      omega arith
-
-  pub sum_may : m + n < limit64 → nat_abs (held a) + nat_abs (held b) < limit64
-  sum_may h = omega (arith, (answered ha).1, (answered hb).1)
-
-  pub product_holds : (t : ℤ) → SFits w64 t → t ≡ held a *ℤ held b → Holds t (x *ℤ y) (m * n)
-  product_holds t f e =
-      let k : nat_abs (held a) * nat_abs (held b) ≤ m * n = mul-le-mul (answered ha).1 (answered hb).1 in
+      let s : nat_abs (held a *ℤ held b) ≤ m * n = omega (arith, amount_product (held a) (held b)) in
       record {
-        fits = f;
-        is = e ∙ ap₂ ◌*ℤ◌ (answered ha).0 (answered hb).0;
-        small = omega (arith, ap nat_abs e, amount_product (held a) (held b));
+        fits = amount_fits (held a *ℤ held b) (omega arith);
+        is = ap₂ ◌*ℤ◌ (answered ha).0 (answered hb).0;
+        small = s;
       }
 
-  pub sum_holds : (t : ℤ) → SFits w64 t → t ≡ held a +ℤ held b → Holds t (x +ℤ y) (m + n)
-  sum_holds t f e = record {
-    fits = f;
-    is = e ∙ ap₂ ◌+ℤ◌ (answered ha).0 (answered hb).0;
-    small = omega (arith, ap nat_abs e, amount_sum (held a) (held b), (answered ha).1, (answered hb).1);
-  }
+  pub sum_holds : m + n < limit64 → Holds (held a +ℤ held b) (x +ℤ y) (m + n)
+  sum_holds h =
+      let s : nat_abs (held a +ℤ held b) ≤ m + n =
+      omega (arith, amount_sum (held a) (held b), (answered ha).1, (answered hb).1) in
+      record {
+        fits = amount_fits (held a +ℤ held b) (omega arith);
+        is = ap₂ ◌+ℤ◌ (answered ha).0 (answered hb).0;
+        small = s;
+      }
 
-  pub difference_holds : (t : ℤ) → SFits w64 t → t ≡ held a -ℤ held b → Holds t (x -ℤ y) (m + n)
-  difference_holds t f e = record {
-    fits = f;
-    is = e ∙ ap₂ ◌-ℤ◌ (answered ha).0 (answered hb).0;
-    small = omega (arith, ap nat_abs e, amount_difference (held a) (held b), (answered ha).1, (answered hb).1);
-  }
-
--- three of them are a point
-pub point_holds : {x y z : ℤ} {p : Point} → Holds x p.x 32768 → Holds y p.y 32768 → Holds z p.z 32768
-    → (◌≡◌ {A = Point} (record { x = held x; y = held y; z = held z }) p) × Near (record { x = held x; y = held y; z = held z })
-point_holds {x} {y} {z} {p} hx hy hz = (
-  λ i. record { x = (answered hx).0 i; y = (answered hy).0 i; z = (answered hz).0 i },
-  record { x = (answered hx).1; y = (answered hy).1; z = (answered hz).1 },
-)
+  pub difference_holds : m + n < limit64 → Holds (held a -ℤ held b) (x -ℤ y) (m + n)
+  difference_holds h =
+      let s : nat_abs (held a -ℤ held b) ≤ m + n =
+      omega (arith, amount_difference (held a) (held b), (answered ha).1, (answered hb).1) in
+      record {
+        fits = amount_fits (held a -ℤ held b) (omega arith);
+        is = ap₂ ◌-ℤ◌ (answered ha).0 (answered hb).0;
+        small = s;
+      }
 
 -- an argument, and a small number
 pub given : {z : ℤ} {m : ℕ} → SFits w64 z → nat_abs z ≤ m → Holds z z m
 given f l = record { fits = f; is = refl; small = l }
 
+pub small : (z : ℤ) (m : ℕ) → m < limit64 → nat_abs z ≤ m → Holds z z m
+small z m h l = given (amount_fits z (omega arith)) l
+
 pub near : (z : ℤ) → nat_abs z ≤ 32768 → Holds z z 32768
 near z l = given (amount_fits z (omega arith)) l
 
--- an answer
-pub told : {z y : ℤ} {m : ℕ} → SFits w64 z → (z ≡ y) × (nat_abs z ≤ m) → Holds z y m
-told f e = record { fits = f; is = e.0; small = e.1 }
+-- a number of 16 bits, as a signed one
+cast_is : (w : ℕ) → w < 65536 → to_z w16 w ≡ signed_of w
+cast_is w h = go (ltb w 32768) refl
+  where
+    go : (b : Bool) → ltb w 32768 ≡ b → to_z w16 w ≡ signed_of w
+    go true e = to_z_pos w16 (ltb-true w 32768 e) ∙ sym (signed_below w (ltb-true w 32768 e))
+    go false e =
+        let k : 65536 - suc w ≡ 65535 - w = omega arith in
+        ap (λ (t : Bool). cond t (pos w) (negsuc (65536 - suc w))) e ∙ ap negsuc k ∙ sym (signed_from w (ltb-false w 32768 e))
+
+cast_small : (w : ℕ) → w < 65536 → nat_abs (signed_of w) ≤ 32768
+cast_small w h = go (ltb w 32768) refl
+  where
+    go : (b : Bool) → ltb w 32768 ≡ b → nat_abs (signed_of w) ≤ 32768
+    go true e = omega (arith, ap nat_abs (signed_below w (ltb-true w 32768 e)), ltb-true w 32768 e)
+    go false e = omega (arith, ap nat_abs (signed_from w (ltb-false w 32768 e)), ltb-false w 32768 e)
+
+pub signed_holds : (w : ℕ) (x y : ℤ) → w < 65536 → SFits w16 x → SFits w64 y → x ≡ to_z w16 w → y ≡ to_z w16 (of_z w16 x)
+    → Holds y (signed_of w) 32768
+signed_holds w x y h fx fy ex ey =
+    let e : y ≡ signed_of w = ey ∙ to_z-of_z fx ∙ ex ∙ cast_is w h in
+    record { fits = fy; is = e; small = omega (arith, ap nat_abs e, cast_small w h) }

@@ -12,12 +12,10 @@ use mir.Val.{SFits}
 use mir.Facts.{to_z-of_z}
 use Rattle.rules.specs.declared.Point.{Point}
 use Rattle.rules.specs.declared.Triangle.{Triangle}
-use Rattle.rules.specs.Limits.{max_triangles}
 use Rattle.rules.specs.Triangle.{tri, triangles_of}
 use Rattle.rules.specs.Volume.{determinant, six_volumes}
-use Rattle.volume_theory.specs.Near.{Near, largest, limit64, determinant_at}
-use Rattle.volume_theory.proofs.Integers.{amount_sum}
-use Rattle.volume_theory.proofs.Fitting.{held, Holds, answered, near}
+use Rattle.volume_theory.specs.Near.{Near, largest, corners_at, determinant_of}
+use Rattle.volume_theory.proofs.Fitting.{held, answered, near}
 use Rattle.volume_theory.proofs.Triple.{triple}
 
 same : (z : ℤ) → nat_abs z ≤ 32768 → held z ≡ z
@@ -90,29 +88,18 @@ none_summed n zs xs =
       small = omega arith;
     }
 
-module _ (n : ℕ) (zs : List ℤ) (xs : List ℕ) (t : ℕ) (z d : ℤ) (few : n ≤ max_triangles) (more : 0 < t)
-    (s : Summed n zs xs t z) (h : Holds d (determinant_at zs xs (t - 1)) largest) where
-  pub sum_fits : nat_abs (held d) + nat_abs z < limit64
-  sum_fits = omega (arith, (answered h).1, s.small, s.within)
-
-  pub more_summed : (w : ℤ) → 3 * (t - 1) + 3 ≤ length xs → SFits w64 w → w ≡ held d +ℤ z → Summed n zs xs (t - 1) (held w)
+module _ (n : ℕ) (zs : List ℤ) (xs : List ℕ) (t : ℕ) (z : ℤ) (more : 0 < t) (s : Summed n zs xs t z) where
+  pub more_summed : (k : Triangle) (w : ℤ) → k ≡ corners_at xs (t - 1) → 3 * (t - 1) + 3 ≤ length xs → SFits w64 w
+      → (w ≡ determinant_of zs k +ℤ z) × (nat_abs w ≤ largest + nat_abs z) → Summed n zs xs (t - 1) (held w)
   unfolding six_volumes
-  more_summed w l f e =
-      let k : suc (n - t) ≡ n - (t - 1) = omega (arith, s.within) in
+  more_summed k w g l f e =
+      let i : suc (n - t) ≡ n - (t - 1) = omega (arith, s.within) in
       let j : t - 1 + 1 ≡ t = omega arith in
-      let m = amount_sum (held d) z in
       record {
         within = omega (arith, s.within);
         is =
-            to_z-of_z f ∙ e ∙ ap₂ ◌+ℤ◌ (answered h).0 s.is
-            ∙ ap (λ (i : ℕ). determinant_at zs xs (t - 1) +ℤ six_volumes zs (from xs i (n - t))) (sym j)
-            ∙ sym (ap (six_volumes zs) (one_more xs (t - 1) (n - t) l)) ∙ ap (λ (i : ℕ). six_volumes zs (from xs (t - 1) i)) k;
-        small = omega (arith, m, (answered h).1, s.small, s.within, ap nat_abs (to_z-of_z f ∙ e));
+            to_z-of_z f ∙ e.0 ∙ ap₂ (λ (x : Triangle) (y : ℤ). determinant_of zs x +ℤ y) g s.is
+            ∙ ap (λ (m : ℕ). determinant_of zs (corners_at xs (t - 1)) +ℤ six_volumes zs (from xs m (n - t))) (sym j)
+            ∙ sym (ap (six_volumes zs) (one_more xs (t - 1) (n - t) l)) ∙ ap (λ (m : ℕ). six_volumes zs (from xs (t - 1) m)) i;
+        small = omega (arith, e.1, s.small, s.within, ap nat_abs (to_z-of_z f));
       }
-
-pub all_summed : (n : ℕ) (zs : List ℤ) (xs : List ℕ) (t : ℕ) (z : ℤ) → t ≤ 0 → Summed n zs xs t z
-    → z ≡ six_volumes zs (triangles_of (take (3 * n) xs))
-all_summed n zs xs t z h s =
-    let e : t ≡ 0 = omega arith in
-    let k : n - t ≡ n = omega arith in
-    s.is ∙ ap₂ (λ (i j : ℕ). six_volumes zs (from xs i j)) e k

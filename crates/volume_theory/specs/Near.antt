@@ -40,10 +40,9 @@ pub record HasCorners (t : Triangle) (bs : List ℕ) : Type 0 where
 abbrev pub determinant_of : List ℤ → Triangle → ℤ
 determinant_of zs t = determinant (point_at zs t.p) (point_at zs t.q) (point_at zs t.r)
 
--- the determinant of triangle t of xs
-abbrev pub determinant_at : List ℤ → List ℕ → ℕ → ℤ
-determinant_at zs xs t =
-    determinant (point_at zs (get_or xs (3 * t) 0)) (point_at zs (get_or xs (3 * t + 1) 0)) (point_at zs (get_or xs (3 * t + 2) 0))
+-- triangle t of xs
+abbrev pub corners_at : List ℕ → ℕ → Triangle
+corners_at xs t = record { p = get_or xs (3 * t) 0; q = get_or xs (3 * t + 1) 0; r = get_or xs (3 * t + 2) 0 }
 
 -- n triangles of xs, few enough, of whose corners the field bs has the positions
 pub record Measurable (xs : List ℕ) (n : ℕ) (bs : List ℕ) : Type 0 where

@@ -1,8 +1,4 @@
-pub mod Codes
-pub mod Contents
-pub mod Header
-pub mod Notes
+pub mod Later
 pub mod Reading
 pub mod Told
-pub mod Windows
 pub mod Words

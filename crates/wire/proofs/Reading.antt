@@ -1,96 +1,132 @@
--- What the reader reads as an operation is the operation at its position.
+-- Numbers and operations at a bit position: laws over plain bytes, one for each answer.
 -- Assumes nothing.
-use Prim.Native.Nat.{ℕ, ◌*◌, ◌<◌}
+use Prim.Native.Nat.{ℕ, ◌+◌, ◌*◌, ◌-◌, ◌/◌, ◌%◌, ◌^◌, ◌≤◌, ◌<◌}
+use native.Mathlib.Nat.{mod-eq_of_lt, one-mul}
 use native.Mathlib.Omega.{arith}
-use mathlib.Core.Bool.{Bool, true, false, not, true≢false}
 use mathlib.Core.List.{List}
-use mathlib.Core.Logic.{inl, inr}
-use mathlib.Core.Path.{◌≡◌, refl, sym, ap, ap₂, ◌∙◌, subst}
-use lib.ListN.{length, drop}
-use borrow.Author.Tests.{le-leb, ne_eqb}
+use mathlib.Core.Path.{◌≡◌, refl, sym, ap, ap₂, ◌∙◌}
+use lib.Dec.{eqb}
+use lib.ListN.{length, take, drop, get_or, length-drop}
+use lib.Pow.{pow_mono}
+use lib.Seq.{drop-drop}
+use mir.Syntax.{w8}
+use mir.Val as Val
 use Rattle.rules.specs.declared.Operation.{Operation}
-use Rattle.rules.specs.Bits.{bits_of_bytes}
-use Rattle.rules.specs.Code.{Read, breaks_off, read, read_operation, kinds, kind_in}
-use Rattle.wire.specs.declared.reader.Number.{Number}
-use Rattle.wire.specs.declared.reader.Number.TheVariants.{Value, BrokenOff}
-use Rattle.wire.specs.declared.reader.OperationRead.{OperationRead}
-use Rattle.wire.specs.declared.reader.OperationRead.TheVariants.{Found, BreaksOff}
-use Rattle.wire.specs.Reader.{number_at, IndexedIs, PlainIs, plain_of, next_of, place_at, split_of, union_in, indexed_of, indices_at}
-use Rattle.wire.specs.Reader.{most_bytes, operation_in, operation_within, operation_at, Ahead, ReadIs}
-use Rattle.wire.proofs.Codes.{union_of, answered, breaks_code, by_split, by_union, by_kind}
+use Rattle.rules.specs.declared.Operation.TheVariants.{New, Forward, Backward, Border, Split, Close, Union, Start}
+use Rattle.rules.specs.Bits.{value_of, bits_of_bytes, number, read_number}
+use Rattle.rules.specs.Code.{read, read_split, read_place, read_union, kinds, kind_in, read_indices, read_code}
+use Rattle.rules.specs.Code.{read_operation}
+use Rattle.rules.specs.Unpack.{rest_fits}
+use Rattle.wire_theory.specs.Shape.{width_of}
+use Rattle.wire_theory.proofs.Lists.{below_all, below_drop}
+use Rattle.wire_theory.proofs.Numbers.{read_enough, read_short}
+use Rattle.wire_theory.proofs.Bytes.{length_bits_of_bytes, bits_of_bytes_are}
+use Rattle.wire_theory.proofs.Operations as Ops
+use Rattle.wire_theory.proofs.Operations.{operation_read, length_read, length_operation, width_least}
+use Rattle.wire_theory.proofs.Rest.{rest_part}
+use Rattle.wire_theory.proofs.Window.{window_value}
+use Rattle.wire.specs.Reader.{most_bytes, NumberFound, NumberEnds, OperationFound, OperationEnds}
 
--- one law for each way through the functions that the reader calls
-pub plain_broken : (n : Number) → n ≡ BrokenOff → PlainIs n true
-plain_broken n e = subst (λ (x : Number). PlainIs x true) (sym e) refl
+-- ---- shifts
 
-twice : (b : Bool) → not (not b) ≡ b
-twice true = refl
-twice false = refl
+-- a one, shifted, is a power
+shifted : (n : ℕ) → n ≤ 10 → 1 * 2 ^ n % 18446744073709551616 ≡ 2 ^ n
+shifted n h =
+    let p : 2 ^ n ≤ 1024 = pow_mono h in
+    let e : 1 * 2 ^ n ≡ 2 ^ n = one-mul (2 ^ n) in
+    mod-eq_of_lt (omega arith) ∙ e
 
-pub plain_coded : (n : Number) (c next : ℕ) (i : Bool) → n ≡ Value c next → IndexedIs c i → PlainIs n (not i)
-plain_coded n c next i e h = subst (λ (x : Number). PlainIs x (not i)) (sym e) (subst (IndexedIs c) (sym (twice i)) h)
+-- ---- a number
 
-pub plain_found : (n : Number) (c next : ℕ) (o : Operation) → n ≡ Value c next → o ≡ kind_in c kinds → Found o next ≡ plain_of n
-plain_found n c next o e h = ap (λ (k : Operation). Found k next) h ∙ sym (ap plain_of e)
+module _ (bs : List ℕ) where
+  left : (at : ℕ) → length (drop at (bits_of_bytes bs)) ≡ 8 * length bs - at
+  left at = length-drop at (bits_of_bytes bs) ∙ ap (λ (k : ℕ). k - at) (length_bits_of_bytes bs)
 
-pub place_union : (n p : Number) (c next r : ℕ) → n ≡ Value c next → (c ≡ 4 → ⊥) → r ≡ next_of p → r ≡ place_at n p
-place_union n p c next r e d h = h ∙ sym (ap (λ (x : Number). place_at x p) e ∙ rw (place_at, ne_eqb c 4 d))
+  module _ (n at : ℕ) where
+    pub number_ends : 0 < n → length bs < at / 8 + (at % 8 + n + 7) / 8 → NumberEnds n bs at
+    number_ends p l s = read_short n 0 (drop at (bits_of_bytes bs)) (omega (arith, left at))
 
-pub indexed_union : (n p j : Number) (c next : ℕ) (r : OperationRead) → n ≡ Value c next → (c ≡ 4 → ⊥) → r ≡ union_in p j
-    → r ≡ indexed_of n p j
-indexed_union n p j c next r e d h = h ∙ sym (ap (λ (x : Number). indexed_of x p j) e ∙ rw (indexed_of, ne_eqb c 4 d))
+    pub number_found : (a b c : ℕ) → ((i : ℕ) → Val.Fits w8 (get_or bs i 0)) → n ≤ 10 → length bs ≤ most_bytes
+        → at / 8 + (at % 8 + n + 7) / 8 ≤ length bs
+        → a ≡ get_or bs (at / 8) 0 → b ≡ get_or bs (at / 8 + 1) 0 → c ≡ get_or bs (at / 8 + 2) 0
+        → NumberFound n bs at ((65536 * a + 256 * b + c) / 2 ^ (24 - at % 8 - n) % (1 * 2 ^ n % 18446744073709551616)) (at + n)
+    number_found a b c all s h l ea eb ec =
+        let xs = drop at (bits_of_bytes bs) in
+        let w : value_of 0 (take n xs)
+        ≡ (65536 * get_or bs (at / 8) 0 + 256 * get_or bs (at / 8 + 1) 0 + get_or bs (at / 8 + 2) 0) / 2 ^ (24 - at % 8 - n) % 2 ^ n =
+        window_value bs at n (below_all 256 bs (λ i. (all i).fits)) (omega arith) (omega arith) in
+        let d : drop n xs ≡ drop (at + n) (bits_of_bytes bs) = drop-drop n at (bits_of_bytes bs) in
+        record {
+          reads = rw (ea, eb, ec, shifted n s) (read_enough n 0 xs (omega (arith, left at)) ∙ ap₂ number w d);
+          width = refl;
+          within = omega arith;
+          short = h;
+        }
 
-pub plain_read : (bs : List ℕ) (at : ℕ) (n : Number) (b : Bool) (r : OperationRead) → n ≡ number_at 3 bs at → PlainIs n b → b ≡ true
-    → r ≡ plain_of n → ReadIs bs at r
-plain_read bs at BrokenOff b r e h t g = answered bs at r (g ∙ breaks_code bs at (sym e))
-plain_read bs at (Value c next) b r e h t g =
-    let k : IndexedIs c false = subst (λ (x : Bool). IndexedIs c (not x)) t h in
-    answered bs at r (g ∙ by_kind bs at c next (sym e) k.0 k.1 (kind_in c kinds) refl)
+-- ---- an operation
 
--- as the definition goes: a union's place after its loop
-union_in_lem : (bs : List ℕ) (p : Number) → union_in p (number_at 10 bs (next_of p)) ≡ union_of bs p
-union_in_lem bs BrokenOff = refl
-union_in_lem bs (Value p next) = refl
+module _ (bs : List ℕ) (at : ℕ) where
+  -- what was read says the rest
+  found : (o : Operation) (next : ℕ) → length bs ≤ most_bytes → next ≤ 8 * length bs
+      → read_operation (drop at (bits_of_bytes bs)) ≡ read o (drop next (bits_of_bytes bs)) → OperationFound bs at o next
+  found o next s l e =
+      let xs = drop at (bits_of_bytes bs) in
+      let ys = drop next (bits_of_bytes bs) in
+      let r : Ops.OperationRead o xs ys = operation_read o xs ys (below_drop 2 at (bits_of_bytes bs) (bits_of_bytes_are bs)) e in
+      let w : next ≡ at + width_of o = omega (arith, left bs at, left bs next, length_read o xs ys r, width_least o) in
+      record {
+        reads = e;
+        fits = r.fits;
+        width = w;
+        ahead = omega (arith, width_least o);
+        within = l;
+        short = s;
+      }
 
-split_indices : (bs : List ℕ) (c next : ℕ) → c ≡ 4 → indices_at bs (Value c next) ≡ split_of (number_at 10 bs next)
-split_indices bs c next e =
-    subst (λ (k : ℕ). indices_at bs (Value k next) ≡ split_of (number_at 10 bs next)) (sym e) refl
+  pub ends_code : NumberEnds 3 bs at → OperationEnds bs at
+  unfolding read_operation
+  ends_code h s = ap read_code (h s)
 
-union_indices : (bs : List ℕ) (c next : ℕ) → c ≡ 6 → indices_at bs (Value c next) ≡ union_of bs (number_at 7 bs next)
-union_indices bs c next e =
-    subst (λ (k : ℕ). indices_at bs (Value k next) ≡ union_of bs (number_at 7 bs next)) (sym e) (union_in_lem bs (number_at 7 bs next))
+  module _ (c next : ℕ) (n : NumberFound 3 bs at c next) (k : Operation) (is : k ≡ kind_in c kinds) where
+    by_kind : (o : Operation) → k ≡ o → read_operation (drop at (bits_of_bytes bs)) ≡ read_indices o (drop next (bits_of_bytes bs))
+    unfolding read_operation
+    by_kind o e = ap read_code n.reads ∙ ap (λ (i : Operation). read_indices i (drop next (bits_of_bytes bs))) (sym is ∙ e)
 
-pub indices_read : (bs : List ℕ) (at : ℕ) (n : Number) (b : Bool) (r : OperationRead) → n ≡ number_at 3 bs at → PlainIs n b → b ≡ false
-    → r ≡ indices_at bs n → ReadIs bs at r
-indices_read bs at BrokenOff b r e h t g = absurd (true≢false (sym h ∙ t))
-indices_read bs at (Value c next) b r e h t g =
-    let k : IndexedIs c true = subst (λ (x : Bool). IndexedIs c (not x)) t h in
-    answered bs at r
-    (elim k [
-      | inl x ↦ by_split bs at c next (sym e) x r (g ∙ split_indices bs c next x)
-      | inr x ↦ by_union bs at c next (sym e) x r (g ∙ union_indices bs c next x)
-    ])
+    pub ends_split : (x : ℕ) → k ≡ Split x → NumberEnds 10 bs next → OperationEnds bs at
+    ends_split x e h s = by_kind (Split x) e ∙ ap read_split (h s)
 
--- the indices as they are read: each position, and the number there
-pub indices_by : (bs : List ℕ) (n : Number) (k i : ℕ) (p j : Number) (r : OperationRead) → k ≡ next_of n → p ≡ number_at 7 bs k
-    → i ≡ place_at n p
-    → j ≡ number_at 10 bs i → r ≡ indexed_of n p j → r ≡ indices_at bs n
-indices_by bs n k i p j r e-k e-p e-i e-j e-r =
-    let f : p ≡ number_at 7 bs (next_of n) = e-p ∙ ap (number_at 7 bs) e-k in
-    e-r ∙ ap₂ (indexed_of n) f (e-j ∙ ap (number_at 10 bs) (e-i ∙ ap (place_at n) f))
+    pub found_split : (x i after : ℕ) → k ≡ Split x → NumberFound 10 bs next i after → OperationFound bs at (Split i) after
+    found_split x i after e m = found (Split i) after n.short m.within (by_kind (Split x) e ∙ ap read_split m.reads)
 
--- ---- what was read, in the words of the rules
-broken_by : (t : ℕ) (r : Read) → operation_in t r ≡ BreaksOff → r ≡ breaks_off
-broken_by t breaks_off e = refl
-broken_by t (read o ys) e = let z : ◌≡◌ {A = ℕ} 0 1 = cc in absurd (omega arith)
+    pub ends_loop : (x y : ℕ) → k ≡ Union x y → NumberEnds 7 bs next → OperationEnds bs at
+    ends_loop x y e h s = by_kind (Union x y) e ∙ ap read_union (h s)
 
-pub read_broken : (ops : List ℕ) (at : ℕ) (r : OperationRead) → length ops < 65536 → r ≡ operation_at ops at → r ≡ BreaksOff
-    → read_operation (drop at (bits_of_bytes ops)) ≡ breaks_off
-unfolding operation_at
-read_broken ops at r l i e =
-    broken_by (8 * length ops) (read_operation (drop at (bits_of_bytes ops)))
-    (sym (ap (λ (b : Bool). operation_within b ops at) (le-leb (length ops) most_bytes (omega arith))) ∙ sym i ∙ e)
+    module _ (x y p after : ℕ) (e : k ≡ Union x y) (m : NumberFound 7 bs next p after) where
+      by_loop : read_operation (drop at (bits_of_bytes bs)) ≡ read_place p (read_number 10 0 (drop after (bits_of_bytes bs)))
+      by_loop = by_kind (Union x y) e ∙ ap read_union m.reads
 
-pub read_found : (ops : List ℕ) (at : ℕ) (r : OperationRead) (o : Operation) (next : ℕ) → Ahead ops at r → r ≡ Found o next
-    → read_operation (drop at (bits_of_bytes ops)) ≡ read o (drop next (bits_of_bytes ops))
-read_found ops at r o next h e = (h o next e).reads
+      pub ends_place : NumberEnds 10 bs after → OperationEnds bs at
+      ends_place h s = by_loop ∙ ap (read_place p) (h s)
+
+      pub found_union : (j last : ℕ) → NumberFound 10 bs after j last → OperationFound bs at (Union p j) last
+      found_union j last o = found (Union p j) last n.short o.within (by_loop ∙ ap (read_place p) o.reads)
+
+    plain : (o : Operation) (ys : List ℕ) → ((x : ℕ) → o ≡ Split x → ⊥) → ((x y : ℕ) → o ≡ Union x y → ⊥) → read_indices o ys ≡ read o ys
+    plain New ys h i = refl
+    plain Forward ys h i = refl
+    plain Backward ys h i = refl
+    plain Border ys h i = refl
+    plain (Split x) ys h i = absurd (h x refl)
+    plain Close ys h i = refl
+    plain (Union x y) ys h i = absurd (i x y refl)
+    plain Start ys h i = refl
+
+    pub found_plain : ((x : ℕ) → k ≡ Split x → ⊥) → ((x y : ℕ) → k ≡ Union x y → ⊥) → OperationFound bs at k next
+    found_plain h i = found k next n.short n.within (by_kind k refl ∙ plain k (drop next (bits_of_bytes bs)) h i)
+
+-- ---- what is left
+
+pub rest_read : (bs : List ℕ) (at b : ℕ) → b ≡ get_or bs (at / 8) 0 → at / 8 < length bs → length bs ≤ at / 8 + 1 → (at % 8 ≡ 0 → ⊥)
+    → eqb (b % (1 * 2 ^ (8 - at % 8) % 18446744073709551616)) 0 ≡ rest_fits (drop at (bits_of_bytes bs))
+rest_read bs at b e h l p =
+    ap₂ (λ (x y : ℕ). eqb (x % y) 0) e (shifted (8 - at % 8) (omega arith)) ∙ rest_part bs at (omega arith) (omega arith)

@@ -1,13 +1,19 @@
-// The tagged fields of a pack: found in any bytes, and written before the operations.
+// The tagged fields of a pack: taken off the front of any bytes, and written before the operations.
 // Its contracts cite specs/Fields.antt.
-ghost use Rattle.std.specs.Prelude.{◌≡◌, ◌+◌, ◌/◌, ◌%◌, ◌<◌, ◌≤◌, leb, length, take, drop};
-ghost use Rattle.rules.specs.Fields.{word_at, counts_from};
-ghost use Rattle.rules.specs.Limits.{between, in_range};
+ghost use Rattle.std.specs.Prelude.{◌≡◌, ◌+◌, ◌-◌, ◌*◌, ◌≤◌, ◌<◌, true, leb, length, take, drop};
+ghost use Rattle.std.specs.Prelude.{Some, IsNone, IfSome, IfOk, IfErr};
+ghost use Rattle.rules.specs.Fields.{word_at, take_field, no_field, field, fields_of, fields, counts_from};
+ghost use Rattle.rules.specs.Limits.{in_range};
 ghost use Rattle.rules.specs.Machine.{long_enough};
+ghost use Rattle.rules.specs.Later.{parts_of};
+ghost use Rattle.rules.specs.Note.{past, take_note};
+ghost use Rattle.promises.specs.Promises.{further};
 ghost use Rattle.wire_theory.specs.Header.{header_of};
-ghost use Rattle.wire.specs.Fields.{field_at, pack_fields, Parted, PartsTold, PastAt, NoteTold, FrontAt, headed};
+ghost use Rattle.wire.specs.Fields.{refused_by, headed};
+ghost use Rattle.wire.specs.Told.{parts_told, note_told};
 
-use crate::wide;
+// `as u16` names constants that have 16 bits, or narrows a remainder by 65,536 (`header_of`): `try_from` would be no plainer.
+use rules::refusal::Refusal;
 use rules::{Builder, Counts, TRIANGLES, VERTICES};
 
 const COUNTS_TAG: u8 = 1;
@@ -18,260 +24,240 @@ pub const POSITIONS_TAG: u8 = 3;
 
 pub const NOTE_TAG: u8 = 4;
 
-// So many bytes stand before the operations: 11 for the counts with their tag and length, 3 for the operations' tag and length.
+// So many bytes stand before the operations: 11 for the counts with their tag and length, 3 for the operations' tag and
+// length.
 pub const HEADER: usize = 14;
 
-// What a pack holds: its counts, and where its operations start and end; or the refusal, 12 or 13.
-#[derive(Drop)]
-pub enum PackFields {
-    Found(Counts, usize, usize),
-    Refused(u8),
+/// The contents of a field, and the bytes after it.
+#[derive(Clone, Copy)]
+pub struct Field<'a> {
+    pub contents: &'a [u8],
+    pub rest: &'a [u8],
 }
 
-// The first two fields of a pack alone; or where they end and where the contents of a field of positions after them begin; or neither.
-#[derive(Drop)]
-pub enum PackParts {
-    Two,
-    Three(usize, usize),
-    Neither,
+/// What a pack holds: the counts that it states, and its operations.
+#[derive(Clone, Copy)]
+pub struct Pack<'a> {
+    pub stated: Counts,
+    pub operations: &'a [u8],
 }
 
-// Where a pack's other fields end and where the contents of its note begin, which go to the end of the pack; or it has none.
-#[derive(Drop)]
-pub enum PackNote {
-    At(usize, usize),
-    Nothing,
+/// A pack's first two fields, as they stand, and the contents of the third, if there is one.
+#[derive(Clone, Copy)]
+pub struct Parts<'a> {
+    pub two: &'a [u8],
+    pub positions: Option<&'a [u8]>,
 }
 
-// Where the contents of a field start and end.
-#[derive(Drop)]
-enum Contents {
-    At(usize, usize),
-    Nothing,
+/// What stands before the note of a pack, and the contents of the note, if there is one.
+#[derive(Clone, Copy)]
+pub struct NoteSplit<'a> {
+    pub before: &'a [u8],
+    pub note: Option<&'a [u8]>,
 }
 
-// The number in two bytes.
+/// The number in two bytes.
 pub fn word_at(pack: &[u8], i: usize) -> u16
     requires { i + 1 < length pack.now }
     ensures { result ≡ word_at pack.now i }
 {
-    (256 * wide(pack[i]) + wide(pack[i + 1])) as u16
+    u16::from_be_bytes([pack[i], pack[i + 1]])
 }
 
-// The field with this tag at a position, if it is there and whole.
-fn field_at(pack: &[u8], at: usize, tag: u8) -> Contents
-    ensures { result ≡ field_at pack.now at tag }
+/// Takes the field with this tag off the front of some bytes, if it is there and whole.
+#[tactic(auto, unfolding(rules::specs::Fields::take_field))]
+pub fn take_field<'a>(bytes: &'a [u8], tag: u8) -> Option<Field<'a>>
+    ensures none { IsNone result → take_field tag bytes.now ≡ no_field }
+    ensures some { IfSome result (λ f. take_field tag bytes.now ≡ field f.contents.now f.rest.now) }
+    ensures long { IfSome result (λ f. length f.contents.now + length f.rest.now + 3 ≡ length bytes.now) }
+    ensures short { IfSome result (λ f. length f.contents.now < 65536) }
+    ensures place { IfSome result (λ f. f.contents.ref_ptr ≡ further 3 bytes.entry.ref_ptr) }
+    ensures after { IfSome result (λ f. f.rest.ref_ptr ≡ further (length bytes.now - length f.rest.now) bytes.entry.ref_ptr) }
 {
-    if pack.len() < 3 {
-        return Contents::Nothing;
+    let [t, high, low, rest @ ..] = bytes else {
+        return None;
+    };
+    // As the definition writes it: with `from_be_bytes` here the check does not find the proof by itself.
+    let n = 256 * usize::from(*high) + usize::from(*low);
+    if *t != tag {
+        return None;
     }
-    if pack.len() - 3 < at {
-        return Contents::Nothing;
+    if rest.len() < n {
+        return None;
     }
-    if pack[at] != tag {
-        return Contents::Nothing;
-    }
-    let start = at + 3;
-    let n = word_at(pack, at + 1) as usize;
-    if pack.len() - start < n {
-        return Contents::Nothing;
-    }
-    Contents::At(start, start + n)
+    Some(Field {
+        contents: &bytes[3..3 + n],
+        rest: &bytes[3 + n..],
+    })
 }
 
-// The four counts, which are the first field's contents.
-fn counts_of(pack: &[u8]) -> Counts
-    requires { 11 ≤ length pack.now }
-    ensures { result ≡ counts_from (take 8 (drop 3 pack.now)) }
+// The four counts of the first field's contents.
+fn counts_of(contents: &[u8]) -> Counts
+    requires { length contents.now ≡ 8 }
+    ensures { result ≡ counts_from contents.now }
 {
     Counts {
-        vertices: word_at(pack, 3),
-        triangles: word_at(pack, 5),
-        places: word_at(pack, 7),
-        loops: word_at(pack, 9),
+        vertices: word_at(contents, 0),
+        triangles: word_at(contents, 2),
+        places: word_at(contents, 4),
+        loops: word_at(contents, 6),
     }
 }
 
-// Whether a count is in a range, both ends included.
-fn is_between(low: u16, n: u16, high: u16) -> bool
-    ensures { result ≡ between low n high }
-{
-    if n < low {
-        return false;
-    }
-    n <= high
-}
-
-// Whether the counts are in 13's ranges.
+/// Whether the counts are in 13's ranges.
 pub fn is_in_range(counts: Counts) -> bool
     ensures { result ≡ in_range counts }
 {
-    if !is_between(3, counts.vertices, VERTICES as u16) {
-        return false;
-    }
-    if !is_between(1, counts.triangles, TRIANGLES as u16) {
-        return false;
-    }
-    if !is_between(3, counts.places, Builder::MAX_PLACES as u16) {
-        return false;
-    }
-    is_between(1, counts.loops, Builder::MAX_LOOPS as u16)
+    (3..=VERTICES as u16).contains(&counts.vertices)
+        && (1..=TRIANGLES as u16).contains(&counts.triangles)
+        && (3..=Builder::MAX_PLACES as u16).contains(&counts.places)
+        && (1..=Builder::MAX_LOOPS as u16).contains(&counts.loops)
 }
 
-// 14: whether a triangle buffer of this length and n place records are enough for what is stated.
+/// 14: whether a triangle buffer of this length and n place records are enough for what is stated.
 pub fn is_long_enough(stated: Counts, length: usize, n: usize) -> bool
     ensures { result ≡ long_enough (record { triangles = length; places = n }) stated }
 {
-    if length < 3 * (stated.triangles as usize) {
-        return false;
-    }
-    Builder::MAX_PLACES <= n
+    3 * usize::from(stated.triangles) <= length && Builder::MAX_PLACES <= n
 }
 
-// The two fields of any bytes, tested for 12 and 13. Nothing follows the operations, which are the part of the pack from the
-// first position answered to the second.
-pub fn fields_of(pack: &[u8]) -> PackFields
-    ensures value { result ≡ pack_fields pack.now }
-    ensures part { Parted pack.now result }
+/// The two fields of any bytes, tested for 12 and 13. Nothing follows the operations, which are the very bytes of the pack
+/// from its header on.
+#[tactic(auto, unfolding(rules::specs::Fields::fields_of))]
+pub fn fields_of<'a>(pack: &'a [u8]) -> Result<Pack<'a>, Refusal>
+    ensures found { IfOk result (λ p. fields_of pack.now ≡ fields p.stated p.operations.now) }
+    ensures range { IfOk result (λ p. in_range p.stated ≡ true) }
+    ensures refused { IfErr result (λ e. refused_by (fields_of pack.now) ≡ Some e) }
+    ensures short { IfOk result (λ p. length p.operations.now < 65536) }
+    ensures place { IfOk result (λ p. p.operations.ref_ptr ≡ further 14 pack.entry.ref_ptr) }
 {
-    let first = field_at(pack, 0, COUNTS_TAG);
-    let Contents::At(_, end) = first else {
-        return PackFields::Refused(12);
+    let Some(first) = take_field(pack, COUNTS_TAG) else {
+        return Err(Refusal::NotFields);
     };
-    if end != 11 {
-        return PackFields::Refused(12);
+    if first.contents.len() != 8 {
+        return Err(Refusal::NotFields);
     }
-    let second = field_at(pack, end, OPERATIONS_TAG);
-    let Contents::At(from, to) = second else {
-        return PackFields::Refused(12);
+    let Some(second) = take_field(first.rest, OPERATIONS_TAG) else {
+        return Err(Refusal::NotFields);
     };
-    if to != pack.len() {
-        return PackFields::Refused(12);
+    if !second.rest.is_empty() {
+        return Err(Refusal::NotFields);
     }
-    let counts = counts_of(pack);
-    if is_in_range(counts) {
-        PackFields::Found(counts, from, to)
-    } else {
-        PackFields::Refused(13)
+    let stated = counts_of(first.contents);
+    if !is_in_range(stated) {
+        return Err(Refusal::CountOutOfRange);
+    }
+    Ok(Pack {
+        stated,
+        operations: second.contents,
+    })
+}
+
+/// The parts of any bytes. That the first field has eight bytes is left to `fields_of`.
+#[tactic(auto, unfolding(rules::specs::Later::parts_of, rules::specs::Later::later_part), using(crate::proofs::Later::three_then_more))]
+pub fn parts_of<'a>(pack: &'a [u8]) -> Option<Parts<'a>>
+    ensures { parts_of pack.now ≡ parts_told result }
+{
+    let counts = take_field(pack, COUNTS_TAG)?;
+    let operations = take_field(counts.rest, OPERATIONS_TAG)?;
+    let two = &pack[..pack.len() - operations.rest.len()];
+    if operations.rest.is_empty() {
+        return Some(Parts {
+            two,
+            positions: None,
+        });
+    }
+    let third = take_field(operations.rest, POSITIONS_TAG)?;
+    if !third.rest.is_empty() {
+        return None;
+    }
+    Some(Parts {
+        two,
+        positions: Some(third.contents),
+    })
+}
+
+// What follows the field with this tag, if it is there and whole; else all.
+#[tactic(auto, unfolding(rules::specs::Fields::take_field))]
+fn past<'a>(bytes: &'a [u8], tag: u8) -> &'a [u8]
+    ensures rest { result.now ≡ past tag bytes.now }
+    ensures shorter { length result.now ≤ length bytes.now }
+    ensures place { result.ref_ptr ≡ further (length bytes.now - length result.now) bytes.entry.ref_ptr }
+{
+    match take_field(bytes, tag) {
+        Some(field) => field.rest,
+        None => bytes,
     }
 }
 
-// The parts of any bytes. That the first field has eight bytes is left to `fields_of`.
-pub fn parts_of(pack: &[u8]) -> PackParts
-    ensures { PartsTold pack.now result }
+/// The note of any bytes: the last field, after those of the other tags that are there. It is the very bytes of the pack.
+#[tactic(auto, unfolding(rules::specs::Note::take_note))]
+pub fn note_of<'a>(pack: &'a [u8]) -> NoteSplit<'a>
+    ensures told { note_told result ≡ take_note pack.now }
+    ensures long { IfSome result.note (λ n. length result.before.now + 3 + length n.now ≡ length pack.now) }
+    ensures place { IfSome result.note (λ n. n.ref_ptr ≡ further (length result.before.now + 3) pack.entry.ref_ptr) }
 {
-    let first = field_at(pack, 0, COUNTS_TAG);
-    let Contents::At(_, a) = first else {
-        return PackParts::Neither;
+    let more = past(past(past(pack, COUNTS_TAG), OPERATIONS_TAG), POSITIONS_TAG);
+    let all = NoteSplit {
+        before: pack,
+        note: None,
     };
-    let second = field_at(pack, a, OPERATIONS_TAG);
-    let Contents::At(_, b) = second else {
-        return PackParts::Neither;
+    let Some(last) = take_field(more, NOTE_TAG) else {
+        return all;
     };
-    if b == pack.len() {
-        return PackParts::Two;
+    if !last.rest.is_empty() {
+        return all;
     }
-    let third = field_at(pack, b, POSITIONS_TAG);
-    let Contents::At(from, c) = third else {
-        return PackParts::Neither;
-    };
-    if c != pack.len() {
-        return PackParts::Neither;
-    }
-    PackParts::Three(b, from)
-}
-
-// The position after the field with this tag, if it is there and whole, else the same position.
-fn past_field(pack: &[u8], at: usize, tag: u8) -> usize
-    ensures { PastAt pack.now at tag result }
-{
-    let found = field_at(pack, at, tag);
-    match found {
-        Contents::At(_, end) => end,
-        Contents::Nothing => at,
+    NoteSplit {
+        before: &pack[..pack.len() - more.len()],
+        note: Some(last.contents),
     }
 }
 
-// The note of any bytes: the last field, after those of the other tags that are there.
-pub fn note_of(pack: &[u8]) -> PackNote
-    ensures { NoteTold pack.now result }
+/// The bytes before the note; all, if there is none.
+pub fn before_note<'a>(pack: &'a [u8]) -> &'a [u8]
+    ensures { result.now ≡ (take_note pack.now).before }
 {
-    let a = past_field(pack, 0, COUNTS_TAG);
-    let b = past_field(pack, a, OPERATIONS_TAG);
-    let c = past_field(pack, b, POSITIONS_TAG);
-    let last = field_at(pack, c, NOTE_TAG);
-    let Contents::At(from, d) = last else {
-        return PackNote::Nothing;
-    };
-    if d != pack.len() {
-        return PackNote::Nothing;
-    }
-    PackNote::At(c, from)
-}
-
-// How many bytes stand before the note; all, if there is none.
-pub fn before_note(pack: &[u8]) -> usize
-    ensures { FrontAt pack.now result }
-{
-    let found = note_of(pack);
-    match found {
-        PackNote::At(end, _) => end,
-        PackNote::Nothing => pack.len(),
-    }
-}
-
-// The high byte of a number of two bytes.
-fn high(v: usize) -> u8
-    ensures { result ≡ v / 256 % 256 }
-{
-    (v / 256 % 256) as u8
-}
-
-// The low byte.
-fn low(v: usize) -> u8
-    ensures { result ≡ v % 256 }
-{
-    (v % 256) as u8
+    note_of(pack).before
 }
 
 // What stands before n bytes of operations: the field of the counts, and the next field's tag and length.
+#[tactic(auto, unfolding(wire_theory::specs::Header::header_of))]
 fn header_of(counts: Counts, n: usize) -> [u8; HEADER]
     ensures { result ≡ header_of counts n }
 {
-    let v = counts.vertices as usize;
-    let t = counts.triangles as usize;
-    let p = counts.places as usize;
-    let l = counts.loops as usize;
+    let [v, w] = counts.vertices.to_be_bytes();
+    let [t, u] = counts.triangles.to_be_bytes();
+    let [p, q] = counts.places.to_be_bytes();
+    let [l, m] = counts.loops.to_be_bytes();
+    let [high, low] = ((n % 65536) as u16).to_be_bytes();
     [
         COUNTS_TAG,
         0,
         8,
-        high(v),
-        low(v),
-        high(t),
-        low(t),
-        high(p),
-        low(p),
-        high(l),
-        low(l),
+        v,
+        w,
+        t,
+        u,
+        p,
+        q,
+        l,
+        m,
         OPERATIONS_TAG,
-        high(n),
-        low(n),
+        high,
+        low,
     ]
 }
 
-// Writes the header before n bytes of operations, if the buffer is long enough for it; it answers whether it is.
+/// Writes the header before n bytes of operations, if the buffer is long enough for it; it answers whether it is.
+// The answer is a `bool`: there is no value beside it, and no refusal (packing tests 11 before).
+#[tactic(auto, unfolding(crate::specs::Fields::headed))]
 pub fn write_header(pack: &mut [u8], counts: Counts, n: usize) -> bool
     ensures { (result ≡ leb 14 (length pack.old)) × (pack.new ≡ headed pack.old counts n) }
 {
     if pack.len() < HEADER {
         return false;
     }
-    let header = header_of(counts, n);
-    let mut i = 0;
-    while i < HEADER {
-        pack[i] = header[i];
-        i += 1;
-    }
+    pack[..HEADER].copy_from_slice(&header_of(counts, n));
     true
 }

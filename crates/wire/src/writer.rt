@@ -1,22 +1,15 @@
 // An operation's bits, written into a lent buffer from any bit position on.
 // Its contracts cite specs/Writer.antt.
 ghost use Rattle.std.specs.Prelude.{◌≡◌, ◌+◌, ◌^◌, ◌≤◌, ◌<◌, min, length};
-ghost use Rattle.std.proofs.Math.Seq.{paste};
-ghost use Rattle.wire_theory.specs.Buffer.{four_bytes, word_of};
-ghost use Rattle.wire.specs.Writer.{PieceOf, written_of, buffer_after};
+ghost use Rattle.wire_theory.specs.Buffer.{word_of};
+ghost use Rattle.wire_theory.specs.Shape.{width_of};
+ghost use Rattle.wire.specs.Writer.{value_in, fits_in, last_number, buffer_after};
 
-use crate::wide;
+// `as u32` narrows what the clauses of `word_of` bound, 32 bits at most: `try_from` would be no plainer.
 use rules::Operation;
 
-// Whether the bits fit in the buffer, and the bit position after them, or the last that a number holds.
-#[derive(Drop)]
-pub struct Written {
-    pub fits: bool,
-    pub next: usize,
-}
-
 // A number and how many bits it takes.
-#[derive(Drop)]
+#[derive(Clone, Copy)]
 struct Piece {
     value: usize,
     width: usize,
@@ -24,7 +17,7 @@ struct Piece {
 
 // The code and the indices of an operation as one number.
 fn piece_of(o: Operation) -> Piece
-    ensures { PieceOf o result.width result.value }
+    ensures { (result.width ≡ width_of o) × (result.value ≡ value_in o) }
 {
     match o {
         Operation::New => Piece { value: 0, width: 3 },
@@ -33,13 +26,13 @@ fn piece_of(o: Operation) -> Piece
         Operation::Border => Piece { value: 3, width: 3 },
         // 4096 is the code 4 before ten bits.
         Operation::Split(i) => Piece {
-            value: 4096 + (i as usize) % 1024,
+            value: 4096 + usize::from(i) % 1024,
             width: 13,
         },
         Operation::Close => Piece { value: 5, width: 3 },
         // 786432 is the code 6 before seventeen bits.
         Operation::Union(p, j) => Piece {
-            value: 786432 + (p as usize) % 128 * 1024 + (j as usize) % 1024,
+            value: 786432 + usize::from(p) % 128 * 1024 + usize::from(j) % 1024,
             width: 20,
         },
         Operation::Start => Piece { value: 7, width: 3 },
@@ -47,51 +40,39 @@ fn piece_of(o: Operation) -> Piece
 }
 
 // The first bits of a byte and then a number of n bits, at the front of four bytes.
-fn word_of(b: usize, bit: usize, n: usize, value: usize) -> usize
+fn word_of(b: usize, bit: usize, n: usize, value: usize) -> u32
     requires { (b < 256) × (bit < 8) × (n ≤ 20) × (value < 2 ^ n) }
     ensures { result ≡ word_of b bit n value }
 {
-    ((b >> (8 - bit) << n) + value) << (32 - bit - n)
+    (((b >> (8 - bit) << n) + value) << (32 - bit - n)) as u32
 }
 
-// The position after n bits, or the last that a number holds.
-fn after(at: usize, n: usize) -> usize
-    ensures { result ≡ min (at + n) 18446744073709551615 }
-{
-    if 18446744073709551615 - at < n {
-        return 18446744073709551615;
-    }
-    at + n
+/// Whether an operation's bits were written, and the bit position after them, or the last that a number holds. (No `Option`: the
+/// position is told either way, since packing goes on counting after bits that do not fit: 9 and 10 come before 11.)
+#[derive(Clone, Copy, Debug, PartialEq, Eq)]
+pub struct Written {
+    pub fits: bool,
+    pub next: usize,
 }
 
-// Writes the first m of four bytes at an index.
-fn put_word(pack: &mut [u8], k: usize, word: usize, m: usize)
-    requires { (k + m ≤ length pack.old) × (m ≤ 4) }
-    ensures { pack.new ≡ paste pack.old k (four_bytes word) m }
-{
-    let mut i = 0;
-    while i < m {
-        pack[k + i] = ((word >> (24 - 8 * i)) % 256) as u8;
-        i += 1;
-    }
-}
-
-// Writes an operation's bits at a bit position, if the buffer has their last byte, whose rest is then zero. Nothing beyond
-// that byte is written; if it has not, nothing at all.
+/// Writes an operation's bits at a bit position, if the buffer has their last byte, whose rest is then zero. Nothing beyond that
+/// byte is written; if it has not, nothing at all.
+#[tactic(auto, using(crate::proofs::Words::piece_most, crate::proofs::Words::piece_below), unfolding(crate::specs::Writer::buffer_after))]
 pub fn write_operation(pack: &mut [u8], at: usize, o: Operation) -> Written
-    ensures { (result ≡ written_of (length pack.old) at o) × (pack.new ≡ buffer_after pack.old at o) }
+    ensures fits { result.fits ≡ fits_in (length pack.old) at o }
+    ensures next { result.next ≡ min (at + width_of o) last_number }
+    ensures bytes { pack.new ≡ buffer_after pack.old at o }
 {
     let piece = piece_of(o);
     let n = piece.width;
-    let next = after(at, n);
+    let next = at.saturating_add(n);
     let k = at / 8;
     let bit = at % 8;
     let m = (bit + n + 7) / 8;
     if pack.len() < k + m {
         return Written { fits: false, next };
     }
-    let b = wide(pack[k]);
-    let word = word_of(b, bit, n, piece.value);
-    put_word(pack, k, word, m);
+    let word = word_of(usize::from(pack[k]), bit, n, piece.value);
+    pack[k..k + m].copy_from_slice(&word.to_be_bytes()[..m]);
     Written { fits: true, next }
 }

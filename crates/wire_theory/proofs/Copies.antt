@@ -4,9 +4,9 @@ use Prim.Native.Nat.{ℕ, ◌+◌, ◌≤◌, ◌<◌}
 use native.Mathlib.Numerals.{add-one}
 use native.Mathlib.Omega.{arith}
 use mathlib.Core.List.{List}
-use mathlib.Core.Path.{◌≡◌, refl, sym, ap, ap₂, ◌∙◌}
+use mathlib.Core.Path.{◌≡◌, sym, ap, ap₂, ◌∙◌}
 use lib.ListN.{length, get_or, set, length-set}
-use lib.Seq.{paste, paste-zero, paste-suc}
+use lib.Seq.{paste, paste-suc}
 
 -- after i bytes of s, from k on, of which there are n
 pub record Copied (n k : ℕ) (s buffer₀ buffer : List ℕ) (i : ℕ) : Type 0 where
@@ -17,9 +17,6 @@ pub record Copied (n k : ℕ) (s buffer₀ buffer : List ℕ) (i : ℕ) : Type 0
   pub holds : buffer ≡ paste buffer₀ k s i
 
 module _ (n k : ℕ) (s buffer₀ : List ℕ) where
-  pub copy_none : k + n ≤ length buffer₀ → n ≤ length s → Copied n k s buffer₀ buffer₀ 0
-  copy_none h l = record { count = omega arith; within = h; enough = l; long = refl; holds = paste-zero buffer₀ k s }
-
   pub copy_more : (buffer : List ℕ) (i j v : ℕ) → Copied n k s buffer₀ buffer i → i < n → j ≡ k + i → v ≡ get_or s i 0
       → Copied n k s buffer₀ (set buffer j v) (i + 1)
   copy_more buffer i j v c h p q =

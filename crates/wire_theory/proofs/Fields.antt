@@ -7,7 +7,7 @@ use mathlib.Core.List.{List, [], ◌∷◌, ◌++◌, append-nil}
 use mathlib.Core.Path.{◌≡◌, refl, sym, ap, ap₂, ◌∙◌, subst}
 use lib.Dec.{eqb, leb}
 use lib.ListN.{length, take, drop, get_or, length-append, take-append-drop}
-use lib.Seq.{take-append_seam, drop-append_seam, length-take-le, drop_at}
+use lib.Seq.{take-append_seam, drop-append_seam, length-take-le}
 use borrow.Author.Tests.{eq-eqb, le-leb, eqb-true, leb-true}
 use Rattle.rules.specs.declared.Counts.{Counts}
 use Rattle.rules.specs.Fields.{counts_tag, operations_tag, word, field_of, counts_of, pack_bytes, Field, no_field, field, take_field}
@@ -189,13 +189,6 @@ first_found bs s ops (field cs ds) h f g =
 pub pack_found : (bs : List ℕ) (s : Counts) (ops : List ℕ) → Bytes bs → fields_of bs ≡ fields s ops → PackFound bs s ops
 unfolding fields_of
 pack_found bs s ops h e = first_found bs s ops (take_field counts_tag bs) h refl e
-
--- where the operations are in the bytes in which they were found
-pub found_part : (bs : List ℕ) (s : Counts) (ops : List ℕ) → PackFound bs s ops → (length bs ≡ 14 + length ops) × (drop 14 bs ≡ ops)
-found_part bs s ops f = (
-  ap length f.from ∙ length_pack s ops,
-  ap (drop 14) (f.from ∙ pack_header s ops) ∙ drop_at (header_of s (length ops)) ops 14 (length_header s (length ops)),
-)
 
 -- two packs with the same bytes have the same counts and operations
 pub same_pack : (s t : Counts) (ops ops' : List ℕ) → CountsFit s → CountsFit t → length ops < 65536 → length ops' < 65536

@@ -11,7 +11,7 @@ use lib.ListN.{length, take, drop, length-append, take-append-drop}
 use lib.Seq.{take-append-le, drop-append-le}
 use borrow.Author.Tests.{leb-true, le-leb}
 use Rattle.rules.specs.Fields.{counts_tag, operations_tag, field_of, Field, no_field, field, take_field}
-use Rattle.rules.specs.Later.{positions_tag, Given, not_given, given, no_parts, parts, last_part, later_part}
+use Rattle.rules.specs.Later.{positions_tag, Given, not_given, given, parts, last_part, later_part}
 use Rattle.rules.specs.Later.{after_operations, after_counts, parts_of}
 use Rattle.rules.specs.Note.{note_tag, with_note, NoteTaken, past_field, past, last_note, past_others, take_note}
 use Rattle.wire_theory.specs.Shape.{Bytes}

@@ -27,14 +27,13 @@ fn modules() -> Vec<String> {
 /// The `use` lines, and the line that opens the definitions and these rows under a theorem.
 pub fn prelude(rows: &[&str]) -> (String, String) {
     let mut uses = format!(
-        "use Prim.Native.Nat.{{ℕ}}
-use mathlib.Core.Bool.{{Bool, true, false, ◌&&◌}}
+        "use mathlib.Core.Bool.{{true, false, ◌&&◌}}
 use mathlib.Core.List.{{List, [], ◌∷◌, ◌++◌}}
 use lib.ListN.{{replicate}}
 use lib.Dec.{{T}}
 use lib.IntN.{{pos, negsuc}}
 use {SPECS}.declared.Operation.TheVariants.{{New, Forward, Backward, Border, Split, Close, Union, Start}}
-use {SPECS}.declared.Melted.TheVariants.{{Six, Refused}}
+use {SPECS}.Melted.{{Six, Refused}}
 use {SPECS}.Triangle.{{tri}}
 use {SPECS}.Answer.{{refusal, accepted, triangle, no_triangle, numbers, packed}}
 use {SPECS}.Book.{{begin, operate, finish}}

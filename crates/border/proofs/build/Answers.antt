@@ -1,9 +1,11 @@
+use Rattle.std.proofs.Common.{arith}
 use Rattle.border_theory.proofs.Memory.Performed.{performs}
 use Rattle.border_theory.proofs.Memory.Done.{built_counts}
 use Rattle.border.proofs.build.Goals as goal
 
 pub alter-l-requires : goal.alter-l-requires
-alter-l-requires c = performs _ _ _ _ _ c.requires.0 c.requires.1
+alter-l-requires g c =
+    (performs _ _ _ _ _ c.requires.0 c.requires.1, omega (arith, c.requires.0.used, g.met.M.PlaceMemory.fits.2))
 
 pub count_built-requires : goal.count_built-requires
-count_built-requires c = built_counts _ _ _ _ _ _ c.requires c.alter-l.ensures.loops
+count_built-requires g c = rw c.capacity.ensures (built_counts _ _ _ _ _ _ c.requires c.alter-l.ensures.loops)

@@ -1,12 +1,8 @@
 use Rattle.border_theory.proofs.Memory.Ready.{ready_proposes, ready_free}
-use Rattle.border_theory.proofs.Memory.Decided.{decided_by_lem}
 use Rattle.border.proofs.decide.Goals as goal
 
-pub propose-d-requires : goal.propose-d-requires
-propose-d-requires c = ready_proposes _ _ _ c.requires
+pub propose-requires : goal.propose-requires
+propose-requires g c = ready_proposes _ _ _ c.requires
 
 pub test_room-requires : goal.test_room-requires
-test_room-requires c = ready_free _ _ _ c.requires
-
-pub returns : goal.returns
-returns c = decided_by_lem _ _ _ _ _ _ c.propose-d.ensures c.test_room.ensures
+test_room-requires g c = rw c.capacity.ensures (ready_free _ _ _ c.requires)

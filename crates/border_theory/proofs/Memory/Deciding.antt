@@ -23,8 +23,7 @@ use Rattle.border_theory.proofs.Links.Named.{named_lives}
 use Rattle.cutborder.specs.declared.Loops.{Loops}
 use Rattle.cutborder.specs.declared.Front.{Front}
 use Rattle.cutborder.specs.declared.Plan.{Plan}
-use Rattle.cutborder.specs.declared.Decided.{Decided}
-use Rattle.cutborder.specs.declared.Decided.TheVariants.{Builds, Marks}
+use Rattle.border_theory.specs.Memory.Decision.{Decided}
 use Rattle.border_theory.specs.Memory.Layout.{vertices_of}
 use Rattle.border_theory.specs.Memory.Stands.{rings_in, loops_in, StandsAt, Stands}
 use Rattle.border_theory.specs.Memory.Moves.{Held, marked_held}

@@ -11,9 +11,6 @@ use lib.Signed.{mag}
 use mir.Syntax.{w32}
 use mir.Val.{SFits, to_z, of_z}
 use mir.Facts.{to_z_pos, to_z-of_z}
-use Rattle.rules.specs.declared.Totals.{Totals}
-use Rattle.cutborder.specs.declared.Front.{Front}
-use Rattle.border_theory.specs.Memory.Finish.{totals_of}
 
 by_test_lem : (t : Bool) (a b n : ℕ) → a < n → b < n → mag (cond t (negsuc (b - suc a)) (pos (a - b))) < n
 by_test_lem true a b n h k = omega arith
@@ -46,9 +43,3 @@ module _ (v e t : ℕ) (hv : v < 2 ^ 16) (he : e < 2 ^ 16) (ht : t < 2 ^ 16) whe
 
   pub is : to_z w32 (of_z w32 (to_z w32 (of_z w32 (to_z w32 v -ℤ to_z w32 e)) +ℤ to_z w32 t)) ≡ (pos v -ℤ pos e) +ℤ pos t
   is = to_z-of_z add_fits ∙ ap₂ ◌+ℤ◌ back (z t ht)
-
--- the four numbers with it
-pub totals_is : (f : Front) (z : ℤ) → SFits w32 z → z ≡ pos f.used -ℤ pos f.edges +ℤ pos f.built
-    → ◌≡◌ {A = Totals} (record { edges = f.edges; rims = f.rims; unions = f.unions; euler = to_z w32 (of_z w32 z) }) (totals_of f)
-unfolding totals_of
-totals_is f z h e i = record { edges = f.edges; rims = f.rims; unions = f.unions; euler = (to_z-of_z h ∙ e) i }

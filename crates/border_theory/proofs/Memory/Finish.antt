@@ -17,14 +17,6 @@ use Rattle.border_theory.specs.Memory.Finish.{is_complete, is_as_stated, totals_
 use Rattle.border_theory.proofs.Links.Named.{named_lives}
 use Rattle.border_theory.proofs.Memory.Deciding.{stands_live}
 
-pub incomplete : (s : Front) → (s.built ≡ s.stated.triangles → ⊥) → false ≡ is_complete s
-incomplete s h = sym (ap (λ (b : Bool). elim b [ true ↦ eqb s.loops.live 0 | false ↦ false ])
-    (ne_eqb s.built s.stated.triangles h))
-
-pub all_made : (s : Front) → s.built ≡ s.stated.triangles → eqb s.loops.live 0 ≡ is_complete s
-all_made s h = sym (ap (λ (b : Bool). elim b [ true ↦ eqb s.loops.live 0 | false ↦ false ])
-    (eq-eqb s.built s.stated.triangles h))
-
 pub complete_parts : (s : Front) → is_complete s ≡ true → (s.built ≡ s.stated.triangles) × (s.loops.live ≡ 0)
 complete_parts s h = go (eqb s.built s.stated.triangles) refl h
   where

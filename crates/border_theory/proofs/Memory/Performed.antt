@@ -14,7 +14,8 @@ use Rattle.book.specs.Sums.{placed}
 use Rattle.cutborder.specs.declared.Loops.{Loops}
 use Rattle.cutborder.specs.declared.Front.{Front}
 use Rattle.cutborder.specs.declared.Plan.{Plan}
-use Rattle.cutborder.specs.declared.Decided.TheVariants.{Builds}
+use Rattle.cutborder.specs.declared.Action.TheVariants.{Builds}
+use Rattle.std.specs.Prelude.{Ok}
 use Rattle.border_theory.specs.Memory.Layout.{at, before_of, after_of, open_of, edges_stored}
 use Rattle.border_theory.specs.Memory.Stands.{rings_in}
 use Rattle.border_theory.specs.Memory.Moves.{ended_by, ended_held, turned_by, turned_held, cut_by, next_cut, last_cut, both_cut}
@@ -65,7 +66,7 @@ module _ (n : ℕ) (s : Front) (m : List ℕ) (r : Ready n s m) (p : Plan) (room
       let rs : List Ring = rings_in n s.loops m in
       after_in n s.loops m rs r.stands s.loops.current (current_in n s.loops m rs r.stands h)
 
-  able_edge : (o : Operation) → (s.loops.live ≡ 0 → ⊥) → edge_proposed n s.loops m s.used o ≡ Builds p → Able n s m o p
+  able_edge : (o : Operation) → (s.loops.live ≡ 0 → ⊥) → edge_proposed n s.loops m s.used o ≡ Ok (Builds p) → Able n s m o p
   unfolding new_plan forward_plan backward_plan border_plan split_plan close_plan union_plan
   able_edge New h e =
       let z = same_plan p _ e in
@@ -142,17 +143,17 @@ module _ (n : ℕ) (s : Front) (m : List ℕ) (r : Ready n s m) (p : Plan) (room
             (waiting_in_lem n s.loops m (rings_in n s.loops m) r.stands k j low high inside));
         small = small_at s.loops m _ 1 1 0 1 _ p z (omega arith) (omega arith) (omega arith) (omega arith);
       }
-  able_edge Start h e = absurd (never 16 p e)
+  able_edge Start h e = absurd (never _ p e)
 
-  able_rest : (o : Operation) → s.loops.live ≡ 0 → rest_proposed s.used o ≡ Builds p → Able n s m o p
+  able_rest : (o : Operation) → s.loops.live ≡ 0 → rest_proposed s.used o ≡ Ok (Builds p) → Able n s m o p
   unfolding start_plan
-  able_rest New h e = absurd (never 16 p e)
-  able_rest Forward h e = absurd (never 16 p e)
-  able_rest Backward h e = absurd (never 16 p e)
-  able_rest Border h e = absurd (never 16 p e)
-  able_rest (Split i) h e = absurd (never 16 p e)
-  able_rest Close h e = absurd (never 16 p e)
-  able_rest (Union k j) h e = absurd (never 16 p e)
+  able_rest New h e = absurd (never _ p e)
+  able_rest Forward h e = absurd (never _ p e)
+  able_rest Backward h e = absurd (never _ p e)
+  able_rest Border h e = absurd (never _ p e)
+  able_rest (Split i) h e = absurd (never _ p e)
+  able_rest Close h e = absurd (never _ p e)
+  able_rest (Union k j) h e = absurd (never _ p e)
   able_rest Start h e =
       let z = same_plan p _ e in
       let edges = ap (λ (q : Plan). new_edges q) z in
@@ -171,21 +172,21 @@ module _ (n : ℕ) (s : Front) (m : List ℕ) (r : Ready n s m) (p : Plan) (room
         };
       }
 
-  able_by : (o : Operation) (t : Bool) → eqb s.loops.live 0 ≡ t → proposed_by t n s.loops m s.used o ≡ Builds p → Able n s m o p
+  able_by : (o : Operation) (t : Bool) → eqb s.loops.live 0 ≡ t → proposed_by t n s.loops m s.used o ≡ Ok (Builds p) → Able n s m o p
   able_by o true h e = able_rest o (eqb-true s.loops.live 0 h) e
   able_by o false h e = able_edge o (eqb-false s.loops.live 0 h) e
 
-able : (n : ℕ) (s : Front) (m : List ℕ) (o : Operation) (p : Plan) → Ready n s m → decided n s m o ≡ Builds p → Able n s m o p
+able : (n : ℕ) (s : Front) (m : List ℕ) (o : Operation) (p : Plan) → Ready n s m → decided n s m o ≡ Ok (Builds p) → Able n s m o p
 unfolding decided proposed
 able n s m o p r e =
     let c = chosen n s (proposed n s m o) p e in
     able_by n s m r p (has_room n s p c.room) o (eqb s.loops.live 0) refl c.is
 
-pub place_in : (n : ℕ) (s : Front) (m : List ℕ) (o : Operation) (p : Plan) → Ready n s m → decided n s m o ≡ Builds p
+pub place_in : (n : ℕ) (s : Front) (m : List ℕ) (o : Operation) (p : Plan) → Ready n s m → decided n s m o ≡ Ok (Builds p)
     → PlaceIn o p.place (rings_in n s.loops m)
 place_in n s m o p r e = (able n s m o p r e).place
 
-pub performs : (n : ℕ) (s : Front) (m : List ℕ) (o : Operation) (p : Plan) → Ready n s m → decided n s m o ≡ Builds p
+pub performs : (n : ℕ) (s : Front) (m : List ℕ) (o : Operation) (p : Plan) → Ready n s m → decided n s m o ≡ Ok (Builds p)
     → Performs n s.loops m s.used o p.place
 performs n s m o p r e = (able n s m o p r e).performs
 
@@ -228,7 +229,7 @@ after_free n s m Close p f h = omega (arith, ended_free n s.loops m, h.room)
 after_free n s m (Union k j) p f h = omega (arith, f)
 after_free n s m Start p f h = omega (arith, f)
 
-pub counts16 : (n : ℕ) (s : Front) (m : List ℕ) (o : Operation) (p : Plan) → Ready n s m → decided n s m o ≡ Builds p
+pub counts16 : (n : ℕ) (s : Front) (m : List ℕ) (o : Operation) (p : Plan) → Ready n s m → decided n s m o ≡ Ok (Builds p)
     → Counts16 n s p (held_after n s m o p).loops
 unfolding decided
 counts16 n s m o p r e =

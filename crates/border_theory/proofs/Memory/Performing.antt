@@ -12,8 +12,9 @@ use Rattle.rules.specs.Ring.{Ring, vertex, start_or, vertex_at, loop_at}
 use Rattle.cutborder.specs.declared.Loops.{Loops}
 use Rattle.cutborder.specs.declared.Front.{Front}
 use Rattle.cutborder.specs.declared.Plan.{Plan}
-use Rattle.cutborder.specs.declared.Decided.{Decided}
-use Rattle.cutborder.specs.declared.Decided.TheVariants.{Refused, Builds, Marks}
+use Rattle.border_theory.specs.Memory.Decision.{Decided}
+use Rattle.cutborder.specs.declared.Action.TheVariants.{Builds, Marks}
+use Rattle.std.specs.Prelude.{Err, Ok}
 use Rattle.border_theory.specs.Memory.Layout.{at, after_of, walked}
 use Rattle.border_theory.specs.Memory.Stands.{StandsAt}
 use Rattle.border_theory.specs.Memory.Decision.{allowed_if, new_edges, room_for, room_by, decided_by}
@@ -21,31 +22,32 @@ use Rattle.border_theory.specs.Memory.Near.{Doubles}
 use Rattle.border_theory.proofs.Memory.Standing.{trails, trail_at, walk_trail, near_trail}
 use Rattle.border_theory.proofs.Memory.Waiting.{waits_at}
 use Rattle.border_theory.proofs.Memory.Doubled.{split_hop, union_hop}
-use Rattle.border_theory.proofs.Memory.Near.{starts, start_any}
+use Rattle.border_theory.proofs.Memory.Near.{start_any}
 use Rattle.counting.proofs.Bools.{and_left, and_right}
+use Rattle.rules.specs.declared.refusal.Refusal.{Refusal}
 
 -- what a decision to build rests on
 pub record Chosen (n : ℕ) (s : Front) (d : Decided) (p : Plan) : Type 0 where
-  pub is : d ≡ Builds p
+  pub is : d ≡ Ok (Builds p)
   pub room : room_for n s p ≡ true
 
-pub never : (k : ℕ) (p : Plan) → Refused k ≡ Builds p → ⊥
+pub never : (k : Refusal) (p : Plan) → Err k ≡ Ok (Builds p) → ⊥
 never k p e = let z : ◌≡◌ {A = ℕ} 0 1 = cc in omega arith
 
-pub never_marks : (x y : ℕ) (p : Plan) → Marks x y ≡ Builds p → ⊥
+pub never_marks : (x y : ℕ) (p : Plan) → ◌≡◌ {A = Decided} (Ok (Marks x y)) (Ok (Builds p)) → ⊥
 never_marks x y p e = let z : ◌≡◌ {A = ℕ} 0 1 = cc in omega arith
 
-pub same_plan : (p q : Plan) → Builds q ≡ Builds p → q ≡ p
+pub same_plan : (p q : Plan) → ◌≡◌ {A = Decided} (Ok (Builds q)) (Ok (Builds p)) → q ≡ p
 same_plan p q e = cc
 
-pub chosen : (n : ℕ) (s : Front) (d : Decided) (p : Plan) → decided_by n s d ≡ Builds p → Chosen n s d p
-chosen n s (Refused k) p e = absurd (never k p e)
-chosen n s (Marks x y) p e = absurd (never_marks x y p e)
-chosen n s (Builds q) p e = go (room_for n s q) refl e
+pub chosen : (n : ℕ) (s : Front) (d : Decided) (p : Plan) → decided_by n s d ≡ Ok (Builds p) → Chosen n s d p
+chosen n s (Err k) p e = absurd (never k p e)
+chosen n s (Ok (Marks x y)) p e = absurd (never_marks x y p e)
+chosen n s (Ok (Builds q)) p e = go (room_for n s q) refl e
   where
-    go : (t : Bool) → room_for n s q ≡ t → room_by t q ≡ Builds p → Chosen n s (Builds q) p
+    go : (t : Bool) → room_for n s q ≡ t → room_by t q ≡ Ok (Builds p) → Chosen n s (Ok (Builds q)) p
     go true r h = let z : q ≡ p = same_plan p q h in record { is = h; room = subst (λ (x : Plan). room_for n s x ≡ true) z r }
-    go false r h = absurd (never 17 p h)
+    go false r h = absurd (never _ p h)
 
 pub record HasRoom (n : ℕ) (s : Front) (p : Plan) : Type 0 where
   pub vertices : s.used + p.vertices ≤ s.stated.vertices
@@ -73,12 +75,12 @@ has_room n s p h =
 -- a test that must have passed
 pub record Passed (t : Bool) (d : Decided) (p : Plan) : Type 0 where
   pub test : t ≡ true
-  pub is : d ≡ Builds p
+  pub is : d ≡ Ok (Builds p)
 
-pub passed : (t : Bool) (d : Decided) (p : Plan) → allowed_if t d ≡ Builds p → Passed t d p
+pub passed : (t : Bool) (d : Decided) (p : Plan) → allowed_if t d ≡ Ok (Builds p) → Passed t d p
 unfolding allowed_if
 passed true d p e = record { test = refl; is = e }
-passed false d p e = absurd (never 16 p e)
+passed false d p e = absurd (never _ p e)
 
 -- the second place of a split's and a union's third vertex
 module _ (n : ℕ) (l : Loops) (m : List ℕ) (some : 1 ≤ l.free) where

@@ -18,7 +18,8 @@ use Rattle.border_theory.specs.Links.Held.{named_ring, named_loops}
 use Rattle.border_theory.proofs.Links.Named.{named_length, named_at, named_loop_at, named_lives}
 use Rattle.cutborder.specs.declared.Front.{Front}
 use Rattle.cutborder.specs.declared.Plan.{Plan}
-use Rattle.cutborder.specs.declared.Decided.TheVariants.{Builds}
+use Rattle.cutborder.specs.declared.Action.TheVariants.{Builds}
+use Rattle.std.specs.Prelude.{Ok}
 use Rattle.border_theory.specs.Memory.Layout.{at, vertex_of, before_of, after_of, vertices_of, walked}
 use Rattle.border_theory.specs.Memory.Stands.{StandsAt}
 use Rattle.border_theory.specs.Memory.Moves.{split_held, union_held, top_free}
@@ -60,8 +61,8 @@ module _ (n : ℕ) (s : Front) (m : List ℕ) (e : ℕ) (ps : List Node) (ws : L
       let p : Plan = plan_at s.loops m (vertex_of m (after_of m x)) 0 0 0 0 0 in
       let t : Bool = eqb (suc (length others)) 3 && all_open others in
       let t' : Bool = eqb s.loops.size 3 && is_open_at m x && is_open_at m (after_of m x) in
-      rw (three_tests (eqb s.loops.size 3) (is_open_at m x) (is_open_at m (after_of m x)) (Builds p))
-      (allowed_proposes n s m Close ws t t' (Builds p) _
+      rw (three_tests (eqb s.loops.size 3) (is_open_at m x) (is_open_at m (after_of m x)) (Ok (Builds p)))
+      (allowed_proposes n s m Close ws t t' (Ok (Builds p)) _
       (assoc (eqb s.loops.size 3) (is_open_at m x) (is_open_at m (after_of m x))
       ∙ and_cong (eqb s.loops.size 3) (is_open_at m x && is_open_at m (after_of m x)) (eqb (suc (length others)) 3) (all_open others)
       (ap (λ (k : ℕ). eqb k 3) (size_is n s m e ps ws st)) (three_open n s m e ps ws st))
@@ -106,8 +107,8 @@ module _ (n : ℕ) (s : Front) (m : List ℕ) (e : ℕ) (ps : List Node) (ws : L
       let t' : Bool = leb 1 i && leb (i + 2) z && not (eqb i 1 && x) && not (eqb (i + 2) z && y) in
       let some : leb 1 i && leb (i + 2) k ≡ true → 1 ≤ length ps =
       λ h. omega (arith, leb-true (i + 2) k (and_right (leb 1 i) (leb (i + 2) k) h), named_length (vertices_of n m) ps) in
-      rw (four_tests (leb 1 i) (leb (i + 2) z) (not (eqb i 1 && x)) (not (eqb (i + 2) z && y)) (Builds p))
-      (allowed_proposes n s m (Split i) (places_after (Split i) (top_free n s.loops m) e ps ws) t t' (Builds p) _
+      rw (four_tests (leb 1 i) (leb (i + 2) z) (not (eqb i 1 && x)) (not (eqb (i + 2) z && y)) (Ok (Builds p)))
+      (allowed_proposes n s m (Split i) (places_after (Split i) (top_free n s.loops m) e ps ws) t t' (Ok (Builds p)) _
       (and_cong (leb 1 i && leb (i + 2) z && not (eqb i 1 && x)) (not (eqb (i + 2) z && y)) t₃ (not (eqb (i + 2) k && last_open others))
       (and_cong (leb 1 i && leb (i + 2) z) (not (eqb i 1 && x)) (leb 1 i && leb (i + 2) k) (not (eqb i 1 && first_open others))
       (ap (λ (j : ℕ). leb 1 i && leb (i + 2) j) (size_is n s m e ps ws st))
@@ -222,9 +223,9 @@ module _ (n : ℕ) (s : Front) (m : List ℕ) (e : ℕ) (ps : List Node) (ws : L
     unfolding union_plan at_edge lower place tests
     propose_union =
         let q : Plan = plan_at s.loops m (vertex_of m place) 1 1 0 1 place in
-        rw (three_tests (leb 1 p) (leb p (s.loops.live - 1)) (ltb j (at m (5 * n + 2 * lower + 1))) (Builds q))
+        rw (three_tests (leb 1 p) (leb p (s.loops.live - 1)) (ltb j (at m (5 * n + 2 * lower + 1))) (Ok (Builds q)))
         (allowed_proposes n s m (Union p j) (places_after (Union p j) (top_free n s.loops m) e ps ws) tests
-        (leb 1 p && leb p (s.loops.live - 1) && ltb j (at m (5 * n + 2 * lower + 1))) (Builds q) _ same_tests
+        (leb 1 p && leb p (s.loops.live - 1) && ltb j (at m (5 * n + 2 * lower + 1))) (Ok (Builds q)) _ same_tests
         (λ h.
         let goes : Goes (effect_at (Union p j) s.used n m e ps ws) = allowed_goes tests _ h tt in
         let b = allowed_law s.used (named_loops (vertices_of n m) ((opened e ∷ ps) ∷ ws)) tests _ h

@@ -26,8 +26,10 @@ use Rattle.border_theory.proofs.Links.Named.{named_all_open}
 use Rattle.cutborder.specs.declared.Loops.{Loops}
 use Rattle.cutborder.specs.declared.Front.{Front}
 use Rattle.cutborder.specs.declared.Plan.{Plan}
-use Rattle.cutborder.specs.declared.Decided.{Decided}
-use Rattle.cutborder.specs.declared.Decided.TheVariants.{Refused, Builds, Marks}
+use Rattle.border_theory.specs.Memory.Decision.{Decided}
+use Rattle.cutborder.specs.declared.Action.TheVariants.{Builds, Marks}
+use Rattle.std.specs.Prelude.{Err, Ok}
+use Rattle.rules.specs.declared.refusal.Refusal.TheVariants.{NotAllowed}
 use Rattle.border_theory.specs.Memory.Layout.{at, vertex_of, before_of, after_of, open_of, vertices_of, walked}
 use Rattle.border_theory.specs.Memory.Stands.{StandsAt}
 use Rattle.border_theory.specs.Memory.Moves.{Held, marked_held, top_free}
@@ -58,17 +60,17 @@ pub record PlanIs (p : Plan) (t : Triangle) (x y z : Side) (v a k : ℕ) : Type 
 pub record Proposal (n : ℕ) (s : Front) (m : List ℕ) (o : Operation) (rs : List Ring) (d : Decided) (ls : List Ring) (t : Triangle)
     (pq qr rp : Side) (v a k : ℕ) : Type 0 where
   pub plan : Plan
-  pub is : d ≡ Builds plan
+  pub is : d ≡ Ok (Builds plan)
   pub same : PlanIs plan t pq qr rp v a k
   pub moves : places ls ≤ n → 5 * n + 2 * length ls ≤ length m
       → Moved n s.loops m (held_after n s m o plan) rs (builds (building_of ls t pq qr rp v a k))
 
 pub record MarkProposal (n : ℕ) (s : Front) (m : List ℕ) (rs : List Ring) (d : Decided) (ls : List Ring) (x : Edge) (rim : ℕ) : Type 0 where
-  pub is : d ≡ Marks x.from x.to
+  pub is : d ≡ Ok (Marks x.from x.to)
   pub moves : Moved n s.loops m (marked_held n s.loops m) rs (marks (marking_of ls x rim))
 
 abbrev pub Proposes : ℕ → Front → List ℕ → Operation → List Ring → Decided → Effect → Type 0
-Proposes n s m o rs d not_allowed = d ≡ Refused 16
+Proposes n s m o rs d not_allowed = d ≡ Err NotAllowed
 Proposes n s m o rs d (builds x) =
     Proposal n s m o rs d x.loops x.triangle x.sides.pq x.sides.qr x.sides.rp x.added.vertices x.added.starts
     x.added.unions
@@ -263,8 +265,9 @@ module _ (n : ℕ) (s : Front) (m : List ℕ) (e : ℕ) (ps : List Node) (ws : L
       let y : Bool = first_open (named_ring (vertices_of n m) ps) in
       let t : Bool = leb 3 k && y && not (eqb k 3 && all_open (named_ring (vertices_of n m) ps)) in
       let t' : Bool = leb 3 s.loops.size && x && not (is_three s.loops m) in
-      rw (three_tests (leb 3 s.loops.size) x (not (is_three s.loops m)) (Builds p))
-      (allowed_proposes n s m Forward (places_after Forward 0 e ps ws) t t' (Builds p) _ (near_tests x y (λ h. open_f (omega (arith, h))))
+      rw (three_tests (leb 3 s.loops.size) x (not (is_three s.loops m)) (Ok (Builds p)))
+      (allowed_proposes n s m Forward (places_after Forward 0 e ps ws) t t' (Ok (Builds p)) _
+      (near_tests x y (λ h. open_f (omega (arith, h))))
       (λ h. record {
         plan = p;
         is = refl;
@@ -305,8 +308,8 @@ module _ (n : ℕ) (s : Front) (m : List ℕ) (e : ℕ) (ps : List Node) (ws : L
       let y : Bool = last_open (named_ring (vertices_of n m) ps) in
       let t : Bool = leb 3 k && y && not (eqb k 3 && all_open (named_ring (vertices_of n m) ps)) in
       let t' : Bool = leb 3 s.loops.size && x && not (is_three s.loops m) in
-      rw (three_tests (leb 3 s.loops.size) x (not (is_three s.loops m)) (Builds p))
-      (allowed_proposes n s m Backward (places_after Backward 0 e ps ws) t t' (Builds p) _
+      rw (three_tests (leb 3 s.loops.size) x (not (is_three s.loops m)) (Ok (Builds p)))
+      (allowed_proposes n s m Backward (places_after Backward 0 e ps ws) t t' (Ok (Builds p)) _
       (near_tests x y (λ h. open_last (omega (arith, h))))
       (λ h. record {
         plan = p;
@@ -326,7 +329,7 @@ module _ (n : ℕ) (s : Front) (m : List ℕ) (e : ℕ) (ps : List Node) (ws : L
             (moved_backward n s.loops m s.used e ps ws st);
       }))
 
-  marking_proposes : (r : Ring) (rs : List Ring) (x : Edge) (d : Decided) → d ≡ Marks x.from x.to
+  marking_proposes : (r : Ring) (rs : List Ring) (x : Edge) (d : Decided) → d ≡ Ok (Marks x.from x.to)
       → Moved n s.loops m (marked_held n s.loops m) (after_border e ps ws) (marking r rs x)
       → Proposes n s m Border (after_border e ps ws) d (marking r rs x)
   marking_proposes [] rs x d i h = record { is = i; moves = h }
@@ -338,7 +341,8 @@ module _ (n : ℕ) (s : Front) (m : List ℕ) (e : ℕ) (ps : List Node) (ws : L
       marking_proposes (shown (onward [] (named_ring (vertices_of n m) ps ++ (marked (get_or (vertices_of n m) e 0) ∷ []))))
       (named_loops (vertices_of n m) ws)
       (edge (get_or (vertices_of n m) e 0) (start_or (get_or (vertices_of n m) e 0) (named_ring (vertices_of n m) ps)))
-      (Marks (vertex_of m s.loops.current) (vertex_of m (after_of m s.loops.current))) (ap₂ Marks name_a name_b)
+      (Ok (Marks (vertex_of m s.loops.current) (vertex_of m (after_of m s.loops.current))))
+      (ap₂ (λ (x y : ℕ). Ok (Marks x y)) name_a name_b)
       (moved_border n s.loops m s.used e ps ws st)
 
 pub allowed_goes : (t : Bool) (B : Effect) → t ≡ true → Goes B → Goes (allowed t B)

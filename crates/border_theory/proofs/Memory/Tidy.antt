@@ -15,8 +15,9 @@ use Rattle.book.specs.Sums.{placed}
 use Rattle.cutborder.specs.declared.Loops.{Loops}
 use Rattle.cutborder.specs.declared.Front.{Front}
 use Rattle.cutborder.specs.declared.Plan.{Plan}
-use Rattle.cutborder.specs.declared.Decided.{Decided}
-use Rattle.cutborder.specs.declared.Decided.TheVariants.{Refused, Builds, Marks}
+use Rattle.border_theory.specs.Memory.Decision.{Decided}
+use Rattle.cutborder.specs.declared.Action.TheVariants.{Builds, Marks}
+use Rattle.std.specs.Prelude.{Err, Ok}
 use Rattle.border_theory.specs.Memory.Stands.{rings_in}
 use Rattle.border_theory.specs.Memory.Moves.{marked_held}
 use Rattle.border_theory.specs.Memory.Decision.{new_plan, forward_plan, backward_plan, split_plan, close_plan, union_plan, allowed_if}
@@ -34,19 +35,19 @@ use Rattle.border_theory.proofs.Memory.Around.{untouched_edge, current_in}
 use Rattle.border_theory.proofs.Memory.Balance.{moves, balance, all_taken_free, takes_or_leaves}
 
 -- with no live loop only a start is decided
-rest_inside : (n : ℕ) (l : Loops) (m : List ℕ) (u : ℕ) (o : Operation) (p : Plan) → rest_proposed u o ≡ Builds p → (i : ℕ)
+rest_inside : (n : ℕ) (l : Loops) (m : List ℕ) (u : ℕ) (o : Operation) (p : Plan) → rest_proposed u o ≡ Ok (Builds p) → (i : ℕ)
     → NoneOf i (taken_by n l m o) → NoneOf i (touched_by n l m o p.place)
-rest_inside n l m u New p e i d = absurd (never 16 p e)
-rest_inside n l m u Forward p e i d = absurd (never 16 p e)
-rest_inside n l m u Backward p e i d = absurd (never 16 p e)
-rest_inside n l m u Border p e i d = absurd (never 16 p e)
-rest_inside n l m u (Split j) p e i d = absurd (never 16 p e)
-rest_inside n l m u Close p e i d = absurd (never 16 p e)
-rest_inside n l m u (Union k j) p e i d = absurd (never 16 p e)
+rest_inside n l m u New p e i d = absurd (never _ p e)
+rest_inside n l m u Forward p e i d = absurd (never _ p e)
+rest_inside n l m u Backward p e i d = absurd (never _ p e)
+rest_inside n l m u Border p e i d = absurd (never _ p e)
+rest_inside n l m u (Split j) p e i d = absurd (never _ p e)
+rest_inside n l m u Close p e i d = absurd (never _ p e)
+rest_inside n l m u (Union k j) p e i d = absurd (never _ p e)
 rest_inside n l m u Start p e i d = d
 
-module _ (n : ℕ) (s : Front) (m : List ℕ) (o : Operation) (p : Plan) (r : Ready n s m) (e : decided n s m o ≡ Builds p) where
-  inside_by : (t : Bool) → eqb s.loops.live 0 ≡ t → proposed_by t n s.loops m s.used o ≡ Builds p → (i : ℕ)
+module _ (n : ℕ) (s : Front) (m : List ℕ) (o : Operation) (p : Plan) (r : Ready n s m) (e : decided n s m o ≡ Ok (Builds p)) where
+  inside_by : (t : Bool) → eqb s.loops.live 0 ≡ t → proposed_by t n s.loops m s.used o ≡ Ok (Builds p) → (i : ℕ)
       → placed i (rings_in n s.loops m) ≡ 0 → NoneOf i (taken_by n s.loops m o) → NoneOf i (touched_by n s.loops m o p.place)
   inside_by true z b i out d = rest_inside n s.loops m s.used o p b i d
   inside_by false z b i out d =
@@ -62,10 +63,10 @@ module _ (n : ℕ) (s : Front) (m : List ℕ) (o : Operation) (p : Plan) (r : Re
 
 -- a planned triangle
 pub built_tidy : (n : ℕ) (s : Front) (m : List ℕ) (M : Machine) (o : Operation) → Keeps n s m M → Ranges M → Ready n s m → (p : Plan)
-    → decided n s m o ≡ Builds p → Tidy n s.loops m o (held_after n s m o p) (touched_by n s.loops m o p.place)
+    → decided n s m o ≡ Ok (Builds p) → Tidy n s.loops m o (held_after n s m o p) (touched_by n s.loops m o p.place)
 unfolding built_front
 built_tidy n s m M o k r y p e =
-    let b : BuildsIt n s m M o p = decides_as n s m M o k r (Builds p) e in
+    let b : BuildsIt n s m M o p = decides_as n s m M o k r (Ok (Builds p)) e in
     let rs : List Ring = rings_in n s.loops m in
     let able = performs n s m o p y e in
     let v = moves n s.loops m s.used o p.place able in
@@ -81,17 +82,17 @@ built_tidy n s m M o k r y p e =
     }
 
 -- only a border marks an edge
-not_allowed_marks : (t : Bool) (d : Decided) (x y : ℕ) → allowed_if t d ≡ Marks x y → d ≡ Marks x y
+not_allowed_marks : (t : Bool) (d : Decided) (x y : ℕ) → allowed_if t d ≡ Ok (Marks x y) → d ≡ Ok (Marks x y)
 unfolding allowed_if
 not_allowed_marks true d x y e = e
-not_allowed_marks false d x y e = absurd (no_mark 16 x y e)
+not_allowed_marks false d x y e = absurd (no_mark _ x y e)
 
-undecided : (n : ℕ) (s : Front) (d : Decided) (x y : ℕ) → decided_by n s d ≡ Marks x y → d ≡ Marks x y
-undecided n s (Refused k) x y e = e
-undecided n s (Builds p) x y e = absurd (no_mark_room (room_for n s p) p x y e)
-undecided n s (Marks a b) x y e = e
+undecided : (n : ℕ) (s : Front) (d : Decided) (x y : ℕ) → decided_by n s d ≡ Ok (Marks x y) → d ≡ Ok (Marks x y)
+undecided n s (Err k) x y e = e
+undecided n s (Ok (Builds p)) x y e = absurd (no_mark_room (room_for n s p) p x y e)
+undecided n s (Ok (Marks a b)) x y e = e
 
-edge_border : (n : ℕ) (l : Loops) (m : List ℕ) (u : ℕ) (o : Operation) (x y : ℕ) → edge_proposed n l m u o ≡ Marks x y → o ≡ Border
+edge_border : (n : ℕ) (l : Loops) (m : List ℕ) (u : ℕ) (o : Operation) (x y : ℕ) → edge_proposed n l m u o ≡ Ok (Marks x y) → o ≡ Border
 unfolding new_plan forward_plan backward_plan split_plan close_plan union_plan
 edge_border n l m u New x y e = absurd (no_mark_built _ x y e)
 edge_border n l m u Forward x y e =
@@ -106,21 +107,21 @@ edge_border n l m u Close x y e =
     absurd (no_mark_built _ x y (not_allowed_marks _ _ x y (not_allowed_marks _ _ x y (not_allowed_marks _ _ x y e))))
 edge_border n l m u (Union p j) x y e =
     absurd (no_mark_built _ x y (not_allowed_marks _ _ x y (not_allowed_marks _ _ x y (not_allowed_marks _ _ x y e))))
-edge_border n l m u Start x y e = absurd (no_mark 16 x y e)
+edge_border n l m u Start x y e = absurd (no_mark _ x y e)
 
-pub marks_border : (n : ℕ) (s : Front) (m : List ℕ) (o : Operation) (x y : ℕ) → decided n s m o ≡ Marks x y → o ≡ Border
+pub marks_border : (n : ℕ) (s : Front) (m : List ℕ) (o : Operation) (x y : ℕ) → decided n s m o ≡ Ok (Marks x y) → o ≡ Border
 unfolding decided proposed
 marks_border n s m o x y e = by (eqb s.loops.live 0) e
   where
-    by : (t : Bool) → decided_by n s (proposed_by t n s.loops m s.used o) ≡ Marks x y → o ≡ Border
+    by : (t : Bool) → decided_by n s (proposed_by t n s.loops m s.used o) ≡ Ok (Marks x y) → o ≡ Border
     by true h = absurd (no_mark_rest n s s.used o x y h)
     by false h = edge_border n s.loops m s.used o x y (undecided n s (edge_proposed n s.loops m s.used o) x y h)
 
 border_tidy : (n : ℕ) (s : Front) (m : List ℕ) (M : Machine) → Keeps n s m M → Ranges M → Ready n s m → (x y : ℕ)
-    → decided n s m Border ≡ Marks x y → Tidy n s.loops m Border (marked_held n s.loops m) (touched_by n s.loops m Border 0)
+    → decided n s m Border ≡ Ok (Marks x y) → Tidy n s.loops m Border (marked_held n s.loops m) (touched_by n s.loops m Border 0)
 unfolding marked_front
 border_tidy n s m M k r y a c e =
-    let b : MarksIt n s m M Border a c = decides_as n s m M Border k r (Marks a c) e in
+    let b : MarksIt n s m M Border a c = decides_as n s m M Border k r (Ok (Marks a c)) e in
     let l : Loops = s.loops in
     let rs : List Ring = rings_in n l m in
     let live = marks_live n s m Border a c e in
@@ -139,8 +140,8 @@ border_tidy n s m M k r y a c e =
 
 -- an edge that is marked
 pub marked_tidy : (n : ℕ) (s : Front) (m : List ℕ) (M : Machine) (o : Operation) → Keeps n s m M → Ranges M → Ready n s m → (x y : ℕ)
-    → decided n s m o ≡ Marks x y → Tidy n s.loops m o (marked_held n s.loops m) (touched_by n s.loops m Border 0)
+    → decided n s m o ≡ Ok (Marks x y) → Tidy n s.loops m o (marked_held n s.loops m) (touched_by n s.loops m Border 0)
 marked_tidy n s m M o k r y a c e =
     let q : o ≡ Border = marks_border n s m o a c e in
     subst (λ (b : Operation). Tidy n s.loops m b (marked_held n s.loops m) (touched_by n s.loops m Border 0)) (sym q)
-    (border_tidy n s m M k r y a c (subst (λ (b : Operation). decided n s m b ≡ Marks a c) q e))
+    (border_tidy n s m M k r y a c (subst (λ (b : Operation). decided n s m b ≡ Ok (Marks a c)) q e))

@@ -1,6 +1,6 @@
 -- How many of n records are read: laws of `count_of`.
 -- Assumes nothing.
-use Prim.Native.Nat.{ℕ, ◌<◌, ◌≤◌, ◌^◌}
+use Prim.Native.Nat.{ℕ, ◌<◌, ◌≤◌}
 use native.Mathlib.Omega.{arith}
 use mathlib.Core.Path.{◌≡◌, refl, ap, ◌∙◌}
 use mathlib.Core.Bool.{Bool, true, false}
@@ -35,6 +35,3 @@ count_enough n = go (ltb n max_places) refl
     go false e =
         let h = ltb-false n max_places e in
         le-leb max_places n h ∙ ap (leb max_places) (count_long n h)
-
-pub count_fits : (n : ℕ) → n < 2 ^ 64 → count_of n < 2 ^ 64
-count_fits n h = omega (arith, (count_within n).0)

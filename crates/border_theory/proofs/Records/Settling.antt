@@ -65,18 +65,3 @@ keeps m i p =
     go false e =
         let n = eqb-false p i e in
         ap is_one (get_or-set_other m (4 * i + 3) (4 * p + 3) (number_of (is_one (get_or m (4 * i + 3) 0))) 0 (λ z. n (omega (arith, z))))
-
-pub settled_none : (m : List ℕ) → Settled m m 0
-settled_none m = record { most = omega arith; each = λ p k. absurd (omega arith); same = λ p. refl }
-
-pub settled_more : (m₀ m : List ℕ) (i x : ℕ) → Settled m₀ m i → i < 1024 → x ≡ number_of (is_one (get_or m (4 * i + 3) 0))
-    → Settled m₀ (set m (4 * i + 3) x) (i + 1)
-settled_more m₀ m i x s h e = rw e (record { most = omega arith; each = λ p l. go p l (eqb p i) refl; same = λ p. keeps m i p ∙ s.same p })
-  where
-    go : (p : ℕ) → p < i + 1 → (t : Bool) → eqb p i ≡ t → get_or (settled_at m i) (4 * p + 3) 0 ≤ 1
-    go p l true k = let q : p ≡ i = eqb-true p i k in
-        rw q (set_small m (4 * i + 3) (number_of (is_one (get_or m (4 * i + 3) 0))) (number_le (is_one (get_or m (4 * i + 3) 0))))
-    go p l false k =
-        let n = eqb-false p i k in
-        rw (get_or-set_other m (4 * i + 3) (4 * p + 3) (number_of (is_one (get_or m (4 * i + 3) 0))) 0 (λ z. n (omega (arith, z))))
-        (s.each p (omega (arith, n)))

@@ -92,15 +92,6 @@ record_same m i p h t = record {
   «open» = (ap is_one (open_same m i p h) ∙ number_one p.«open») t;
 }
 
--- four stores, the last of a number that stands for the flag
-pub flag_stored : (m : List ℕ) (i : ℕ) (p : Place) (k : ℕ) → k ≡ number_of p.«open»
-    → set (three m i p) (4 * i + 3) k ≡ stored_at m i p
-unfolding stored_at
-flag_stored m i p k e = ap (λ (x : ℕ). set (three m i p) (4 * i + 3) x) e
-
 -- three numbers read, and a flag that is the fourth
 abbrev pub flagged : List ℕ → ℕ → Bool → Place
 flagged m i b = record { vertex = get_or m (4 * i) 0; before = get_or m (4 * i + 1) 0; after = get_or m (4 * i + 2) 0; «open» = b }
-
-pub flag_read : (m : List ℕ) (i : ℕ) (b : Bool) → b ≡ is_one (get_or m (4 * i + 3) 0) → flagged m i b ≡ record_at m i
-flag_read m i b e = ap (flagged m i) e

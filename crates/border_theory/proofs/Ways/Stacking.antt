@@ -27,9 +27,6 @@ pub record Releases (n : ℕ) (m₀ : List ℕ) (k₀ j₀ p : ℕ) (m : List �
   pub room : k + j ≤ n
   pub long : length m ≡ length m₀
 
-pub releases_start : (n : ℕ) (m : List ℕ) (k j p : ℕ) → k + j ≤ n → ((i : ℕ) → i < j → walked m i p < n) → Releases n m k j p m k j p
-releases_start n m k j p r h = record { ends = refl; near = h; room = r; long = refl }
-
 pub releases_here : (n : ℕ) (m : List ℕ) (j x : ℕ) → ((i : ℕ) → i < j → walked m i x < n) → 0 < j → x < n
 unfolding walked
 releases_here n m j x h l = h 0 l
@@ -62,9 +59,6 @@ pub record Moves (n : ℕ) (m₀ : List ℕ) (l₀ k₀ : ℕ) (m : List ℕ) (l
   pub ends : moved_down n m l k ≡ moved_down n m₀ l₀ k₀
   pub sum : l + k ≡ l₀ + k₀
   pub long : length m ≡ length m₀
-
-pub moves_start : (n : ℕ) (m : List ℕ) (l k : ℕ) → Moves n m l k m l k
-moves_start n m l k = record { ends = refl; sum = refl; long = refl }
 
 pub moves_more : (n : ℕ) (m₀ : List ℕ) (l₀ k₀ : ℕ) (m : List ℕ) (l k : ℕ) (m' : List ℕ) → Moves n m₀ l₀ k₀ m l k
     → m' ≡ waits n m l (at m (5 * n + 2 * (l + 1))) (at m (5 * n + 2 * (l + 1) + 1)) → 0 < k → Moves n m₀ l₀ k₀ m' (l + 1) (k - 1)

@@ -10,11 +10,18 @@ use Rattle.rules.specs.Table.{Side, glued, fresh}
 use Rattle.cutborder.specs.declared.Loops.{Loops}
 use Rattle.cutborder.specs.declared.Front.{Front}
 use Rattle.cutborder.specs.declared.Plan.{Plan}
-use Rattle.cutborder.specs.declared.Decided.{Decided}
-use Rattle.cutborder.specs.declared.Decided.TheVariants.{Refused, Builds, Marks}
+use Rattle.cutborder.specs.declared.Action.TheVariants.{Builds, Marks}
+use Rattle.std.specs.Prelude.{Err, Ok, Result}
+use Rattle.rules.specs.declared.refusal.Refusal.TheVariants.{NotAllowed, ExceedsStated}
+use Rattle.rules.specs.declared.refusal.Refusal.{Refusal}
+use Rattle.cutborder.specs.declared.Action.{Action}
 use Rattle.border_theory.specs.Memory.Layout.{at, vertex_of, before_of, after_of, open_of, walked}
 use Rattle.border_theory.specs.Memory.Moves.{Held, new_held, forward_held, backward_held, ended_held, marked_held, split_held, union_held}
 use Rattle.border_theory.specs.Memory.Moves.{start_held}
+
+-- an action, or why there is none
+abbrev pub Decided : Type 0
+Decided = Result Action Refusal
 
 abbrev pub is_open_at : List ℕ → ℕ → Bool
 is_open_at m p = eqb (open_of m p) 1
@@ -22,7 +29,7 @@ is_open_at m p = eqb (open_of m p) 1
 -- 16
 unfoldable pub allowed_if : Bool → Decided → Decided
 allowed_if true d = d
-allowed_if false d = Refused 16
+allowed_if false d = Err NotAllowed
 
 -- the triangle b a c at the current edge: whether a→c and c→b are new edges, how many numbers are new, unions, the place of c
 abbrev pub plan_at : Loops → List ℕ → ℕ → ℕ → ℕ → ℕ → ℕ → ℕ → Plan
@@ -44,22 +51,22 @@ is_three l m =
     eqb l.size 3 && is_open_at m f && is_open_at m (after_of m f)
 
 unfoldable pub new_plan : Loops → List ℕ → ℕ → Decided
-new_plan l m u = Builds (plan_at l m u 1 1 1 0 0)
+new_plan l m u = Ok (Builds (plan_at l m u 1 1 1 0 0))
 
 unfoldable pub forward_plan : Loops → List ℕ → Decided
 forward_plan l m =
     let f = after_of m l.current in
     allowed_if (leb 3 l.size)
-    (allowed_if (is_open_at m f) (allowed_if (not (is_three l m)) (Builds (plan_at l m (vertex_of m (after_of m f)) 1 0 0 0 0))))
+    (allowed_if (is_open_at m f) (allowed_if (not (is_three l m)) (Ok (Builds (plan_at l m (vertex_of m (after_of m f)) 1 0 0 0 0)))))
 
 unfoldable pub backward_plan : Loops → List ℕ → Decided
 backward_plan l m =
     let c = before_of m l.current in
     allowed_if (leb 3 l.size)
-    (allowed_if (is_open_at m c) (allowed_if (not (is_three l m)) (Builds (plan_at l m (vertex_of m c) 0 1 0 0 0))))
+    (allowed_if (is_open_at m c) (allowed_if (not (is_three l m)) (Ok (Builds (plan_at l m (vertex_of m c) 0 1 0 0 0)))))
 
 unfoldable pub border_plan : Loops → List ℕ → Decided
-border_plan l m = Marks (vertex_of m l.current) (vertex_of m (after_of m l.current))
+border_plan l m = Ok (Marks (vertex_of m l.current) (vertex_of m (after_of m l.current)))
 
 -- place i after f is beyond an open edge next to the current one: forward and backward are for that
 unfoldable pub beside_next : Loops → List ℕ → ℕ → Bool
@@ -74,34 +81,35 @@ split_plan l m i =
     allowed_if (leb 1 i)
     (allowed_if (leb (i + 2) l.size)
     (allowed_if (not (beside_next l m i))
-    (allowed_if (not (beside_last l m i)) (Builds (plan_at l m (vertex_of m c) 1 1 0 0 c)))))
+    (allowed_if (not (beside_last l m i)) (Ok (Builds (plan_at l m (vertex_of m c) 1 1 0 0 c))))))
 
 unfoldable pub close_plan : Loops → List ℕ → Decided
 close_plan l m =
     let f = after_of m l.current in
     let c = after_of m f in
-    allowed_if (eqb l.size 3) (allowed_if (is_open_at m f) (allowed_if (is_open_at m c) (Builds (plan_at l m (vertex_of m c) 0 0 0 0 0))))
+    allowed_if (eqb l.size 3)
+    (allowed_if (is_open_at m f) (allowed_if (is_open_at m c) (Ok (Builds (plan_at l m (vertex_of m c) 0 0 0 0 0)))))
 
 unfoldable pub union_plan : ℕ → Loops → List ℕ → ℕ → ℕ → Decided
 union_plan n l m p j =
     let w = l.live - 1 - p in
     let c = walked m j (at m (5 * n + 2 * w)) in
     allowed_if (leb 1 p)
-    (allowed_if (leb p (l.live - 1)) (allowed_if (ltb j (at m (5 * n + 2 * w + 1))) (Builds (plan_at l m (vertex_of m c) 1 1 0 1 c))))
+    (allowed_if (leb p (l.live - 1)) (allowed_if (ltb j (at m (5 * n + 2 * w + 1))) (Ok (Builds (plan_at l m (vertex_of m c) 1 1 0 1 c)))))
 
 unfoldable pub start_plan : ℕ → Decided
 start_plan u =
-    Builds (record { triangle = tri u (u + 1) (u + 2); pq = 1; qr = 1; rp = 1; vertices = 3; starts = 1; unions = 0; place = 0 })
+    Ok (Builds (record { triangle = tri u (u + 1) (u + 2); pq = 1; qr = 1; rp = 1; vertices = 3; starts = 1; unions = 0; place = 0 }))
 
 -- with no live loop
 abbrev pub rest_proposed : ℕ → Operation → Decided
-rest_proposed u New = Refused 16
-rest_proposed u Forward = Refused 16
-rest_proposed u Backward = Refused 16
-rest_proposed u Border = Refused 16
-rest_proposed u (Split i) = Refused 16
-rest_proposed u Close = Refused 16
-rest_proposed u (Union p j) = Refused 16
+rest_proposed u New = Err NotAllowed
+rest_proposed u Forward = Err NotAllowed
+rest_proposed u Backward = Err NotAllowed
+rest_proposed u Border = Err NotAllowed
+rest_proposed u (Split i) = Err NotAllowed
+rest_proposed u Close = Err NotAllowed
+rest_proposed u (Union p j) = Err NotAllowed
 rest_proposed u Start = start_plan u
 
 -- with a live loop
@@ -113,7 +121,7 @@ edge_proposed n l m u Border = border_plan l m
 edge_proposed n l m u (Split i) = split_plan l m i
 edge_proposed n l m u Close = close_plan l m
 edge_proposed n l m u (Union p j) = union_plan n l m p j
-edge_proposed n l m u Start = Refused 16
+edge_proposed n l m u Start = Err NotAllowed
 
 abbrev pub proposed_by : Bool → ℕ → Loops → List ℕ → ℕ → Operation → Decided
 proposed_by true n l m u o = rest_proposed u o
@@ -137,13 +145,13 @@ room_for n s p =
     && leb (s.loops.live + new_edges p + 2 * p.starts) (s.stated.loops + p.vertices + 1 + 2 * p.unions)
 
 abbrev pub room_by : Bool → Plan → Decided
-room_by true p = Builds p
-room_by false p = Refused 17
+room_by true p = Ok (Builds p)
+room_by false p = Err ExceedsStated
 
 abbrev pub decided_by : ℕ → Front → Decided → Decided
-decided_by n s (Refused k) = Refused k
-decided_by n s (Builds p) = room_by (room_for n s p) p
-decided_by n s (Marks x y) = Marks x y
+decided_by n s (Err k) = Err k
+decided_by n s (Ok (Builds p)) = room_by (room_for n s p) p
+decided_by n s (Ok (Marks x y)) = Ok (Marks x y)
 
 -- 16, 17, or what is to be done
 unfoldable pub decided : ℕ → Front → List ℕ → Operation → Decided

@@ -9,13 +9,15 @@ use Rattle.rules.specs.Furnace.{operation_freely}
 use Rattle.rules.specs.Limits.{max_loops, max_numbers, max_places, max_triangles, max_vertices}
 use Rattle.cutborder.specs.declared.Front.{Front}
 use Rattle.cutborder.specs.declared.Plan.{Plan}
-use Rattle.cutborder.specs.declared.Decided.{Decided}
-use Rattle.cutborder.specs.declared.Decided.TheVariants.{Refused, Builds, Marks}
+use Rattle.border_theory.specs.Memory.Decision.{Decided}
+use Rattle.cutborder.specs.declared.Action.TheVariants.{Builds, Marks}
+use Rattle.std.specs.Prelude.{Err, Ok}
 use Rattle.border_theory.specs.Memory.Layout.{at}
 use Rattle.border_theory.specs.Memory.Stands.{loops_in, Stands}
 use Rattle.border_theory.specs.Memory.Moves.{marked_held}
 use Rattle.border_theory.specs.Memory.Touched.{Rearranged}
 use Rattle.border_theory.specs.Memory.Decision.{side_of, held_after, built_front, marked_front}
+use Rattle.rules.specs.Refusal.{number_of}
 
 -- the memory has room for n places and the loops stated
 pub record Roomy (n : ℕ) (s : Front) (m : List ℕ) : Type 0 where
@@ -75,9 +77,9 @@ pub record MarksIt (n : ℕ) (s : Front) (m : List ℕ) (M : Machine) (o : Opera
 
 -- what a decision says of the machine's call
 abbrev pub Decides : ℕ → Front → List ℕ → Machine → Operation → Decided → Type 0
-Decides n s m M o (Refused k) = operation M o ≡ refused k
-Decides n s m M o (Builds p) = BuildsIt n s m M o p
-Decides n s m M o (Marks x y) = MarksIt n s m M o x y
+Decides n s m M o (Err k) = operation M o ≡ refused (number_of k)
+Decides n s m M o (Ok (Builds p)) = BuildsIt n s m M o p
+Decides n s m M o (Ok (Marks x y)) = MarksIt n s m M o x y
 
 -- the same of the machine without the edge rule: what the operation does, and that it has room
 pub record BuildsFreely (n : ℕ) (s : Front) (m : List ℕ) (M : Machine) (o : Operation) (p : Plan) : Type 0 where
@@ -94,6 +96,6 @@ pub record MarksFreely (n : ℕ) (s : Front) (m : List ℕ) (M : Machine) (o : O
   pub keeps : Keeps n (marked_front n s (marked_held n s.loops m).loops) (marked_held n s.loops m).memory (after_mark M marking)
 
 abbrev pub DecidesFreely : ℕ → Front → List ℕ → Machine → Operation → Decided → Type 0
-DecidesFreely n s m M o (Refused k) = operation_freely M o ≡ refused k
-DecidesFreely n s m M o (Builds p) = BuildsFreely n s m M o p
-DecidesFreely n s m M o (Marks x y) = MarksFreely n s m M o
+DecidesFreely n s m M o (Err k) = operation_freely M o ≡ refused (number_of k)
+DecidesFreely n s m M o (Ok (Builds p)) = BuildsFreely n s m M o p
+DecidesFreely n s m M o (Ok (Marks x y)) = MarksFreely n s m M o

@@ -4,7 +4,7 @@ use Prim.Native.Nat.{ℕ, ◌<◌}
 use mathlib.Core.List.{List, []}
 use mathlib.Core.Path.{◌≡◌}
 use Rattle.rules.specs.declared.Triangle.{Triangle}
-use Rattle.rules.specs.declared.Checked.TheVariants.{Accepted}
+use Rattle.rules.specs.Checked.{Accepted}
 use Rattle.rules.specs.Triangle.{triangles_of, In}
 use Rattle.rules.specs.Check.{check}
 use Rattle.rules.specs.Pack.{Most, nothing_built, chosen_for}

@@ -7,7 +7,7 @@ use mathlib.Core.Logic.{◌⊎◌, inl, inr}
 use Rattle.rules.specs.declared.Triangle.{Triangle}
 use Rattle.rules.specs.declared.Operation.{Operation}
 use Rattle.rules.specs.declared.Operation.TheVariants.{New}
-use Rattle.rules.specs.declared.Across.TheVariants.{Nothing}
+use Rattle.rules.specs.Across.{Nothing}
 use Rattle.rules.specs.Across.{across}
 use Rattle.rules.specs.Ring.{Node, Ring, vertex, loop_at}
 use Rattle.rules.specs.Choice.{choose_place}

@@ -10,8 +10,8 @@ use mathlib.Core.Logic.{◌⊎◌, inl, inr}
 use lib.ListN.{length}
 use borrow.Author.Tests.{le-leb}
 use Rattle.rules.specs.declared.Triangle.{Triangle}
-use Rattle.rules.specs.declared.Across.{Across}
-use Rattle.rules.specs.declared.Across.TheVariants.{Found, Nothing}
+use Rattle.rules.specs.Across.{Across}
+use Rattle.rules.specs.Across.{Found, Nothing}
 use Rattle.rules.specs.declared.Operation.{Operation}
 use Rattle.rules.specs.declared.Operation.TheVariants.{New, Border, Start}
 use Rattle.rules.specs.Triangle.{edge, Rot, at_p, In}

@@ -9,7 +9,7 @@ use mathlib.Core.Logic.{◌⊎◌, inl, inr}
 use Rattle.rules.specs.declared.Triangle.{Triangle}
 use Rattle.rules.specs.declared.Operation.{Operation}
 use Rattle.rules.specs.declared.Operation.TheVariants.{New, Border, Start}
-use Rattle.rules.specs.declared.Across.TheVariants.{Nothing}
+use Rattle.rules.specs.Across.{Nothing}
 use Rattle.rules.specs.Across.{across}
 use Rattle.rules.specs.Ring.{Node, opened, Ring, vertex, is_open}
 use Rattle.rules.specs.Choice.{choose_place}

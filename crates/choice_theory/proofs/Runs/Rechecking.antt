@@ -9,7 +9,7 @@ use lib.ListN.{length}
 use lib.Dec.{eqb, leb}
 use borrow.Author.Tests.{eq-eqb, le-leb}
 use Rattle.rules.specs.declared.Triangle.{Triangle}
-use Rattle.rules.specs.declared.Checked.TheVariants.{Accepted}
+use Rattle.rules.specs.Checked.{Accepted}
 use Rattle.rules.specs.Limits.{max_numbers, max_triangles, between, vertex_range}
 use Rattle.rules.specs.Triangle.{edges_of, In}
 use Rattle.rules.specs.Check.{size_fits, check}

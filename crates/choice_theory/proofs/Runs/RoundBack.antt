@@ -13,7 +13,7 @@ use Rattle.rules.specs.declared.Triangle.{Triangle}
 use Rattle.rules.specs.declared.Counts.{Counts}
 use Rattle.rules.specs.declared.Operation.{Operation}
 use Rattle.rules.specs.declared.Totals.{Totals}
-use Rattle.rules.specs.declared.Checked.TheVariants.{Accepted}
+use Rattle.rules.specs.Checked.{Accepted}
 use Rattle.rules.specs.Limits.{max_triangles, min_places, max_places, max_loops, between, vertex_range, in_range}
 use Rattle.rules.specs.Fan.{one_fan_each}
 use Rattle.rules.specs.Check.{check}

@@ -11,7 +11,7 @@ use lib.ListN.{length}
 use Rattle.rules.specs.declared.Triangle.{Triangle}
 use Rattle.rules.specs.declared.Counts.{Counts}
 use Rattle.rules.specs.declared.Operation.{Operation}
-use Rattle.rules.specs.declared.Checked.TheVariants.{Accepted}
+use Rattle.rules.specs.Checked.{Accepted}
 use Rattle.rules.specs.Triangle.{triangles_of}
 use Rattle.rules.specs.Check.{check}
 use Rattle.rules.specs.Ring.{places}

@@ -1,18 +1,16 @@
 use lib.Dec.{lit<}
-use Rattle.volume_theory.proofs.Fitting.{given, answered, sum_may, product_holds, difference_holds}
+use Prim.Native.Nat.{◌≤◌}
+use lib.IntN.{ℤ, nat_abs, ◌-ℤ◌, ◌*ℤ◌}
+use Rattle.volume_theory.proofs.Fitting.{held, Holds, near, answered, product_holds, difference_holds}
 use Rattle.determinants.proofs.minor.Goals as goal
 
-pub minus-requires : goal.minus-requires
-minus-requires c = sum_may
-    (product_holds (given c.ranges.a c.requires.0) (given c.ranges.d c.requires.3) c.times.result (record { sfits = c.times.type_inv })
-    c.times.ensures)
-    (product_holds (given c.ranges.b c.requires.1) (given c.ranges.c c.requires.2) c.times-2.result (record { sfits = c.times-2.type_inv })
-    c.times-2.ensures) (lit< tt)
+holds : (a b c d : ℤ) → nat_abs a ≤ 32768 → nat_abs b ≤ 32768 → nat_abs c ≤ 32768 → nat_abs d ≤ 32768
+    → Holds (held (held a *ℤ held d) -ℤ held (held b *ℤ held c)) (a *ℤ d -ℤ b *ℤ c) 2147483648
+holds a b c d ha hb hc hd =
+    difference_holds (product_holds (near a ha) (near d hd) (lit< tt)) (product_holds (near b hb) (near c hc) (lit< tt)) (lit< tt)
+
+pub overflow_sub-result : goal.overflow_sub-result
+overflow_sub-result c = (holds c.args.a c.args.b c.args.c c.args.d c.requires.0 c.requires.1 c.requires.2 c.requires.3).fits
 
 pub returns : goal.returns
-returns c = answered
-    (difference_holds
-    (product_holds (given c.ranges.a c.requires.0) (given c.ranges.d c.requires.3) c.times.result (record { sfits = c.times.type_inv })
-    c.times.ensures)
-    (product_holds (given c.ranges.b c.requires.1) (given c.ranges.c c.requires.2) c.times-2.result (record { sfits = c.times-2.type_inv })
-    c.times-2.ensures) c.minus.result (record { sfits = c.minus.type_inv }) c.minus.ensures)
+returns c = answered (holds c.args.a c.args.b c.args.c c.args.d c.requires.0 c.requires.1 c.requires.2 c.requires.3)

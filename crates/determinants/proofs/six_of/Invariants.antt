@@ -4,6 +4,3 @@ use Rattle.determinants.proofs.six_of.Given as goal
 
 abbrev pub invariant-loop-t : goal.invariant-loop-t
 invariant-loop-t l = Summed l.n (positions_from l.field) l.triangles l.t l.sum
-
-abbrev pub decreases-loop-t : goal.decreases-loop-t
-decreases-loop-t l = l.t

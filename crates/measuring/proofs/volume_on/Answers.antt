@@ -1,42 +1,33 @@
-use mathlib.Core.Path.{ap}
-use Rattle.rules.specs.Reading.{positions_in}
-use Rattle.wire.proofs.Told.{told_neither, told_two, told_rest}
-use Rattle.notes_theory.proofs.Measuring.{volume_refused, volume_long, volume_measurable, volume_none, volume_third}
+use native.Mathlib.Omega.{arith}
+use mathlib.Core.Path.{sym, ◌∙◌}
+use mir.Syntax.{w64}
+use mir.Facts.{to_z-of_z}
+use Rattle.std.proofs.lemmas.Result.{err_from_is_err_and}
+use Rattle.notes_theory.proofs.Measuring.{volume_refused, volume_long, volume_measurable, volume_none, volume_rim, volume_sum}
 use Rattle.measuring.proofs.volume_on.Goals as goal
+use Rattle.measuring.proofs.volume_on.Goals.{in_default-via-in-Some+else-model-eq0, in_default-via-in_default}
+
+pub returns-in_err-model : goal.returns-in_err-model
+returns-in_err-model c =
+    let p = err_from_is_err_and c.from_residual.result c.from_residual.ensures.1 in
+    rw (p.1, p.2) (volume_refused _ _ _ _ _ c.in_err-model.ensures)
+
+pub six_of-six-requires : goal.six_of-six-requires
+six_of-six-requires c = rw c.from.ensures (volume_measurable _ _ _ _ _ c.in_ok-model.ensures _ (sym c.in-Some.ensures))
+
+pub clear-requires : goal.clear-requires
+clear-requires c = omega (arith, volume_long _ _ _ _ _ c.in_ok-model.ensures, c.from-in_default.ensures)
+
+pub returns-in-Some : goal.returns-in-Some
+returns-in-Some c =
+    volume_sum _ _ _ _ _ c.in_ok-model.ensures _ (sym c.in-Some.ensures) c.if-model-eq0.true _
+    (to_z-of_z {w = w64} (record { sfits = c.six_of-six.type_inv }) ∙ (rw c.from.ensures at c.six_of-six.ensures))
 
 pub returns-in_default : goal.returns-in_default
-returns-in_default c = volume_refused _ _ _ _ _ _ _ c.unpack_noted_on-r.ensures c.in_default.is (c.refusal_of.ensures _ c.in_default.is)
-
-pub measure-requires : goal.measure-requires
-measure-requires c = (
-  volume_measurable c.args.pack.now c.args.triangles.now c.args.n _ _ _ c.unpack_noted_on-r.ensures c.in-Model.is
-      c.before_note-end.result c.before_note-end.ensures.front _
-      (ap positions_in (told_rest _ _ c.parts_of-parts.ensures _ _ c.in-Three.is)),
-  volume_long c.args.pack.now c.args.triangles.now c.args.n _ _ _ c.unpack_noted_on-r.ensures c.in-Model.is
-      c.before_note-end.result c.before_note-end.ensures.front,
-)
-
-pub no_volume-requires : goal.no_volume-requires
-no_volume-requires c = volume_long c.args.pack.now c.args.triangles.now c.args.n _ _ _ c.unpack_noted_on-r.ensures c.in-Model.is
-    c.before_note-end.result c.before_note-end.ensures.front
-
-pub no_volume-requires-in-Neither : goal.no_volume-requires-in-Neither
-no_volume-requires-in-Neither c = volume_long c.args.pack.now c.args.triangles.now c.args.n _ _ _ c.unpack_noted_on-r.ensures c.in-Model.is
-    c.before_note-end.result c.before_note-end.ensures.front
-
-pub returns-in-Three : goal.returns-in-Three
-returns-in-Three c = volume_third c.args.pack.now c.args.triangles.now c.args.n _ _ _ c.unpack_noted_on-r.ensures c.in-Model.is
-    c.before_note-end.result c.before_note-end.ensures.front _
-    (ap positions_in (told_rest _ _ c.parts_of-parts.ensures _ _ c.in-Three.is)) _ _ c.measure.ensures.answer c.measure.ensures.triangles
-
-pub returns-in-Two : goal.returns-in-Two
-returns-in-Two c = volume_none c.args.pack.now c.args.triangles.now c.args.n _ _ _ c.unpack_noted_on-r.ensures c.in-Model.is
-    c.before_note-end.result c.before_note-end.ensures.front
-    (ap positions_in (told_two _ _ c.parts_of-parts.ensures c.in-Two.is)) _ c.no_volume.ensures.answer _
-    c.no_volume.ensures.triangles
-
-pub returns-in-Neither : goal.returns-in-Neither
-returns-in-Neither c = volume_none c.args.pack.now c.args.triangles.now c.args.n _ _ _ c.unpack_noted_on-r.ensures c.in-Model.is
-    c.before_note-end.result c.before_note-end.ensures.front
-    (ap positions_in (told_neither _ _ c.parts_of-parts.ensures c.in-Neither.is)) _ c.no_volume-in-Neither.ensures.answer _
-    c.no_volume-in-Neither.ensures.triangles
+returns-in_default c =
+    rw (rw c.from-in_default.ensures at c.clear.ensures)
+    (elim c.in_default.branch [
+      | in_default-via-in-Some+else-model-eq0 w ↦
+          volume_rim _ _ _ _ _ c.in_ok-model.ensures _ (sym w.in-Some.ensures) w.if-model-eq0.false
+      | in_default-via-in_default w ↦ volume_none _ _ _ _ _ c.in_ok-model.ensures (sym w.in_default.ensures)
+    ])

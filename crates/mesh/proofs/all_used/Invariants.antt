@@ -9,6 +9,3 @@ use Rattle.mesh.proofs.all_used.Given as goal
 abbrev pub invariant-loop-u : goal.invariant-loop-u
 invariant-loop-u l = (l.u ≤ l.v)
     × ((xs : List ℕ) → Linked xs l.chains → all_used l.u (corners (triangles_of xs)) ≡ all_used l.v (corners (triangles_of xs)))
-
-abbrev pub decreases-loop-u : goal.decreases-loop-u
-decreases-loop-u l = l.u

@@ -1,6 +1,6 @@
 -- The tests in their order, and what those that a list has passed say of it.
 -- Assumes nothing.
-use Prim.Native.Nat.{ℕ, ◌*◌, ◌/◌, ◌%◌, ◌≤◌, ◌<◌}
+use Prim.Native.Nat.{ℕ, ◌%◌, ◌≤◌, ◌<◌}
 use native.Mathlib.Omega.{arith}
 use mathlib.Core.Bool.{Bool, true, false, ◌&&◌, not}
 use mathlib.Core.List.{List}
@@ -8,8 +8,8 @@ use mathlib.Core.Path.{◌≡◌, refl, sym, ap, ◌∙◌, subst}
 use lib.ListN.{length}
 use lib.Dec.{eqb, leb}
 use borrow.Author.Tests.{leb-true, le-leb, lt-leb, not-true, not-false}
-use Rattle.rules.specs.declared.Checked.{Checked}
-use Rattle.rules.specs.declared.Checked.TheVariants.{Accepted, Refused}
+use Rattle.rules.specs.Checked.{Checked}
+use Rattle.rules.specs.Checked.{Accepted, Refused}
 use Rattle.rules.specs.Limits.{max_numbers, min_vertices, max_vertices, between, vertex_range}
 use Rattle.rules.specs.Triangle.{triangles_of, edges_of}
 use Rattle.rules.specs.Check.{all_below, all_distinct, none_twice, passes, check_triangles, check}
@@ -50,35 +50,8 @@ pub answers_on : {a b r : Checked} {xs cs : List ℕ} → Answers a xs r cs → 
 answers_on k e = record { right = e k.right; chained = k.chained }
 
 -- 1 and 2, test by test
-pub size_none : (n : ℕ) → n < 1 → false ≡ fits_size n
-size_none n h = sym (ap (λ (b : Bool). b && leb n max_numbers && eqb (n % 3) 0) (lt-leb 1 n h))
-
-pub size_over : (n : ℕ) → 1 ≤ n → max_numbers < n → false ≡ fits_size n
-size_over n h k =
-    sym
-    (ap (λ (b : Bool). b && leb n max_numbers && eqb (n % 3) 0) (le-leb 1 n h)
-    ∙ ap (λ (b : Bool). b && eqb (n % 3) 0) (lt-leb n max_numbers k))
-
-pub size_within : (n : ℕ) → 1 ≤ n → n ≤ max_numbers → eqb (n % 3) 0 ≡ fits_size n
-size_within n h k =
-    sym
-    (ap (λ (b : Bool). b && leb n max_numbers && eqb (n % 3) 0) (le-leb 1 n h)
-    ∙ ap (λ (b : Bool). b && eqb (n % 3) 0) (le-leb n max_numbers k))
-
-pub count_under : (v : ℕ) → v < min_vertices → false ≡ vertex_range v
-count_under v h = sym (ap (λ (b : Bool). b && leb v max_vertices) (lt-leb min_vertices v h))
-
-pub count_over : (v : ℕ) → min_vertices ≤ v → leb v max_vertices ≡ vertex_range v
-count_over v h = sym (ap (λ (b : Bool). b && leb v max_vertices) (le-leb min_vertices v h))
-
 between_high : (lo n hi : ℕ) → between lo n hi ≡ true → n ≤ hi
 between_high lo n hi h = leb-true n hi (and_right (leb lo n) (leb n hi) h)
-
-pub range_most : (v : ℕ) (b : Bool) → b ≡ vertex_range v → not b ≡ false → v ≤ max_vertices
-range_most v b e f = between_high min_vertices v max_vertices (sym e ∙ not-false b f)
-
-pub size_long : (n : ℕ) (b : Bool) → b ≡ fits_size n → not b ≡ false → n ≡ 3 * (n / 3)
-size_long n b e f = fits_thirds n (sym e ∙ not-false b f)
 
 -- 1 to 4 as the code tests them: they refuse for all seven, or they pass, and 5 to 7 are asked
 on_refused : (b : Bool) (n m : ℕ) (c d : Checked) → (c ≡ Refused m → d ≡ Refused m) → passes b n c ≡ Refused m

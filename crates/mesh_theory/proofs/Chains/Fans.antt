@@ -10,7 +10,7 @@ use lib.ListN.{length, get_or}
 use lib.Dec.{eqb, ltb}
 use borrow.Author.Tests.{eqb-true, eqb-false, eq-eqb, ne_eqb, ltb-true, ltb-false, not-true, not-false}
 use Rattle.rules.specs.declared.Triangle.{Triangle}
-use Rattle.rules.specs.declared.Across.TheVariants.{Found, Nothing}
+use Rattle.rules.specs.Across.{Found, Nothing}
 use Rattle.rules.specs.Limits.{max_vertices}
 use Rattle.rules.specs.Triangle.{Edge, edge, edges_of, corners, triangles_of, at_p, at_q, at_r, In, here, there}
 use Rattle.rules.specs.Count.{hit, occurs, count}

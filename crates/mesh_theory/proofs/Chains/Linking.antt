@@ -2,20 +2,19 @@
 -- Assumes nothing.
 use Prim.Native.Nat.{ℕ, zero, suc, ◌+◌, ◌*◌, ◌≤◌, ◌<◌}
 use native.Mathlib.Omega.{arith}
-use mathlib.Core.Bool.{Bool, true, false, ◌&&◌}
+use mathlib.Core.Bool.{Bool, true, false}
 use mathlib.Core.List.{List}
 use mathlib.Core.Path.{◌≡◌, refl, sym, ap, ◌∙◌, subst}
 use lib.ListN.{length, get_or, set, length-set, replicate, length-replicate, get_or-replicate}
 use lib.Seq.{get_or-set_same, get_or-set_other}
-use lib.Dec.{eqb, ltb}
-use borrow.Author.Tests.{eqb-true, eqb-false, ltb-true, lt-ltb, le-ltb}
+use lib.Dec.{eqb}
+use borrow.Author.Tests.{eqb-true, eqb-false, lt-ltb}
 use Rattle.rules.specs.declared.Triangle.{Triangle}
 use Rattle.rules.specs.Limits.{max_numbers, max_triangles, max_vertices}
 use Rattle.rules.specs.Build.{with_triangle}
 use Rattle.mesh_theory.specs.Chains.Corner.{latest}
 use Rattle.mesh_theory.specs.Chains.Linked.{Chains, linked, linked_triangle, linkable, relinked, room}
 use Rattle.mesh_theory.proofs.Chains.Walking.{latest_here, latest_other}
-use Rattle.counting.proofs.Bools.{and_left, and_right}
 use Rattle.counting.proofs.Triangles.{written_long, written_before, written_p, written_q, written_r}
 
 -- chains of no corner
@@ -113,54 +112,6 @@ module _ (xs : List ℕ) (n : ℕ) (cs : List ℕ) (chains : Chains xs (3 * n) c
       let i' : cs' ≡ linked_triangle cs n p q r =
       i ∙ rw (relinked, lt-ltb n max_triangles m, lt-ltb p max_vertices a, lt-ltb q max_vertices b, lt-ltb r max_vertices c) in
       subst (Chains xs (3 * (n + 1))) (sym i') (three_linked p q r e f g m a b c)
-
--- what the test for room says
-pub record Linkable (n p q r : ℕ) : Type 0 where
-  pub few : n < max_triangles
-  pub p_below : p < max_vertices
-  pub q_below : q < max_vertices
-  pub r_below : r < max_vertices
-
-pub linkable_parts : (n p q r : ℕ) → linkable n p q r ≡ true → Linkable n p q r
-unfolding linkable
-linkable_parts n p q r h =
-    let a = ltb n max_triangles in
-    let b = ltb p max_vertices in
-    let c = ltb q max_vertices in
-    let d = ltb r max_vertices in
-    record {
-      few = ltb-true n max_triangles (and_left a (b && (c && d)) h);
-      p_below = ltb-true p max_vertices (and_left b (c && d) (and_right a (b && (c && d)) h));
-      q_below = ltb-true q max_vertices (and_left c d (and_right b (c && d) (and_right a (b && (c && d)) h)));
-      r_below = ltb-true r max_vertices (and_right c d (and_right b (c && d) (and_right a (b && (c && d)) h)));
-    }
-
-pub linkable_many : (n p q r : ℕ) → max_triangles ≤ n → false ≡ linkable n p q r
-unfolding linkable
-linkable_many n p q r h = sym (rw (linkable, le-ltb n max_triangles h))
-
-pub linkable_p : (n p q r : ℕ) → n < max_triangles → max_vertices ≤ p → false ≡ linkable n p q r
-unfolding linkable
-linkable_p n p q r h a = sym (rw (linkable, lt-ltb n max_triangles h, le-ltb p max_vertices a))
-
-pub linkable_q : (n p q r : ℕ) → n < max_triangles → p < max_vertices → max_vertices ≤ q → false ≡ linkable n p q r
-unfolding linkable
-linkable_q n p q r h a b = sym (rw (linkable, lt-ltb n max_triangles h, lt-ltb p max_vertices a, le-ltb q max_vertices b))
-
-pub linkable_r : (n p q r : ℕ) → n < max_triangles → p < max_vertices → q < max_vertices → ltb r max_vertices ≡ linkable n p q r
-unfolding linkable
-linkable_r n p q r h a b = sym (rw (linkable, lt-ltb n max_triangles h, lt-ltb p max_vertices a, lt-ltb q max_vertices b))
-
-pub relinked_yes : (cs : List ℕ) {cs₁ cs₂ cs₃ : List ℕ} (n p q r : ℕ) → linkable n p q r ≡ true → cs₁ ≡ linked cs p (3 * n)
-    → cs₂ ≡ linked cs₁ q (3 * n + 1)
-    → cs₃ ≡ linked cs₂ r (3 * n + 2) → cs₃ ≡ relinked cs n p q r
-unfolding relinked
-relinked_yes cs {cs₁} {cs₂} {cs₃} n p q r h e f g =
-    g ∙ ap (λ (l : List ℕ). linked l r (3 * n + 2)) (f ∙ ap (λ (l : List ℕ). linked l q (3 * n + 1)) e) ∙ sym (rw (relinked, h))
-
-pub relinked_no : (cs : List ℕ) (n p q r : ℕ) → linkable n p q r ≡ false → cs ≡ relinked cs n p q r
-unfolding relinked
-relinked_no cs n p q r h = sym (rw (relinked, h))
 
 -- lists that agree as far as the corners go
 pub latest_same : (v : ℕ) (xs ys : List ℕ) (n : ℕ) → ((c : ℕ) → c < n → get_or xs c 0 ≡ get_or ys c 0) → latest v xs n ≡ latest v ys n

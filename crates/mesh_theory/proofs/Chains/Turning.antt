@@ -9,8 +9,8 @@ use lib.ListN.{length}
 use lib.Dec.{eqb}
 use borrow.Author.Tests.{eqb-true, eqb-false}
 use Rattle.rules.specs.declared.Triangle.{Triangle}
-use Rattle.rules.specs.declared.Across.{Across}
-use Rattle.rules.specs.declared.Across.TheVariants.{Found, Nothing}
+use Rattle.rules.specs.Across.{Across}
+use Rattle.rules.specs.Across.{Found, Nothing}
 use Rattle.rules.specs.Triangle.{Edge, edges_of, corners, Rot, at_p, at_q, at_r, In}
 use Rattle.rules.specs.Count.{same, hit, occurs, count, uses}
 use Rattle.rules.specs.Across.{across}

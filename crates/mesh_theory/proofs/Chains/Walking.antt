@@ -9,8 +9,8 @@ use lib.ListN.{length, get_or}
 use lib.Dec.{eqb}
 use borrow.Author.Tests.{eqb-true, eqb-false, eq-eqb, ne_eqb}
 use Rattle.rules.specs.Limits.{max_numbers, max_vertices}
-use Rattle.rules.specs.declared.Across.{Across}
-use Rattle.rules.specs.declared.Across.TheVariants.{Found, Nothing}
+use Rattle.rules.specs.Across.{Across}
+use Rattle.rules.specs.Across.{Found, Nothing}
 use Rattle.mesh_theory.specs.Chains.Corner.{corner_after, corner_before, latest, degree, seen_from}
 use Rattle.mesh_theory.specs.Chains.Linked.{Chains, Newest, Older, CountsFrom}
 
@@ -109,22 +109,6 @@ latest_some v xs n h = go (latest v xs n) refl h
         omega arith
 
 -- the corners of a triangle
-pub after_two : (c : ℕ) → c % 3 ≡ 2 → c - 2 ≡ corner_after c
-unfolding corner_after
-after_two c e = sym (rw (corner_after, eq-eqb (c % 3) 2 e))
-
-pub after_other : (c : ℕ) → (c % 3 ≡ 2 → ⊥) → c + 1 ≡ corner_after c
-unfolding corner_after
-after_other c h = sym (rw (corner_after, ne_eqb (c % 3) 2 h))
-
-pub before_zero : (c : ℕ) → c % 3 ≡ 0 → c + 2 ≡ corner_before c
-unfolding corner_before
-before_zero c e = sym (rw (corner_before, eq-eqb (c % 3) 0 e))
-
-pub before_other : (c : ℕ) → (c % 3 ≡ 0 → ⊥) → c - 1 ≡ corner_before c
-unfolding corner_before
-before_other c h = sym (rw (corner_before, ne_eqb (c % 3) 0 h))
-
 pub seen_is : (xs : List ℕ) (c r : ℕ) → r ≡ corner_before c → Found (c / 3) (r % 3) (get_or xs r 0) ≡ seen_from xs c
 unfolding seen_from
 seen_is xs c r e = rw e

@@ -10,7 +10,7 @@ use lib.ListN.{length}
 use lib.Dec.{eqb}
 use borrow.Author.Tests.{eqb-true}
 use Rattle.rules.specs.declared.Triangle.{Triangle}
-use Rattle.rules.specs.declared.Checked.TheVariants.{Accepted}
+use Rattle.rules.specs.Checked.{Accepted}
 use Rattle.rules.specs.Limits.{max_numbers, between, vertex_range}
 use Rattle.rules.specs.Triangle.{triangles_of, corners, edges_of, at_p, at_q, at_r, In, here, there}
 use Rattle.rules.specs.Count.{same, occurs}

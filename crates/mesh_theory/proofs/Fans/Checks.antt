@@ -10,8 +10,8 @@ use mathlib.Core.Path.{◌≡◌, refl, sym, ap, ◌∙◌}
 use lib.ListN.{length}
 use lib.Dec.{eqb}
 use borrow.Author.Tests.{eqb-true}
-use Rattle.rules.specs.declared.Checked.{Checked}
-use Rattle.rules.specs.declared.Checked.TheVariants.{Accepted, Refused}
+use Rattle.rules.specs.Checked.{Checked}
+use Rattle.rules.specs.Checked.{Accepted, Refused}
 use Rattle.rules.specs.Limits.{max_numbers, max_triangles, between, vertex_range}
 use Rattle.rules.specs.Triangle.{triangles_of, corners, edges_of}
 use Rattle.rules.specs.Fan.{one_fan_each}

@@ -10,8 +10,8 @@ use lib.ListN.{length, get_or, length-append}
 use lib.Dec.{eqb}
 use borrow.Author.Tests.{eqb-true, eq-eqb}
 use Rattle.rules.specs.declared.Triangle.{Triangle}
-use Rattle.rules.specs.declared.Across.{Across}
-use Rattle.rules.specs.declared.Across.TheVariants.{Found, Nothing}
+use Rattle.rules.specs.Across.{Across}
+use Rattle.rules.specs.Across.{Found, Nothing}
 use Rattle.rules.specs.Triangle.{edges_of, Rot, at_p, at_q, at_r, In, here, there}
 use Rattle.rules.specs.Count.{hit, count, uses}
 use Rattle.rules.specs.Across.{in_triangle, across}

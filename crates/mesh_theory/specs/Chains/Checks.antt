@@ -2,8 +2,8 @@
 -- Assumes nothing.
 use Rattle.std.specs.Prelude.{ℕ, ◌%◌, Bool, ◌&&◌, List, ◌≡◌, eqb}
 use Rattle.rules.specs.declared.Triangle.{Triangle}
-use Rattle.rules.specs.declared.Checked.{Checked}
-use Rattle.rules.specs.declared.Checked.TheVariants.{Accepted}
+use Rattle.rules.specs.Checked.{Checked}
+use Rattle.rules.specs.Checked.{Accepted}
 use Rattle.rules.specs.Limits.{max_numbers, between}
 use Rattle.rules.specs.Triangle.{corners, edges_of}
 use Rattle.rules.specs.Fan.{one_fan_each}

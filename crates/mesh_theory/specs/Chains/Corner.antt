@@ -2,8 +2,8 @@
 -- Assumes nothing.
 use Rattle.std.specs.Prelude.{ℕ, zero, suc, ◌+◌, ◌*◌, ◌-◌, ◌/◌, ◌%◌, true, false, List, get_or, take, eqb}
 use Rattle.rules.specs.declared.Triangle.{Triangle}
-use Rattle.rules.specs.declared.Across.{Across}
-use Rattle.rules.specs.declared.Across.TheVariants.{Found}
+use Rattle.rules.specs.Across.{Across}
+use Rattle.rules.specs.Across.{Found}
 use Rattle.rules.specs.Triangle.{tri, triangles_of}
 
 -- the corner after c in its triangle, and the one before

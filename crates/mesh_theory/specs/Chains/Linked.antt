@@ -3,8 +3,8 @@
 -- at max_vertices + c.
 -- Assumes nothing.
 use Rattle.std.specs.Prelude.{ℕ, ◌+◌, ◌*◌, ◌/◌, ◌≤◌, ◌<◌, Bool, true, false, ◌&&◌, List, ◌≡◌, length, get_or, set, ltb}
-use Rattle.rules.specs.declared.Across.{Across}
-use Rattle.rules.specs.declared.Across.TheVariants.{Nothing}
+use Rattle.rules.specs.Across.{Across}
+use Rattle.rules.specs.Across.{Nothing}
 use Rattle.rules.specs.Limits.{max_numbers, max_triangles, max_vertices}
 use Rattle.rules.specs.Triangle.{triangles_of, edges_of}
 use Rattle.rules.specs.Count.{unjoined}

@@ -2,7 +2,7 @@
 -- Assumes nothing.
 use Rattle.std.specs.Prelude.{ℕ, zero, suc, true, false, List, eqb}
 use Rattle.rules.specs.declared.Triangle.{Triangle}
-use Rattle.rules.specs.declared.Across.TheVariants.{Found, Nothing}
+use Rattle.rules.specs.Across.{Found, Nothing}
 use Rattle.rules.specs.Across.{across}
 
 -- how many of n triangles about v are left after turning back, from triangle to triangle, from the edge x→v

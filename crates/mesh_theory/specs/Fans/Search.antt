@@ -1,8 +1,8 @@
 -- C-12: what the search for the triangle with a directed edge tells, in 02's words. 5 is not asked: an edge may occur more than once.
 -- Assumes nothing.
 use Rattle.std.specs.Prelude.{ℕ, ◌+◌, ◌*◌, ◌≤◌, List, ◌↔◌, ◌≡◌, length}
-use Rattle.rules.specs.declared.Across.{Across}
-use Rattle.rules.specs.declared.Across.TheVariants.{Found, Nothing}
+use Rattle.rules.specs.Across.{Across}
+use Rattle.rules.specs.Across.{Found, Nothing}
 use Rattle.rules.specs.Triangle.{Rot}
 use Rattle.mesh_theory.specs.Fans.Corner.{third}
 use Rattle.mesh_theory.specs.Chains.Corner.{triangle_at}

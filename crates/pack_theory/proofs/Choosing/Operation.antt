@@ -6,6 +6,7 @@ use mathlib.Core.Bool.{Bool, true, false, ◌&&◌}
 use mathlib.Core.List.{List, [], ◌∷◌}
 use mathlib.Core.Path.{◌≡◌, refl, sym, ap, ap₂, ◌∙◌, subst}
 use lib.ListN.{length}
+use Rattle.std.specs.Prelude.{◌/◌, Some, None}
 use lib.Dec.{eqb}
 use borrow.Author.Tests.{ne_eqb}
 use Rattle.rules.specs.declared.Triangle.{Triangle}
@@ -21,9 +22,8 @@ use Rattle.cutborder.specs.declared.Loops.{Loops}
 use Rattle.border_theory.specs.Memory.Layout.{before_of, after_of}
 use Rattle.border_theory.specs.Memory.Decision.{is_open_at}
 use Rattle.border_theory.specs.Memory.Stands.{rings_in, loops_in}
-use Rattle.cutborder.specs.declared.Seat.{Seat}
-use Rattle.cutborder.specs.declared.Seat.TheVariants.{Nowhere, At}
-use Rattle.cutborder.specs.declared.Turned.{Turned}
+use Rattle.pack_theory.specs.Choosing.Seat.{Seat}
+use Rattle.pack_theory.specs.Choosing.Seat.{Nowhere, At}
 use Rattle.pack_theory.specs.Choosing.Choosable.{unbuilt_of, Choosable}
 use Rattle.pack_theory.specs.Choosing.Seeking.{seat_in, seat_of, operation_by, Seekable}
 use Rattle.pack_theory.specs.Choosing.Turning.{EndsIn, EndsOut}
@@ -108,36 +108,38 @@ module _ (xs cs flags m : List ℕ) (l : Loops) (a b c : ℕ) (h : Choosable xs 
   seek_asks = seekable l m (rings_in max_places l m) h.stands h.live h.two
 
   -- the place where the edge into c starts
-  enter_last : (r : Turned) → EndsIn xs flags c b r → r.last ≡ turn_in (length ts) c b ts
-  enter_last r e = in_turned xs cs flags h.linked a b c h.number h.corner h.found h.built r e
+  enter_last : turn_in (length xs / 3) c b ts ≡ turn_in (length ts) c b ts
+  enter_last = in_turned xs cs flags h.linked a b c h.number h.corner h.found h.built
 
-  pub enter_found : (r : Turned) (s : Seat) → EndsIn xs flags c b r → s ≡ seat_in l m r.last c → s ≡ enter_seat xs flags m l b c
+  pub enter_found : (y : ℕ) (s : Seat) → EndsIn xs flags c b (Some y) → s ≡ seat_in l m y c → s ≡ enter_seat xs flags m l b c
   unfolding enter_seat
-  enter_found r s e q = q ∙ (seat r.last c ∙ ap (λ (x : ℕ). seat_of ls (spot_of 0 x c ls)) (enter_last r e))
+  enter_found y s e q = q ∙ (seat y c ∙ ap (λ (x : ℕ). seat_of ls (spot_of 0 x c ls)) (e ∙ enter_last))
 
-  pub enter_none : (r : Turned) → EndsIn xs flags c b r → r.across ≡ false → Nowhere ≡ enter_seat xs flags m l b c
+  pub enter_none : EndsIn xs flags c b None → Nowhere ≡ enter_seat xs flags m l b c
   unfolding enter_seat
-  enter_none r e q =
-      ap (seat_of ls) (sym (spot_none r.last c ls (λ w i o. h.edges r.last c w i o (e.none q))))
-      ∙ ap (λ (x : ℕ). seat_of ls (spot_of 0 x c ls)) (enter_last r e)
+  enter_none e =
+      let y = turn_in (length xs / 3) c b ts in
+      ap (seat_of ls) (sym (spot_none y c ls (λ w i o. h.edges y c w i o e)))
+      ∙ ap (λ (x : ℕ). seat_of ls (spot_of 0 x c ls)) enter_last
 
   pub enter_within : (s : Seat) (w k i : ℕ) → s ≡ enter_seat xs flags m l b c → s ≡ At w k i → i < k
   unfolding enter_seat
   enter_within s w k i p e = subst Within e (subst Within (sym p) (within (turn_in (length ts) c b ts) c ls))
 
   -- the place where the edge from c starts
-  leave_last : (r : Turned) → EndsOut xs flags c a r → r.last ≡ turn_out (length ts) c a ts
-  leave_last r e = out_turned xs cs flags h.linked a b c h.number h.corner h.found h.built r e
+  leave_last : turn_out (length xs / 3) c a ts ≡ turn_out (length ts) c a ts
+  leave_last = out_turned xs cs flags h.linked a b c h.number h.corner h.found h.built
 
-  pub leave_found : (r : Turned) (s : Seat) → EndsOut xs flags c a r → s ≡ seat_in l m c r.last → s ≡ leave_seat xs flags m l a c
+  pub leave_found : (y : ℕ) (s : Seat) → EndsOut xs flags c a (Some y) → s ≡ seat_in l m c y → s ≡ leave_seat xs flags m l a c
   unfolding leave_seat
-  leave_found r s e q = q ∙ (seat c r.last ∙ ap (λ (x : ℕ). seat_of ls (spot_of 0 c x ls)) (leave_last r e))
+  leave_found y s e q = q ∙ (seat c y ∙ ap (λ (x : ℕ). seat_of ls (spot_of 0 c x ls)) (e ∙ leave_last))
 
-  pub leave_none : (r : Turned) → EndsOut xs flags c a r → r.across ≡ false → Nowhere ≡ leave_seat xs flags m l a c
+  pub leave_none : EndsOut xs flags c a None → Nowhere ≡ leave_seat xs flags m l a c
   unfolding leave_seat
-  leave_none r e q =
-      ap (seat_of ls) (sym (spot_none c r.last ls (λ w i o. h.edges c r.last w i o (e.none q))))
-      ∙ ap (λ (x : ℕ). seat_of ls (spot_of 0 c x ls)) (leave_last r e)
+  leave_none e =
+      let y = turn_out (length xs / 3) c a ts in
+      ap (seat_of ls) (sym (spot_none c y ls (λ w i o. h.edges c y w i o e)))
+      ∙ ap (λ (x : ℕ). seat_of ls (spot_of 0 c x ls)) leave_last
 
   -- the operation
   pub chosen : (s t : Seat) → s ≡ enter_seat xs flags m l b c → t ≡ leave_seat xs flags m l a c

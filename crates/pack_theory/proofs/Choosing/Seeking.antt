@@ -25,8 +25,8 @@ use Rattle.border_theory.specs.Memory.Stands.{Waits, StandsAt}
 use Rattle.border_theory.proofs.Memory.Columns.{column_at}
 use Rattle.border_theory.proofs.Memory.Standing.{Hop, Trail, Trails, trails, trail_at, walk_trail}
 use Rattle.border_theory.proofs.Memory.Waiting.{waits_at}
-use Rattle.cutborder.specs.declared.Seat.{Seat}
-use Rattle.cutborder.specs.declared.Seat.TheVariants.{Nowhere, At}
+use Rattle.pack_theory.specs.Choosing.Seat.{Seat}
+use Rattle.pack_theory.specs.Choosing.Seat.{Nowhere, At}
 use Rattle.pack_theory.specs.Choosing.Seeking.{starts_at, gone_by, seat_among, waiting_seat, walked_seat, seat_in, seat_of, Inside}
 use Rattle.pack_theory.specs.Choosing.Seeking.{Seekable}
 use Rattle.counting.proofs.Bools.{and_true}

@@ -2,15 +2,16 @@
 -- Assumes nothing.
 use Prim.Native.Nat.{ℕ, zero, suc, ◌-◌, ◌/◌, ◌≤◌, ◌<◌}
 use native.Mathlib.Omega.{arith}
-use mathlib.Core.Bool.{Bool, true, false, not, true≢false}
+use mathlib.Core.Bool.{Bool, true, false, not}
 use mathlib.Core.List.{List}
-use mathlib.Core.Path.{◌≡◌, sym, ap, ◌∙◌}
+use mathlib.Core.Path.{◌≡◌, sym, ap, ◌∙◌, subst}
+use Rattle.std.specs.Prelude.{Some, None}
 use lib.ListN.{length}
 use lib.Dec.{eqb}
 use borrow.Author.Tests.{eqb-true, eqb-false, not-true, not-false}
 use Rattle.rules.specs.declared.Triangle.{Triangle}
-use Rattle.rules.specs.declared.Across.{Across}
-use Rattle.rules.specs.declared.Across.TheVariants.{Found, Nothing}
+use Rattle.rules.specs.Across.{Across}
+use Rattle.rules.specs.Across.{Found, Nothing}
 use Rattle.rules.specs.Limits.{max_triangles}
 use Rattle.rules.specs.Triangle.{triangles_of, In}
 use Rattle.rules.specs.Across.{across}
@@ -24,15 +25,11 @@ use Rattle.choice_theory.specs.Spots.{Unused}
 use Rattle.mesh_theory.specs.Chains.Linked.{Finds, Linked}
 use Rattle.mesh_theory.proofs.Chains.Prefix.{triangles_length}
 use Rattle.mesh_theory.proofs.Chains.Finding.{linked_found}
-use Rattle.cutborder.specs.declared.Turned.{Turned}
 use Rattle.pack_theory.specs.Choosing.Choosable.{flag_of, unbuilt_of}
 use Rattle.pack_theory.specs.Choosing.Turning.{EndsIn, EndsOut}
 use Rattle.pack_theory.proofs.Choosing.Unbuilt.{Stand, stand_found, stand_next, stand_last, unbuilt_in, unbuilt_once, unbuilt_has}
 use Rattle.pack_theory.proofs.Choosing.Unbuilt.{unbuilt_gone, unbuilt_length}
 use Rattle.pack_theory.proofs.Choosing.Fuel.{in_ends, out_ends, in_goes, out_goes, in_enough, out_enough}
-
-abbrev turned : ℕ → Bool → Turned
-turned x b = record { last = x; across = b }
 
 pub once_of : (xs cs : List ℕ) → Linked xs cs → Once (triangles_of xs)
 once_of xs cs k = (once_tests (triangles_of xs)).1 (k.sound.distinct, k.once)
@@ -73,16 +70,16 @@ module _ (xs cs flags : List ℕ) (linked : Linked xs cs) where
   -- back from a triangle that has c→x: the turn is at x, with j steps left
   pub in_none : (c s x j : ℕ) (r : Across) → turn_in j c x ts ≡ turn_in (length xs / 3) c s ts → (x ≡ c → ⊥) → Finds xs cs x c r
       → r ≡ Nothing
-      → EndsIn xs flags c s (turned x false)
+      → EndsIn xs flags c s None
   in_none c s x j r i d f e =
       let q : Unused x c M = none_of x c (sym (linked_found xs cs linked x c r f d) ∙ e) in
-      record { last = sym (in_ends j c x ts (λ z k. q z (unbuilt_in flags 0 M k))) ∙ i; none = λ h. q }
+      subst (λ (w : ℕ). Unused w c M) (sym (in_ends j c x ts (λ z k. q z (unbuilt_in flags 0 M k))) ∙ i) q
 
   pub in_built : (c s x j : ℕ) (r : Across) (n k z : ℕ) (b : Bool) → turn_in j c x ts ≡ turn_in (length xs / 3) c s ts → (x ≡ c → ⊥)
-      → Finds xs cs x c r → r ≡ Found n k z → b ≡ not (eqb (flag_of flags n) 0) → b ≡ true → EndsIn xs flags c s (turned x true)
+      → Finds xs cs x c r → r ≡ Found n k z → b ≡ not (eqb (flag_of flags n) 0) → b ≡ true → EndsIn xs flags c s (Some x)
   in_built c s x j r n k z b i d f e g h =
       let q = sym (linked_found xs cs linked x c r f d) ∙ e in
-      record { last = sym (in_ends j c x ts (gone x c n k z q (not-true _ (sym g ∙ h)))) ∙ i; none = λ t. absurd (true≢false t) }
+      sym (in_ends j c x ts (gone x c n k z q (not-true _ (sym g ∙ h)))) ∙ i
 
   pub in_more : (c s x j : ℕ) (r : Across) (n k z : ℕ) (b : Bool) → turn_in j c x ts ≡ turn_in (length xs / 3) c s ts → (x ≡ c → ⊥)
       → 0 < j → Finds xs cs x c r → r ≡ Found n k z → b ≡ not (eqb (flag_of flags n) 0) → b ≡ false
@@ -96,24 +93,24 @@ module _ (xs cs flags : List ℕ) (linked : Linked xs cs) where
         λ w. (different x c n k z q).y_z (sym w),
       )
 
-  pub in_done : (c s x j : ℕ) → turn_in j c x ts ≡ turn_in (length xs / 3) c s ts → j ≤ 0 → EndsIn xs flags c s (turned x true)
+  pub in_done : (c s x j : ℕ) → turn_in j c x ts ≡ turn_in (length xs / 3) c s ts → j ≤ 0 → EndsIn xs flags c s (Some x)
   unfolding turn_in
-  in_done c s x zero i l = record { last = i; none = λ t. absurd (true≢false t) }
+  in_done c s x zero i l = i
   in_done c s x (suc j) i l = absurd (omega arith)
 
   -- on from a triangle that has x→c
   pub out_none : (c s x j : ℕ) (r : Across) → turn_out j c x ts ≡ turn_out (length xs / 3) c s ts → (x ≡ c → ⊥) → Finds xs cs c x r
       → r ≡ Nothing
-      → EndsOut xs flags c s (turned x false)
+      → EndsOut xs flags c s None
   out_none c s x j r i d f e =
       let q : Unused c x M = none_of c x (sym (linked_found xs cs linked c x r f (λ p. d (sym p))) ∙ e) in
-      record { last = sym (out_ends j c x ts (λ z k. q z (unbuilt_in flags 0 M k))) ∙ i; none = λ h. q }
+      subst (λ (w : ℕ). Unused c w M) (sym (out_ends j c x ts (λ z k. q z (unbuilt_in flags 0 M k))) ∙ i) q
 
   pub out_built : (c s x j : ℕ) (r : Across) (n k z : ℕ) (b : Bool) → turn_out j c x ts ≡ turn_out (length xs / 3) c s ts → (x ≡ c → ⊥)
-      → Finds xs cs c x r → r ≡ Found n k z → b ≡ not (eqb (flag_of flags n) 0) → b ≡ true → EndsOut xs flags c s (turned x true)
+      → Finds xs cs c x r → r ≡ Found n k z → b ≡ not (eqb (flag_of flags n) 0) → b ≡ true → EndsOut xs flags c s (Some x)
   out_built c s x j r n k z b i d f e g h =
       let q = sym (linked_found xs cs linked c x r f (λ p. d (sym p))) ∙ e in
-      record { last = sym (out_ends j c x ts (gone c x n k z q (not-true _ (sym g ∙ h)))) ∙ i; none = λ t. absurd (true≢false t) }
+      sym (out_ends j c x ts (gone c x n k z q (not-true _ (sym g ∙ h)))) ∙ i
 
   pub out_more : (c s x j : ℕ) (r : Across) (n k z : ℕ) (b : Bool) → turn_out j c x ts ≡ turn_out (length xs / 3) c s ts → (x ≡ c → ⊥)
       → 0 < j → Finds xs cs c x r → r ≡ Found n k z → b ≡ not (eqb (flag_of flags n) 0) → b ≡ false
@@ -127,9 +124,9 @@ module _ (xs cs flags : List ℕ) (linked : Linked xs cs) where
         (different c x n k z q).z_x,
       )
 
-  pub out_done : (c s x j : ℕ) → turn_out j c x ts ≡ turn_out (length xs / 3) c s ts → j ≤ 0 → EndsOut xs flags c s (turned x true)
+  pub out_done : (c s x j : ℕ) → turn_out j c x ts ≡ turn_out (length xs / 3) c s ts → j ≤ 0 → EndsOut xs flags c s (Some x)
   unfolding turn_out
-  out_done c s x zero i l = record { last = i; none = λ t. absurd (true≢false t) }
+  out_done c s x zero i l = i
   out_done c s x (suc j) i l = absurd (omega arith)
 
   -- the triangle b a c is found and built: where the two turns of the choice end
@@ -140,14 +137,14 @@ module _ (xs cs flags : List ℕ) (linked : Linked xs cs) where
     few : length ts ≤ length xs / 3
     few = omega (arith, unbuilt_length flags 0 M, triangles_length xs)
 
-    pub in_turned : (r : Turned) → EndsIn xs flags c b r → r.last ≡ turn_in (length ts) c b ts
-    in_turned r h =
-        h.last ∙ in_enough (length xs / 3) c b ts few (unbuilt_once flags 0 M once)
+    pub in_turned : turn_in (length xs / 3) c b ts ≡ turn_in (length ts) c b ts
+    in_turned =
+        in_enough (length xs / 3) c b ts few (unbuilt_once flags 0 M once)
         (unbuilt_gone flags 0 n M once (stand_last stand) (λ q. flag (ap (flag_of flags) (omega arith) ∙ q)))
 
-    pub out_turned : (r : Turned) → EndsOut xs flags c a r → r.last ≡ turn_out (length ts) c a ts
-    out_turned r h =
-        h.last ∙ out_enough (length xs / 3) c a ts few (unbuilt_once flags 0 M once)
+    pub out_turned : turn_out (length xs / 3) c a ts ≡ turn_out (length ts) c a ts
+    out_turned =
+        out_enough (length xs / 3) c a ts few (unbuilt_once flags 0 M once)
         (unbuilt_gone flags 0 n M once (stand_next stand) (λ q. flag (ap (flag_of flags) (omega arith) ∙ q)))
 
     pub differ : (a ≡ c → ⊥) × (b ≡ c → ⊥)

@@ -9,7 +9,7 @@ use lib.ListN.{length}
 use lib.Dec.{eqb}
 use borrow.Author.Tests.{eqb-true, eq-eqb}
 use Rattle.rules.specs.declared.Triangle.{Triangle}
-use Rattle.rules.specs.declared.Across.TheVariants.{Found}
+use Rattle.rules.specs.Across.{Found}
 use Rattle.rules.specs.Across.{across}
 use Rattle.rules.specs.Triangle.{Rot, In, here, there}
 use Rattle.mesh_theory.specs.Fans.Corner.{Once}

@@ -11,8 +11,8 @@ use lib.Seq.{get_or-set_same}
 use lib.Dec.{leb}
 use borrow.Author.Tests.{leb-true}
 use Rattle.rules.specs.declared.Triangle.{Triangle}
-use Rattle.rules.specs.declared.Across.{Across}
-use Rattle.rules.specs.declared.Across.TheVariants.{Found, Nothing}
+use Rattle.rules.specs.Across.{Across}
+use Rattle.rules.specs.Across.{Found, Nothing}
 use Rattle.rules.specs.Limits.{max_places, max_triangles, min_vertices, max_vertices}
 use Rattle.rules.specs.Triangle.{triangles_of, In}
 use Rattle.rules.specs.Across.{across}
@@ -168,8 +168,8 @@ module _ (v : ℕ) (xs : List ℕ) (s : Packing) (t : Course) (fs ns rest m : Li
     pub chooses : Chooses xs cs fs ns m t.front.loops
     chooses = record {
       linked = linked;
-      near_e = omega (arith, read.near_e, h.standing.whole);
-      near_f = omega (arith, read.near_f, h.standing.whole);
+      near_e = omega (arith, read.near_e);
+      near_f = omega (arith, read.near_f);
       apart = λ q. differ (sym read.end ∙ q ∙ read.start);
       found = near_found;
     }

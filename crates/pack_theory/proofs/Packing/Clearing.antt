@@ -11,10 +11,10 @@ use lib.Dec.{leb}
 use borrow.Author.Tests.{leb-true, le-leb, lt-leb}
 use Rattle.rules.specs.declared.Place.{Place}
 use Rattle.rules.specs.declared.Triangle.{Triangle}
-use Rattle.rules.specs.declared.Packed.{Packed}
-use Rattle.rules.specs.declared.Packed.TheVariants as P
-use Rattle.rules.specs.declared.Checked.{Checked}
-use Rattle.rules.specs.declared.Checked.TheVariants.{Accepted, Refused}
+use Rattle.rules.specs.Packed.{Packed}
+use Rattle.rules.specs.Packed as P
+use Rattle.rules.specs.Checked.{Checked}
+use Rattle.rules.specs.Checked.{Accepted, Refused}
 use Rattle.rules.specs.Limits.{max_places, between}
 use Rattle.rules.specs.Triangle.{triangles_of}
 use Rattle.rules.specs.Check.{passes, check_triangles, check}
@@ -147,17 +147,3 @@ packed_clears v xs ns bs os ps r e =
     alone : (b : Bool) → b && true ≡ b
     alone true = refl
     alone false = refl
-
--- a refusal's number tells it
-pub cleared_early : (r : Packed) (k : ℕ) → r ≡ P.Refused k → k ≤ 8 → 0 ≡ cleared_by r
-cleared_early r k e h = sym (ap cleared_by e ∙ ap (λ (b : Bool). elim b [ true ↦ max_places | false ↦ 0 ]) (early_none k h))
-
-pub cleared_above : (r : Packed) (k : ℕ) → r ≡ P.Refused k → 11 < k → 0 ≡ cleared_by r
-cleared_above r k e h =
-    sym (ap cleared_by e ∙ ap (λ (b : Bool). elim b [ true ↦ max_places | false ↦ 0 ])
-    (ap₂ ◌&&◌ (le-leb 9 k (omega (arith, h))) (lt-leb k 11 h)))
-
-pub cleared_between : (r : Packed) (k : ℕ) → r ≡ P.Refused k → 8 < k → k ≤ 11 → max_places ≡ cleared_by r
-cleared_between r k e l h =
-    sym (ap cleared_by e ∙ ap (λ (b : Bool). elim b [ true ↦ max_places | false ↦ 0 ])
-    (ap₂ ◌&&◌ (le-leb 9 k (omega (arith, l))) (le-leb k 11 h)))

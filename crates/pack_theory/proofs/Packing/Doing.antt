@@ -23,8 +23,11 @@ use Rattle.book.specs.Consistent.{Ranges}
 use Rattle.choice_theory.proofs.Steps.Operating.{within_of}
 use Rattle.cutborder.specs.declared.Front.{Front}
 use Rattle.cutborder.specs.declared.Plan.{Plan}
-use Rattle.cutborder.specs.declared.Decided.{Decided}
-use Rattle.cutborder.specs.declared.Decided.TheVariants as D
+use Rattle.border_theory.specs.Memory.Decision.{Decided}
+use Rattle.std.specs.Prelude.{Ok, Err}
+use Rattle.rules.specs.declared.refusal.Refusal.{Refusal}
+use Rattle.rules.specs.Refusal.{number_of}
+use Rattle.cutborder.specs.declared.Action.TheVariants.{Builds, Marks}
 use Rattle.border_theory.specs.Memory.Stands.{rings_in}
 use Rattle.border_theory.specs.Memory.Layout.{vertices_of}
 use Rattle.border_theory.specs.Memory.Decision.{border_plan, proposed_by, proposed, decided_by, decided, built_front, marked_front}
@@ -33,8 +36,8 @@ use Rattle.border_theory.proofs.Memory.Room.{room}
 use Rattle.border_theory.proofs.Memory.Counts.{places_named}
 use Rattle.border_theory.proofs.Memory.Deciding.{decides}
 use Rattle.border_theory.proofs.Memory.Ready.{ready}
-use Rattle.cutborder.specs.declared.Done.{Done}
-use Rattle.cutborder.specs.declared.Done.TheVariants.{Going, Refused}
+use Rattle.pack_theory.specs.Packing.Done.{Done}
+use Rattle.pack_theory.specs.Packing.Done.{Going, Refused}
 use Rattle.pack_theory.specs.Packing.Doing.{readied, refusal_at, done_by, memory_by, done_of, memory_of, Standing}
 use Rattle.counting.proofs.Bools.{and_both, and_true, not_eqb}
 use Rattle.counting.proofs.Counts.{no_from, no_to}
@@ -259,8 +262,8 @@ module _ (v k : ℕ) (f : Front) (m : List ℕ) (ls : List Ring) (a b : ℕ) (st
       built_by_lem : (d : Decided) → decided max_places (readied f c) m o ≡ d
           → Outcome v k f ls' a b 1 (done_by (readied f c) m o d) (memory_by (readied f c) m o d)
       unfolding after machine built_front
-      built_by_lem (D.Refused j) q =
-          let w : within after ≡ false = test_refused (within after) j t after (sym does ∙ decide_as (D.Refused j) q) in (
+      built_by_lem (Err j) q =
+          let w : within after ≡ false = test_refused (within after) (number_of j) t after (sym does ∙ decide_as (Err j) q) in (
             refl,
             λ p l.
                 false≢true
@@ -270,8 +273,8 @@ module _ (v k : ℕ) (f : Front) (m : List ℕ) (ls : List Ring) (a b : ℕ) (st
                 (omega (arith, p, ap (λ (r : Counts). r.places) st.stated))
                 (omega (arith, l, ap (λ (r : Counts). r.loops) st.stated))),
           )
-      built_by_lem (D.Builds p) q =
-          let g : BuildsIt max_places (readied f c) m machine o p = decide_as (D.Builds p) q in
+      built_by_lem (Ok (Builds p)) q =
+          let g : BuildsIt max_places (readied f c) m machine o p = decide_as (Ok (Builds p)) q in
           let r = test_17 (within after) _ t p.triangle after g.next (sym does ∙ g.step) in
           let w = within_parts after r.0 in (
             stood _ _ ls' g.next g.keeps (ap (λ (w : Machine). w.loops) (sym r.1))
@@ -280,8 +283,8 @@ module _ (v k : ℕ) (f : Front) (m : List ℕ) (ls : List Ring) (a b : ℕ) (st
                 (omega (arith, w.1, ap (λ (r : Counts). r.loops) st.stated)),
             refl,
           )
-      built_by_lem (D.Marks x' y') q =
-          let g : MarksIt max_places (readied f c) m machine o x' y' = decide_as (D.Marks x' y') q in
+      built_by_lem (Ok (Marks x' y')) q =
+          let g : MarksIt max_places (readied f c) m machine o x' y' = decide_as (Ok (Marks x' y')) q in
           absurd (test_declared (within after) t after (edge x' y') g.next (sym does ∙ g.step))
 
       pub built_outcome : Outcome v k f ls' a b 1 (done_of (readied f c) m o) (memory_of (readied f c) m o)
@@ -289,7 +292,7 @@ module _ (v k : ℕ) (f : Front) (m : List ℕ) (ls : List Ring) (a b : ℕ) (st
       built_outcome = built_by_lem (decided max_places (readied f c) m o) refl
 
   -- border, at a live loop
-  border_decided : (f.loops.live ≡ 0 → ⊥) → (x : ℕ) × (y : ℕ) × (decided max_places (readied f 0) m Border ≡ D.Marks x y)
+  border_decided : (f.loops.live ≡ 0 → ⊥) → (x : ℕ) × (y : ℕ) × (decided max_places (readied f 0) m Border ≡ Ok (Marks x y))
   unfolding decided proposed border_plan
   border_decided live = (
     _,
@@ -298,10 +301,10 @@ module _ (v k : ℕ) (f : Front) (m : List ℕ) (ls : List Ring) (a b : ℕ) (st
         (ne_eqb f.loops.live 0 live),
   )
 
-  no_refused_marks : (j x y : ℕ) → D.Refused j ≡ D.Marks x y → ⊥
+  no_refused_marks : (j : Refusal) (x y : ℕ) → ◌≡◌ {A = Decided} (Err j) (Ok (Marks x y)) → ⊥
   no_refused_marks j x y e = let q : ◌≡◌ {A = ℕ} 0 1 = cc in omega arith
 
-  no_builds_marks : (p : Plan) (x y : ℕ) → D.Builds p ≡ D.Marks x y → ⊥
+  no_builds_marks : (p : Plan) (x y : ℕ) → ◌≡◌ {A = Decided} (Ok (Builds p)) (Ok (Marks x y)) → ⊥
   no_builds_marks p x y e = let q : ◌≡◌ {A = ℕ} 0 1 = cc in omega arith
 
   module _ (live : f.loops.live ≡ 0 → ⊥) (ls' : List Ring) (d : Edge) (rim : ℕ)
@@ -317,9 +320,9 @@ module _ (v k : ℕ) (f : Front) (m : List ℕ) (ls : List Ring) (a b : ℕ) (st
     marked_by : (r : Decided) → decided max_places (readied f 0) m Border ≡ r
         → Outcome v k f ls' a b 0 (done_by (readied f 0) m Border r) (memory_by (readied f 0) m Border r)
     unfolding marked_after machine marked_front
-    marked_by (D.Refused j) q = let g = border_decided live in absurd (no_refused_marks j g.0 g.1 (sym q ∙ g.2))
-    marked_by (D.Builds p) q = let g = border_decided live in absurd (no_builds_marks p g.0 g.1 (sym q ∙ g.2))
-    marked_by (D.Marks x y) q =
+    marked_by (Err j) q = let g = border_decided live in absurd (no_refused_marks j g.0 g.1 (sym q ∙ g.2))
+    marked_by (Ok (Builds p)) q = let g = border_decided live in absurd (no_builds_marks p g.0 g.1 (sym q ∙ g.2))
+    marked_by (Ok (Marks x y)) q =
         let g : MarksIt max_places (readied f 0) m (machine 0) Border x y =
         subst (Decides max_places (readied f 0) m (machine 0) Border) q
         (decides max_places (readied f 0) m (machine 0) (keeps 0) Border (ranges 0 (omega arith))) in

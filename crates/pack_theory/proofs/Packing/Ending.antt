@@ -10,9 +10,9 @@ use lib.Seq.{drop-append_seam}
 use lib.Dec.{leb}
 use borrow.Author.Tests.{leb-true}
 use Rattle.rules.specs.declared.Counts.{Counts}
-use Rattle.rules.specs.declared.Packed.{Packed}
-use Rattle.rules.specs.declared.Checked.TheVariants as C
-use Rattle.rules.specs.declared.Packed.TheVariants as P
+use Rattle.rules.specs.Packed.{Packed}
+use Rattle.rules.specs.Checked as C
+use Rattle.rules.specs.Packed as P
 use Rattle.rules.specs.declared.Operation.{Operation}
 use Rattle.rules.specs.Limits.{max_places, max_triangles}
 use Rattle.rules.specs.Triangle.{triangles_of}
@@ -33,8 +33,8 @@ use Rattle.border_theory.specs.Memory.Keeps.{Roomy}
 use Rattle.border_theory.proofs.Memory.Fresh.{free_length, fresh_keeps}
 use Rattle.pack_theory.specs.Choosing.Choosable.{flag_of}
 use Rattle.cutborder.specs.declared.Course.{Course}
-use Rattle.cutborder.specs.declared.Ran.{Ran}
-use Rattle.cutborder.specs.declared.Ran.TheVariants.{Refused, Ended}
+use Rattle.pack_theory.specs.Packing.Ran.{Ran}
+use Rattle.pack_theory.specs.Packing.Ran.{Refused, Ended}
 use Rattle.pack_theory.specs.Packing.Numbers.{entries}
 use Rattle.pack_theory.specs.Packing.Doing.{stated_for, Standing}
 use Rattle.pack_theory.specs.Packing.Course.{Holds, Held}

@@ -11,8 +11,8 @@ use lib.Seq.{get_or-set_same, get_or-set_other, length-take-le, drop-cons}
 use lib.Dec.{eqb}
 use borrow.Author.Tests.{eqb-true, eqb-false, eq-eqb, ne_eqb}
 use Rattle.rules.specs.declared.Triangle.{Triangle}
-use Rattle.rules.specs.declared.Across.{Across}
-use Rattle.rules.specs.declared.Across.TheVariants.{Found, Nothing}
+use Rattle.rules.specs.Across.{Across}
+use Rattle.rules.specs.Across.{Found, Nothing}
 use Rattle.rules.specs.Across.{in_triangle, across}
 use Rattle.rules.specs.Triangle.{tri, triangles_of, at_p, In, Free}
 use Rattle.rules.specs.Choice.{drop_triangle}

@@ -8,8 +8,8 @@ use lib.ListN.{length, replicate}
 use lib.Dec.{leb}
 use Rattle.rules.specs.declared.Triangle.{Triangle}
 use Rattle.rules.specs.declared.Place.{Place}
-use Rattle.rules.specs.declared.Checked.{Checked}
-use Rattle.rules.specs.declared.Checked.TheVariants.{Accepted, Refused}
+use Rattle.rules.specs.Checked.{Checked}
+use Rattle.rules.specs.Checked.{Accepted, Refused}
 use Rattle.rules.specs.Limits.{max_places}
 use Rattle.rules.specs.Triangle.{triangles_of}
 use Rattle.rules.specs.Check.{check}

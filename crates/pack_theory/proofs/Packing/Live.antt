@@ -11,8 +11,8 @@ use lib.Seq.{get_or-set_same, get_or-set_other}
 use lib.Dec.{eqb}
 use borrow.Author.Tests.{eqb-true, eqb-false, eq-eqb, ne_eqb}
 use Rattle.rules.specs.declared.Triangle.{Triangle}
-use Rattle.rules.specs.declared.Across.{Across}
-use Rattle.rules.specs.declared.Across.TheVariants.{Found, Nothing}
+use Rattle.rules.specs.Across.{Across}
+use Rattle.rules.specs.Across.{Found, Nothing}
 use Rattle.rules.specs.declared.Operation.{Operation}
 use Rattle.rules.specs.declared.Operation.TheVariants.{New, Border}
 use Rattle.rules.specs.Limits.{max_places, max_triangles}
@@ -47,8 +47,8 @@ use Rattle.border_theory.specs.Memory.Stands.{rings_in, loops_in}
 use Rattle.pack_theory.specs.Choosing.Choosable.{flag_of, unbuilt, unbuilt_of}
 use Rattle.cutborder.specs.declared.Course.{Course}
 use Rattle.cutborder.specs.declared.Move.{Move}
-use Rattle.cutborder.specs.declared.Done.{Done}
-use Rattle.cutborder.specs.declared.Done.TheVariants.{Going, Refused}
+use Rattle.pack_theory.specs.Packing.Done.{Done}
+use Rattle.pack_theory.specs.Packing.Done.{Going, Refused}
 use Rattle.pack_theory.specs.Packing.Numbers.{unnumbered, entries}
 use Rattle.pack_theory.specs.Packing.Doing.{readied, done_of, memory_of}
 use Rattle.pack_theory.specs.Packing.Course.{Holds, start_of, end_of, is_numbered, placed_by, flags_by, move_by, move_of, flags_of}

@@ -13,13 +13,13 @@ use Rattle.rules.specs.Buffer.{over}
 use Rattle.rules.specs.Choice.{Packing, ended, takes, choose}
 use Rattle.rules.specs.Order.{next_number, order_by}
 use Rattle.cutborder.specs.declared.Course.{Course}
-use Rattle.cutborder.specs.declared.Taken.{Taken}
-use Rattle.cutborder.specs.declared.Taken.TheVariants as T
-use Rattle.cutborder.specs.declared.Ran.{Ran}
-use Rattle.cutborder.specs.declared.Ran.TheVariants as R
+use Rattle.pack_theory.specs.Packing.Taken.{Taken}
+use Rattle.pack_theory.specs.Packing.Taken as T
+use Rattle.pack_theory.specs.Packing.Ran.{Ran}
+use Rattle.pack_theory.specs.Packing.Ran as R
 use Rattle.border_theory.specs.Memory.Finish.{is_complete}
 use Rattle.pack_theory.specs.Packing.Course.{Holds}
-use Rattle.pack_theory.specs.Packing.Order.{OrderLong, NotedFrom, Notes, NotesOf, Lists, ListsOf}
+use Rattle.pack_theory.specs.Packing.Order.{OrderLong, NotedFrom, Notes, NotesOf, ListsOf}
 use Rattle.pack_theory.specs.Packing.Steps.{StepsTo, Steps, StepOf}
 use Rattle.pack_theory.proofs.Packing.Running.{done_ended}
 
@@ -122,11 +122,11 @@ module _ (xs : List ℕ) (budget : ℕ) (t₀ : Course) (fs₀ ns₀ m₀ os₀ 
         ∙ sets_past (length (triangles_of xs)) os₀ t₀.front.built c.so_far (omega (arith, c.noted.count, c.holds.count))
 
     module _ (r : Taken) (fs' ns' m' os' : List ℕ) (step : StepOf xs t fs ns m r fs' ns' m') (notes : NotesOf xs t fs ns m r os os') where
-      pub order_stopped : (k : ℕ) → r ≡ T.Refused k → (e : Ran) → e ≡ R.Refused k → ListsOf xs budget t₀ fs₀ ns₀ m₀ e os₀ os'
-      order_stopped k q e i v s rest g =
+      pub order_stopped : (k : ℕ) → r ≡ T.Refused k → ListsOf xs budget t₀ fs₀ ns₀ m₀ (R.Refused k) os₀ os'
+      order_stopped k q v s rest g =
           let c = l.listed v s rest g in
           let w = subst (λ (x : Taken). Notes (length (triangles_of xs)) c.packing t x os os') q (notes v c.packing rest c.holds) in
-          subst (λ (x : Ran). Lists (length (triangles_of xs)) budget s t₀ x os₀ os') (sym i) (w ∙ still v s rest g)
+          w ∙ still v s rest g
 
       module _ (o : Operation) (t' : Course) (q : r ≡ T.Going o t') (z : 0 < left) where
         listed_on : (v : ℕ) (s : Packing) (rest : List ℕ) → Holds v xs s t₀ fs₀ ns₀ rest m₀

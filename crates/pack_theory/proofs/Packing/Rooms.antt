@@ -3,15 +3,16 @@
 use Prim.Native.Nat.{ℕ, ◌/◌, ◌≤◌, ◌<◌}
 use native.Mathlib.Omega.{arith}
 use mathlib.Core.Bool.{Bool, true, false, ◌&&◌}
+use mathlib.Core.Logic.{◌⊎◌, inl, inr}
 use mathlib.Core.List.{List}
 use mathlib.Core.Path.{◌≡◌, refl, sym, ap, ap₂, ◌∙◌, subst}
 use lib.ListN.{length, length-replicate}
 use lib.Dec.{leb}
 use borrow.Author.Tests.{leb-true, le-leb, lt-leb}
-use Rattle.rules.specs.declared.Packed.{Packed}
-use Rattle.rules.specs.declared.Checked.{Checked}
-use Rattle.rules.specs.declared.Checked.TheVariants as C
-use Rattle.rules.specs.declared.Packed.TheVariants as P
+use Rattle.rules.specs.Packed.{Packed}
+use Rattle.rules.specs.Checked.{Checked}
+use Rattle.rules.specs.Checked as C
+use Rattle.rules.specs.Packed as P
 use Rattle.rules.specs.Limits.{max_places}
 use Rattle.rules.specs.Triangle.{triangles_of}
 use Rattle.rules.specs.Check.{passes, check}
@@ -48,15 +49,13 @@ module _ (v : ℕ) (xs : List ℕ) (a b n : ℕ) where
       thirds : length xs / 3 ≡ length (triangles_of xs)
       thirds = omega (arith, (accepted_count v xs (sym accepted)).0)
 
-      pub rooms_few : a < v → C.Refused 8 ≡ rooms_checked v xs a b n
+      pub rooms_short : (a < v) ⊎ (v ≤ a) × (n < 1024) → C.Refused 8 ≡ rooms_checked v xs a b n
       unfolding passes
-      rooms_few l = by_tests C.Accepted false _ accepted (ap (λ (s : Bool). s && leb max_places n) (lt-leb v a l)) refl
+      rooms_short (inl l) = by_tests C.Accepted false _ accepted (ap (λ (s : Bool). s && leb max_places n) (lt-leb v a l)) refl
+      rooms_short (inr (enough, l)) =
+          by_tests C.Accepted false _ accepted (ap₂ ◌&&◌ (le-leb v a enough) (lt-leb max_places n l)) refl
 
       module _ (enough : v ≤ a) where
-        pub rooms_places : n < 1024 → C.Refused 8 ≡ rooms_checked v xs a b n
-        unfolding passes
-        rooms_places l = by_tests C.Accepted false _ accepted (ap₂ ◌&&◌ (le-leb v a enough) (lt-leb max_places n l)) refl
-
         module _ (many : 1024 ≤ n) where
           both : leb v a && leb max_places n ≡ true
           both = ap₂ ◌&&◌ (le-leb v a enough) (le-leb max_places n many)
@@ -123,11 +122,10 @@ module _ (v : ℕ) (xs ns bs os : List ℕ) (n : ℕ) (c : Checked) (e : c ≡ r
   goes d q = pack_by_rooms v xs ns bs os n ∙ ap (λ (x : Checked). past (lent n ns bs os) x (ran_on v xs n ns bs os)) (sym e ∙ q)
 
   -- 1 to 8 and 22
-  pub packed_refused : (k : ℕ) → c ≡ C.Refused k → (p : Packed) → p ≡ P.Refused k → PackedOn v xs ns bs os n p ns bs os
-  packed_refused k q p ep =
-      subst (λ (x : Packed). PackedOn v xs ns bs os n x ns bs os) (sym ep)
-      (subst (λ (x : PackResult). IsResult x (P.Refused k) ns bs os) (sym (goes (C.Refused k) q))
-      (record { answer = refl; numbering = refl; bytes = refl; order = refl }))
+  pub packed_refused : (k : ℕ) → c ≡ C.Refused k → PackedOn v xs ns bs os n (P.Refused k) ns bs os
+  packed_refused k q =
+      subst (λ (x : PackResult). IsResult x (P.Refused k) ns bs os) (sym (goes (C.Refused k) q))
+      (record { answer = refl; numbering = refl; bytes = refl; order = refl })
 
   module _ (q : c ≡ C.Accepted) where
     passed : Passed v xs (length ns) (length os) n
@@ -146,10 +144,3 @@ module _ (v : ℕ) (xs ns bs os : List ℕ) (n : ℕ) (c : Checked) (e : c ≡ r
 
     pub packed_ran : (p : Packed) (ns' bs' os' : List ℕ) → RunGives v xs ns bs os p ns' bs' os' → PackedOn v xs ns bs os n p ns' bs' os'
     packed_ran p ns' bs' os' g = subst (λ (x : PackResult). IsResult x p ns' bs' os') (sym (goes C.Accepted q)) (g n)
-
--- a refusal is passed up
-pub checked_same : (c : Checked) (j k : ℕ) → c ≡ C.Refused j → c ≡ C.Refused k → P.Refused j ≡ P.Refused k
-checked_same c j k p q = cc
-
-pub checked_other : (c : Checked) (r : Packed) (k : ℕ) → c ≡ C.Accepted → c ≡ C.Refused k → r ≡ P.Refused k
-checked_other c r k p q = let z : ◌≡◌ {A = ℕ} 0 1 = cc in absurd (omega arith)

@@ -19,13 +19,13 @@ use Rattle.wire_theory.proofs.Operations.{width_most}
 use Rattle.choice_theory.proofs.Runs.Whole.{all_ended, all_taken_lem, choose_ended}
 use Rattle.border_theory.specs.Memory.Stands.{rings_in}
 use Rattle.cutborder.specs.declared.Course.{Course}
-use Rattle.cutborder.specs.declared.Taken.{Taken}
-use Rattle.cutborder.specs.declared.Taken.TheVariants as T
-use Rattle.cutborder.specs.declared.Ran.{Ran}
-use Rattle.cutborder.specs.declared.Ran.TheVariants as R
+use Rattle.pack_theory.specs.Packing.Taken.{Taken}
+use Rattle.pack_theory.specs.Packing.Taken as T
+use Rattle.pack_theory.specs.Packing.Ran.{Ran}
+use Rattle.pack_theory.specs.Packing.Ran as R
 use Rattle.pack_theory.specs.Packing.Course.{Holds, Held}
 use Rattle.pack_theory.specs.Packing.Writing.{header_bits, Writes}
-use Rattle.pack_theory.specs.Packing.Steps.{StepsTo, Steps, StepOf, EndsAt, Ends, RunOf}
+use Rattle.pack_theory.specs.Packing.Steps.{StepsTo, Steps, StepOf, EndsAt, RunOf}
 use Rattle.border_theory.specs.Memory.Finish.{is_complete}
 use Rattle.border_theory.proofs.Memory.Finish.{complete_parts}
 use Rattle.pack_theory.proofs.Packing.Reading.{live_none}
@@ -54,9 +54,6 @@ pub record Loop (xs cs : List ℕ) (budget : ℕ) (t₀ : Course) (fs₀ ns₀ b
   pub held : Held xs cs t fs ns m
   pub few : left ≤ budget
   pub near : at + 20 * left ≤ header_bits + 20 * budget
-  pub numbers_long : length ns ≡ length ns₀
-  pub buffer_long : length buffer ≡ length buffer₀
-  pub memory_long : length m ≡ length m₀
 
 -- ---- operations before others
 
@@ -118,9 +115,6 @@ module _ (xs cs : List ℕ) (budget : ℕ) (t₀ : Course) (fs₀ ns₀ buffer�
     held = h;
     few = omega arith;
     near = omega arith;
-    numbers_long = refl;
-    buffer_long = refl;
-    memory_long = refl;
   }
 
   module _ (left : ℕ) (t : Course) (at : ℕ) (fs ns buffer m : List ℕ)
@@ -150,12 +144,10 @@ module _ (xs cs : List ℕ) (budget : ℕ) (t₀ : Course) (fs₀ ns₀ buffer�
     loop_done q v s rest g = ends_with v s rest g fs ns m (λ p h. (all_end left p (done_ended v xs p t fs ns rest m h q), h))
 
     module _ (r : Taken) (fs' ns' m' : List ℕ) (step : StepOf xs t fs ns m r fs' ns' m') where
-      pub loop_stopped : 0 < left → (k : ℕ) → r ≡ T.Refused k → (e : Ran) → e ≡ R.Refused k
-          → RunOf xs budget t₀ fs₀ ns₀ buffer₀ m₀ e fs' ns' buffer m'
-      loop_stopped z k q e i v s rest g =
+      pub loop_stopped : 0 < left → (k : ℕ) → r ≡ T.Refused k → RunOf xs budget t₀ fs₀ ns₀ buffer₀ m₀ (R.Refused k) fs' ns' buffer m'
+      loop_stopped z k q v s rest g =
           let c = l.come v s rest g in
-          let w = subst (λ (w : Taken). Steps v xs c.packing t w fs' ns' rest m') q (step v c.packing rest c.holds) in
-          subst (λ (w : Ran). Ends v xs (choose_all budget s) budget buffer₀ w fs' ns' rest buffer m') (sym i) (
+          let w = subst (λ (w : Taken). Steps v xs c.packing t w fs' ns' rest m') q (step v c.packing rest c.holds) in (
             c.ran ∙ ap (prepended c.operations) (all_stop left k c.packing z w.0) ∙ prepended_stopped c.operations k,
             w.1,
           )
@@ -170,9 +162,8 @@ module _ (xs cs : List ℕ) (budget : ℕ) (t₀ : Course) (fs₀ ns₀ buffer�
 
         pub loop_on : 0 < left → (at' : ℕ) (buffer' : List ℕ) → at' ≡ at + width_of o → length buffer' ≡ length buffer
             → (bytes_for (at + width_of o) ≤ length buffer → buffer' ≡ written_at buffer at (operation_bits o))
-            → length ns' ≡ length ns → length m' ≡ length m
             → Loop xs cs budget t₀ fs₀ ns₀ buffer₀ m₀ (left - 1) t' at' fs' ns' buffer' m'
-        loop_on z at' buffer' ea er ew en em = record {
+        loop_on z at' buffer' ea er ew = record {
           come = comes;
           held =
               record {
@@ -184,9 +175,6 @@ module _ (xs cs : List ℕ) (budget : ℕ) (t₀ : Course) (fs₀ ns₀ buffer�
               };
           few = omega (arith, l.few);
           near = omega (arith, l.near, ea, width_most o);
-          numbers_long = en ∙ l.numbers_long;
-          buffer_long = er ∙ l.buffer_long;
-          memory_long = em ∙ l.memory_long;
         }
           where
             comes : (v : ℕ) (s : Packing) (rest : List ℕ) → Holds v xs s t₀ fs₀ ns₀ rest m₀

@@ -30,8 +30,8 @@ use Rattle.choice_theory.proofs.Runs.Following.{limited_takes}
 use Rattle.border_theory.specs.Memory.Stands.{rings_in}
 use Rattle.pack_theory.specs.Choosing.Choosable.{flag_of, unbuilt_of}
 use Rattle.cutborder.specs.declared.Course.{Course}
-use Rattle.cutborder.specs.declared.Done.{Done}
-use Rattle.cutborder.specs.declared.Done.TheVariants.{Going, Refused}
+use Rattle.pack_theory.specs.Packing.Done.{Done}
+use Rattle.pack_theory.specs.Packing.Done.{Going, Refused}
 use Rattle.pack_theory.specs.Packing.Numbers.{entries}
 use Rattle.pack_theory.specs.Packing.Doing.{readied, done_of, memory_of}
 use Rattle.pack_theory.specs.Packing.Course.{Holds, renamed, numbered_three}

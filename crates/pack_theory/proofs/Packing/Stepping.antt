@@ -22,15 +22,15 @@ use Rattle.border_theory.specs.Memory.Keeps.{Ready}
 use Rattle.pack_theory.specs.Choosing.Choosable.{flag_of, unbuilt_of}
 use Rattle.cutborder.specs.declared.Course.{Course}
 use Rattle.cutborder.specs.declared.Move.{Move}
-use Rattle.cutborder.specs.declared.Done.{Done}
-use Rattle.cutborder.specs.declared.Done.TheVariants.{Going, Refused}
-use Rattle.cutborder.specs.declared.Taken.{Taken}
-use Rattle.cutborder.specs.declared.Taken.TheVariants as T
+use Rattle.pack_theory.specs.Packing.Done.{Done}
+use Rattle.pack_theory.specs.Packing.Done.{Going, Refused}
+use Rattle.pack_theory.specs.Packing.Taken.{Taken}
+use Rattle.pack_theory.specs.Packing.Taken as T
 use Rattle.pack_theory.specs.Packing.Numbers.{entries}
 use Rattle.pack_theory.specs.Packing.Doing.{readied, done_of, memory_of}
 use Rattle.pack_theory.specs.Packing.Course.{Holds, Held, move_of, flags_of, given_by, numbers_by, renamed, numbered_three, Chooses}
-use Rattle.pack_theory.specs.Packing.Order.{OrderLong, order_of, Notable, Notes, NotesOf}
-use Rattle.pack_theory.specs.Packing.Steps.{StepsTo, Beyond, Steps, StepOf, Alive, Resting, Lowest, Starts, Renames}
+use Rattle.pack_theory.specs.Packing.Order.{OrderLong, order_of, Notable, NotesOf}
+use Rattle.pack_theory.specs.Packing.Steps.{StepsTo, Beyond, StepOf, Alive, Resting, Lowest, Starts, Renames}
 use Rattle.border_theory.specs.Memory.Finish.{is_complete}
 use Rattle.pack_theory.proofs.Packing.Numbers.{entries_length}
 use Rattle.pack_theory.proofs.Packing.Doing.{standing_ready}
@@ -102,12 +102,11 @@ module _ (xs cs : List ℕ) (t : Course) (fs ns m : List ℕ) where
           (subst (λ (w : Done). Lives v xs p t mv w fs' (numbers_by mv.fresh ns mv.vertex t.given) rest
           (memory_of s m mv.operation)) (sym ed) c3)
 
-      pub alive_refused : (k : ℕ) → d ≡ Refused k → (r : Taken) → ((j : ℕ) → d ≡ Refused j → r ≡ T.Refused j)
-          → StepOf xs t fs ns m r fs' ns m'
-      alive_refused k q r f v p rest h =
+      pub alive_refused : (k : ℕ) → d ≡ Refused k → StepOf xs t fs ns m (T.Refused k) fs' ns m'
+      alive_refused k q v p rest h =
           let l = subst (λ (w : Done). Lives v xs p t mv w fs' (numbers_by mv.fresh ns mv.vertex t.given) rest m') q
           (lives v p rest h) in
-          subst (λ (w : Taken). Steps v xs p t w fs' ns rest m') (sym (f k q)) (l, holds_beyond v xs p t fs ns rest m h)
+          (l, holds_beyond v xs p t fs ns rest m h)
 
       pub alive_goes : (f : Front) → d ≡ Going f → (g : ℕ) → g ≡ given_by mv.fresh t.given → (ns' : List ℕ)
           → ns' ≡ numbers_by mv.fresh ns mv.vertex t.given
@@ -138,13 +137,11 @@ module _ (xs cs : List ℕ) (t : Course) (fs ns m : List ℕ) (a : Alive xs cs t
     entries_of v s rest h =
         eo ∙ ap (sets os t.front.built) (sym (live_next v xs s t fs ns rest m h a.live).0)
 
-    pub alive_notes_refused : (d : Done) (k : ℕ) → d ≡ Refused k → (r : Taken) → ((j : ℕ) → d ≡ Refused j → r ≡ T.Refused j)
-        → NotesOf xs t fs ns m r os os'
-    alive_notes_refused d k q r f v s rest h =
+    pub alive_notes_refused : (k : ℕ) → NotesOf xs t fs ns m (T.Refused k) os os'
+    alive_notes_refused k v s rest h =
         let l = (live_next v xs s t fs ns rest m h a.live).1 in
-        subst (λ (w : Taken). Notes (length (triangles_of xs)) s t w os os') (sym (f k q))
-        (ap (drop (length (triangles_of xs))) (entries_of v s rest h)
-        ∙ sets_past (length (triangles_of xs)) os t.front.built (next_number s) (omega (arith, l, h.count)))
+        ap (drop (length (triangles_of xs))) (entries_of v s rest h)
+        ∙ sets_past (length (triangles_of xs)) os t.front.built (next_number s) (omega (arith, l, h.count))
 
     pub alive_notes : (o : Operation) (t' : Course) (fs' ns' m' : List ℕ) → fs' ≡ flags_of xs fs m t.front.loops
         → StepOf xs t fs ns m (T.Going o t') fs' ns' m' → NotesOf xs t fs ns m (T.Going o t') os os'
@@ -252,9 +249,9 @@ module _ (xs : List ℕ) (t : Course) (k : ℕ) (fs ns m : List ℕ) (a : Starts
           let r = went.0 in
           let w = went.1 in
           record {
-            first = omega (arith, r.near_x, w);
-            second = omega (arith, r.near_y, w);
-            third = omega (arith, r.near_z, w);
+            first = omega (arith, r.near_x);
+            second = omega (arith, r.near_y);
+            third = omega (arith, r.near_z);
           }
 
       pub start_goes : (m'' : List ℕ)

@@ -2,7 +2,7 @@
 -- Assumes nothing.
 use Rattle.std.specs.Prelude.{ℕ, suc, ◌≤◌, true, false, List, [], ◌∷◌, ◌≡◌, get_or, eqb}
 use Rattle.rules.specs.declared.Triangle.{Triangle}
-use Rattle.rules.specs.declared.Across.TheVariants.{Found}
+use Rattle.rules.specs.Across.{Found}
 use Rattle.rules.specs.Limits.{max_places}
 use Rattle.rules.specs.Triangle.{triangles_of}
 use Rattle.rules.specs.Across.{across}

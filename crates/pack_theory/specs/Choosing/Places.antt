@@ -5,7 +5,7 @@ use Rattle.rules.specs.Limits.{max_places}
 use Rattle.rules.specs.Choice.{spot_of, turn_in, turn_out}
 use Rattle.cutborder.specs.declared.Loops.{Loops}
 use Rattle.border_theory.specs.Memory.Stands.{loops_in}
-use Rattle.cutborder.specs.declared.Seat.{Seat}
+use Rattle.pack_theory.specs.Choosing.Seat.{Seat}
 use Rattle.pack_theory.specs.Choosing.Choosable.{unbuilt_of}
 use Rattle.pack_theory.specs.Choosing.Seeking.{seat_of}
 

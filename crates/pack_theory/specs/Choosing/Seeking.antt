@@ -10,8 +10,8 @@ use Rattle.rules.specs.Choice.{Spot, nowhere, spot, size_of}
 use Rattle.cutborder.specs.declared.Loops.{Loops}
 use Rattle.border_theory.specs.Memory.Layout.{at, vertex_of, before_of, after_of, walked}
 use Rattle.border_theory.specs.Memory.Decision.{is_open_at}
-use Rattle.cutborder.specs.declared.Seat.{Seat}
-use Rattle.cutborder.specs.declared.Seat.TheVariants.{Nowhere, At}
+use Rattle.pack_theory.specs.Choosing.Seat.{Seat}
+use Rattle.pack_theory.specs.Choosing.Seat.{Nowhere, At}
 
 -- whether the open edge x→y starts at place p
 unfoldable pub starts_at : List ℕ → ℕ → ℕ → ℕ → Bool
@@ -67,7 +67,7 @@ operation_by k u v (suc w) i = Union (suc w) i
 
 -- place p and the place after it are in the memory
 abbrev pub Inside : List ℕ → ℕ → Type 0
-Inside m p = (4 * p + 3 < length m) × (4 * after_of m p + 3 < length m)
+Inside m p = (p < max_places) × (after_of m p < max_places)
 
 -- the places that are looked at are in the memory
 pub record Seekable (l : Loops) (m : List ℕ) : Type 0 where

@@ -2,10 +2,10 @@
 -- Assumes nothing.
 use Rattle.std.specs.Prelude.{ℕ, ◌+◌, ◌*◌, ◌≤◌, ◌<◌, Bool, true, false, List, ◌++◌, ◌≡◌, length, get_or, set, eqb}
 use Rattle.rules.specs.declared.Triangle.{Triangle}
-use Rattle.rules.specs.declared.Across.{Across}
-use Rattle.rules.specs.declared.Across.TheVariants.{Found, Nothing}
+use Rattle.rules.specs.Across.{Across}
+use Rattle.rules.specs.Across.{Found, Nothing}
 use Rattle.rules.specs.declared.Operation.TheVariants.{New, Border}
-use Rattle.rules.specs.declared.Checked.TheVariants.{Accepted}
+use Rattle.rules.specs.Checked.{Accepted}
 use Rattle.rules.specs.Limits.{max_places, max_loops, max_triangles}
 use Rattle.rules.specs.Triangle.{triangles_of}
 use Rattle.rules.specs.Across.{across}
@@ -111,7 +111,7 @@ pub record FoundNear (xs cs fs ns m : List ℕ) (l : Loops) (n c : ℕ) : Type 0
 
 pub record Chooses (xs cs fs ns m : List ℕ) (l : Loops) : Type 0 where
   pub linked : Linked xs cs
-  pub near_e : 4 * l.current + 3 < length m
-  pub near_f : 4 * after_of m l.current + 3 < length m
+  pub near_e : l.current < max_places
+  pub near_f : after_of m l.current < max_places
   pub apart : end_of l m ≡ start_of l m → ⊥
   pub found : (n k c : ℕ) → across (end_of l m) (start_of l m) (triangles_of xs) ≡ Found n k c → FoundNear xs cs fs ns m l n c

@@ -7,13 +7,14 @@ use Rattle.rules.specs.Limits.{max_places, max_loops, max_triangles, between, ve
 use Rattle.rules.specs.Ring.{Ring}
 use Rattle.border_theory.specs.Records.Plain.{core_size}
 use Rattle.cutborder.specs.declared.Front.{Front}
-use Rattle.cutborder.specs.declared.Decided.{Decided}
-use Rattle.cutborder.specs.declared.Decided.TheVariants as D
+use Rattle.border_theory.specs.Memory.Decision.{Decided}
+use Rattle.std.specs.Prelude.{Ok, Err}
+use Rattle.cutborder.specs.declared.Action.TheVariants.{Builds, Marks}
 use Rattle.border_theory.specs.Memory.Stands.{Stands, loops_in}
 use Rattle.border_theory.specs.Memory.Moves.{marked_held}
 use Rattle.border_theory.specs.Memory.Decision.{decided, held_after, built_front, marked_front}
-use Rattle.cutborder.specs.declared.Done.{Done}
-use Rattle.cutborder.specs.declared.Done.TheVariants.{Going, Refused}
+use Rattle.pack_theory.specs.Packing.Done.{Done}
+use Rattle.pack_theory.specs.Packing.Done.{Going, Refused}
 
 -- what a packing of a model of v vertices and k triangles may not exceed
 abbrev pub stated_for : ℕ → ℕ → Counts
@@ -38,14 +39,14 @@ abbrev pub refusal_at : ℕ → ℕ
 refusal_at free = elim (eqb free 0) [ true ↦ 9 | false ↦ 10 ]
 
 abbrev pub done_by : Front → List ℕ → Operation → Decided → Done
-done_by s m o (D.Refused k) = Refused (refusal_at s.loops.free)
-done_by s m o (D.Builds p) = Going (built_front max_places s p (held_after max_places s m o p).loops)
-done_by s m o (D.Marks x y) = Going (marked_front max_places s (marked_held max_places s.loops m).loops)
+done_by s m o (Err k) = Refused (refusal_at s.loops.free)
+done_by s m o (Ok (Builds p)) = Going (built_front max_places s p (held_after max_places s m o p).loops)
+done_by s m o (Ok (Marks x y)) = Going (marked_front max_places s (marked_held max_places s.loops m).loops)
 
 abbrev pub memory_by : Front → List ℕ → Operation → Decided → List ℕ
-memory_by s m o (D.Refused k) = m
-memory_by s m o (D.Builds p) = (held_after max_places s m o p).memory
-memory_by s m o (D.Marks x y) = (marked_held max_places s.loops m).memory
+memory_by s m o (Err k) = m
+memory_by s m o (Ok (Builds p)) = (held_after max_places s m o p).memory
+memory_by s m o (Ok (Marks x y)) = (marked_held max_places s.loops m).memory
 
 -- what the operation o comes to, and the memory after it
 unfoldable pub done_of : Front → List ℕ → Operation → Done

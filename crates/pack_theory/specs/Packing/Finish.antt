@@ -2,14 +2,14 @@
 -- Assumes nothing.
 use Rattle.std.specs.Prelude.{ℕ, ◌-◌, ◌≤◌, Bool, true, false, List, length, leb}
 use Rattle.rules.specs.declared.Counts.{Counts}
-use Rattle.rules.specs.declared.Packed.{Packed}
-use Rattle.rules.specs.declared.Packed.TheVariants as P
+use Rattle.rules.specs.Packed.{Packed}
+use Rattle.rules.specs.Packed as P
 use Rattle.rules.specs.Buffer.{over, zeroed}
 use Rattle.wire_theory.specs.Header.{header_of}
 use Rattle.wire_theory.specs.Buffer.{bytes_for}
 use Rattle.cutborder.specs.declared.Course.{Course}
-use Rattle.cutborder.specs.declared.Ran.{Ran}
-use Rattle.cutborder.specs.declared.Ran.TheVariants.{Refused, Ended}
+use Rattle.pack_theory.specs.Packing.Ran.{Ran}
+use Rattle.pack_theory.specs.Packing.Ran.{Refused, Ended}
 
 -- the counts that the pack of v vertices and k triangles states
 abbrev pub counts_at : ℕ → ℕ → Course → Counts

@@ -1,9 +1,9 @@
 -- Packing with n place records, of which only the number counts.
 -- Assumes nothing.
 use Rattle.std.specs.Prelude.{ℕ, ◌≤◌, true, false, List, ◌≡◌, length, replicate, drop}
-use Rattle.rules.specs.declared.Packed.{Packed}
-use Rattle.rules.specs.declared.Packed.TheVariants as P
-use Rattle.rules.specs.declared.Checked.TheVariants.{Accepted}
+use Rattle.rules.specs.Packed.{Packed}
+use Rattle.rules.specs.Packed as P
+use Rattle.rules.specs.Checked.{Accepted}
 use Rattle.rules.specs.Limits.{max_places, max_triangles}
 use Rattle.rules.specs.Triangle.{triangles_of}
 use Rattle.rules.specs.Check.{check}

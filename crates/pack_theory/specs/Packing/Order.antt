@@ -2,17 +2,17 @@
 -- Assumes nothing.
 use Rattle.std.specs.Prelude.{ℕ, ◌+◌, ◌≤◌, ◌<◌, List, ◌≡◌, length, drop}
 use Rattle.std.proofs.lemmas.List.Edits.{sets}
-use Rattle.rules.specs.declared.Across.TheVariants.{Found}
+use Rattle.rules.specs.Across.{Found}
 use Rattle.rules.specs.Triangle.{triangles_of}
 use Rattle.rules.specs.Across.{across}
 use Rattle.rules.specs.Choice.{Packing}
 use Rattle.rules.specs.Order.{number_found, next_number, order_by}
 use Rattle.cutborder.specs.declared.Loops.{Loops}
 use Rattle.cutborder.specs.declared.Course.{Course}
-use Rattle.cutborder.specs.declared.Taken.{Taken}
-use Rattle.cutborder.specs.declared.Taken.TheVariants as T
-use Rattle.cutborder.specs.declared.Ran.{Ran}
-use Rattle.cutborder.specs.declared.Ran.TheVariants as R
+use Rattle.pack_theory.specs.Packing.Taken.{Taken}
+use Rattle.pack_theory.specs.Packing.Taken as T
+use Rattle.pack_theory.specs.Packing.Ran.{Ran}
+use Rattle.pack_theory.specs.Packing.Ran as R
 use Rattle.pack_theory.specs.Packing.Course.{Holds, start_of, end_of}
 
 -- it has an entry for each triangle of the list: past 22

@@ -1,8 +1,8 @@
 -- The tests before the run of a packing: of the list, and of how long the buffers are.
 -- Assumes nothing.
 use Rattle.std.specs.Prelude.{ℕ, ◌&&◌, List, length, leb}
-use Rattle.rules.specs.declared.Checked.{Checked}
-use Rattle.rules.specs.declared.Checked.TheVariants.{Accepted, Refused}
+use Rattle.rules.specs.Checked.{Checked}
+use Rattle.rules.specs.Checked.{Accepted, Refused}
 use Rattle.rules.specs.Limits.{max_places}
 use Rattle.rules.specs.Triangle.{triangles_of}
 use Rattle.rules.specs.Check.{passes, check}

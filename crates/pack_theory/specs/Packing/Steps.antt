@@ -2,16 +2,17 @@
 -- Assumes nothing.
 use Rattle.std.specs.Prelude.{ℕ, ◌+◌, ◌*◌, ◌≤◌, ◌<◌, List, ◌≡◌, length, drop}
 use Rattle.rules.specs.declared.Operation.{Operation}
+use Rattle.rules.specs.Limits.{max_places}
 use Rattle.rules.specs.Triangle.{triangles_of}
 use Rattle.rules.specs.Choice.{Packing, Next, refuses, takes, choose}
 use Rattle.rules.specs.Pack.{Chosen, stopped, chosen, choose_all}
 use Rattle.border_theory.specs.Memory.Layout.{after_of}
 use Rattle.pack_theory.specs.Choosing.Choosable.{flag_of}
 use Rattle.cutborder.specs.declared.Course.{Course}
-use Rattle.cutborder.specs.declared.Taken.{Taken}
-use Rattle.cutborder.specs.declared.Taken.TheVariants as T
-use Rattle.cutborder.specs.declared.Ran.{Ran}
-use Rattle.cutborder.specs.declared.Ran.TheVariants as R
+use Rattle.pack_theory.specs.Packing.Taken.{Taken}
+use Rattle.pack_theory.specs.Packing.Taken as T
+use Rattle.pack_theory.specs.Packing.Ran.{Ran}
+use Rattle.pack_theory.specs.Packing.Ran as R
 use Rattle.pack_theory.specs.Packing.Course.{Holds, Held}
 use Rattle.pack_theory.specs.Packing.Writing.{header_bits, Writes}
 
@@ -65,9 +66,9 @@ pub record Starts (xs : List ℕ) (t : Course) (k : ℕ) (fs ns m : List ℕ) : 
 
 -- the memory has the records of a loop of three places, the first of them e
 pub record Renames (m : List ℕ) (e : ℕ) : Type 0 where
-  pub first : 4 * e + 3 < length m
-  pub second : 4 * after_of m e + 3 < length m
-  pub third : 4 * after_of m (after_of m e) + 3 < length m
+  pub first : e < max_places
+  pub second : after_of m e < max_places
+  pub third : after_of m (after_of m e) < max_places
 
 -- ---- a run
 

@@ -4,7 +4,7 @@ use Rattle.packer.proofs.pack_accepted.Goals as goal
 
 pub begin_course-start-requires : goal.begin_course-start-requires
 begin_course-start-requires c = let few = few_counts c.args.v c.args.list.now c.requires.0.accepted _ refl in
-    (few.0, few.1, c.requires.0.enough, c.requires.0.whole)
+    (few.0, few.1, c.requires.0.enough)
 
 pub run_from-requires : goal.run_from-requires
 run_from-requires c = (

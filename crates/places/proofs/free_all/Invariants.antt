@@ -7,6 +7,3 @@ abbrev pub invariant-loop-k : goal.invariant-loop-k
 invariant-loop-k l =
     (freed_start l.m ≤ l.k) × (l.k - freed_start l.m ≤ freed_end l.m - freed_start l.m)
     × (l.s ≡ freed_to (l.k - freed_start l.m) (freed_start l.m) l.m l.initial.s)
-
-abbrev pub decreases-loop-k : goal.decreases-loop-k
-decreases-loop-k l = l.end - l.k

@@ -1,19 +1,21 @@
 -- The promises of the calls, one after the other.
 use Rattle.std.proofs.Common.{◌≡◌, length, arith, add-one}
-use Rattle.rehearsal.proofs.Laws.{reached_first, reached_more, reached_end}
+use Rattle.rehearsal.proofs.Laws.{begun_state, reached_first, reached_more, reached_end}
 use Rattle.rehearsal.proofs.rehearse.Goals as goal
 
-pub loop-i-init : goal.loop-i-init
-loop-i-init c = (omega arith, rw c.begun_state-state.ensures (reached_first _ _ _ _ _ _ c.begin-begun.ensures))
-
-pub loop-i-preserved : goal.loop-i-preserved
-loop-i-preserved c = (
+pub loop-op-init : goal.loop-op-init
+loop-op-init c = (
   omega arith,
-  rw (add-one, c.performed_state-state.ensures)
-      (reached_more _ _ _ _ _ _ _ _ c.loop-i-test.true _ _ _ c.loop-i.invariant.1 c.operation-performed.ensures),
+  rw (begun_state c.begin.result c.empty.result _ c.empty.ensures c.unwrap_or-state.ensures) (reached_first _ _ _ _ _ _ c.begin.ensures),
+)
+
+pub loop-op-preserved : goal.loop-op-preserved
+loop-op-preserved c = (
+  omega arith,
+  rw add-one (reached_more _ _ _ _ _ _ _ _ c.loop-op-test.true _ _ _ c.loop-op.invariant.1 c.operation-answer.ensures),
 )
 
 pub returns : goal.returns
 returns c =
-    let e : c.loop-i.i ≡ length c.args.ops.now = omega arith in
-    reached_end _ _ _ _ _ _ _ _ (rw e at c.loop-i.invariant.1) c.finish.ensures
+    let e : c.loop-op.op-index ≡ length c.args.ops.now = omega arith in
+    reached_end _ _ _ _ _ _ _ _ (rw e at c.loop-op.invariant.1) c.finish.ensures

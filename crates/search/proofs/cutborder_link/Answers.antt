@@ -6,10 +6,10 @@ use Rattle.search.proofs.Laws.{link_refused, link_passed}
 use Rattle.search.proofs.cutborder_link.Goals as goal
 
 pub link_each-requires : goal.link_each-requires
-link_each-requires c = (four_sound (numbers_four _ _ (sym c.in-Accepted.ensures)), zeros_none _ _ refl)
+link_each-requires c = (four_sound (numbers_four _ _ (sym c.in-Ok.ensures)), zeros_none _ _ refl)
 
-pub returns-in-Refused : goal.returns-in-Refused
-returns-in-Refused c = link_refused _ _ _ _ (sym c.in-Refused.ensures)
+pub returns-in-Err : goal.returns-in-Err
+returns-in-Err c = rw (c.from.ensures, c.number.ensures) (link_refused _ _ _ _ (sym c.in-Err.ensures))
 
-pub returns-in-Accepted : goal.returns-in-Accepted
-returns-in-Accepted c = link_passed _ _ _ _ (sym c.in-Accepted.ensures) c.link_each.ensures
+pub returns-in-Ok : goal.returns-in-Ok
+returns-in-Ok c = link_passed _ _ _ _ (sym c.in-Ok.ensures) c.link_each.ensures

@@ -1,25 +1,23 @@
 -- The beginning: 13, 14, or the empty builder. One law for each way through.
 -- Assumes nothing.
 use Prim.Native.Nat.{ℕ, ◌*◌}
-use mathlib.Core.Bool.{Bool, true, false, ◌&&◌, not}
+use mathlib.Core.Bool.{Bool, true, false, not}
 use mathlib.Core.List.{List}
-use mathlib.Core.Path.{◌≡◌, refl, sym, ap, ap₂, ◌∙◌, subst}
+use mathlib.Core.Path.{◌≡◌, refl, sym, ap, ap₂, ◌∙◌}
 use lib.ListN.{length, length-replicate}
 use lib.Dec.{leb}
 use borrow.Author.Tests.{not-true, not-false, leb-true}
 use Rattle.rules.specs.declared.Counts.{Counts}
 use Rattle.rules.specs.declared.Builder.{Builder}
-use Rattle.rules.specs.declared.Begun.{Begun}
-use Rattle.rules.specs.declared.Checked.{Checked}
-use Rattle.rules.specs.declared.Checked.TheVariants.{Accepted, Refused}
+use Rattle.rules.specs.Checked.{Accepted}
 use Rattle.rules.specs.Limits.{max_places, in_range}
 use Rattle.rules.specs.Machine.{refused, begun, test, empty, beginning, long_enough}
 use Rattle.rules.specs.Book.{answer_of}
 use Rattle.rules.specs.Buffer.{Lengths, free_place}
-use Rattle.rules.specs.Build.{begins, empty_builder, begun_builder}
+use Rattle.rules.specs.Build.{begins, begun_builder}
 use Rattle.counting.proofs.Bools.{and_right}
 use Rattle.border_theory.specs.Records.Lent.{lent as lent_of}
-use Rattle.state_theory.specs.Finishing.Core.{refused_by, BeginsOn, cleared_after}
+use Rattle.state_theory.specs.Finishing.Core.{refused_by, BeginsOn}
 
 module _ (stated : Counts) (xs : List ℕ) (n : ℕ) where
   abbrev lengths_of : ℕ → Lengths
@@ -36,12 +34,10 @@ module _ (stated : Counts) (xs : List ℕ) (n : ℕ) where
       → begins (lent_of n xs) stated ≡ test a 13 (test b 14 (begun (empty stated)))
   by_tests a b e f = begins_is ∙ ap₂ (λ (t u : Bool). test t 13 (test u 14 (begun (empty stated)))) e f
 
-  turned_down_lem : (k : ℕ) → begins (lent_of n xs) stated ≡ refused k → (r : Begun) → r ≡ refused_by k → BeginsOn stated xs n r xs
-  turned_down_lem k e r q =
-      subst (λ (x : Begun). BeginsOn stated xs n x xs) (sym q)
-      (record { answer = ap answer_of (sym e); left = record { builder = refl; triangles = refl } })
+  turned_down_lem : (k : ℕ) → begins (lent_of n xs) stated ≡ refused k → BeginsOn stated xs n (refused_by k) xs
+  turned_down_lem k e = record { answer = ap answer_of (sym e); left = record { builder = refl; triangles = refl } }
 
-  pub begins_range : (a : Bool) → a ≡ in_range stated → not a ≡ true → (r : Begun) → r ≡ refused_by 13 → BeginsOn stated xs n r xs
+  pub begins_range : (a : Bool) → a ≡ in_range stated → not a ≡ true → BeginsOn stated xs n (refused_by 13) xs
   unfolding test
   begins_range a e h =
       turned_down_lem 13
@@ -51,7 +47,7 @@ module _ (stated : Counts) (xs : List ℕ) (n : ℕ) where
     triangles = length xs;
     places = n;
   }) stated) where
-    pub begins_short : not l ≡ true → (r : Begun) → r ≡ refused_by 14 → BeginsOn stated xs n r xs
+    pub begins_short : not l ≡ true → BeginsOn stated xs n (refused_by 14) xs
     unfolding test
     begins_short k = turned_down_lem 14 (by_tests true false (sym e ∙ not-false a h) (sym f ∙ not-true l k))
 
@@ -68,45 +64,3 @@ module _ (stated : Counts) (xs : List ℕ) (n : ℕ) where
             whole = leb-true max_places n (and_right (leb (3 * stated.triangles) (length xs)) (leb max_places n) long);
           };
         }
-
--- the two builders that a beginning gives
-pub begun_is : (stated : Counts) (b : Builder) → b ≡ empty_builder
-    → record {
-      stated = stated;
-      used = b.used;
-      built = b.built;
-      peaks = b.peaks;
-      edges = b.edges;
-      starts = b.starts;
-      unions = b.unions;
-      rims = b.rims;
-      live = b.live;
-      current = b.current;
-      sizes = b.sizes;
-    }
-    ≡ begun_builder stated
-begun_is stated b e =
-    ap (λ (x : Builder). record {
-      stated = stated;
-      used = x.used;
-      built = x.built;
-      peaks = x.peaks;
-      edges = x.edges;
-      starts = x.starts;
-      unions = x.unions;
-      rims = x.rims;
-      live = x.live;
-      current = x.current;
-      sizes = x.sizes;
-    })
-    e
-
-pub refused_is : (k : ℕ) (b : Builder) → b ≡ empty_builder → record { state = b; answer = Refused k } ≡ refused_by k
-refused_is k b e = ap (λ (x : Builder). record { state = x; answer = Refused k }) e
-
--- how many place records are cleared
-pub cleared_none : (a : Checked) (k : ℕ) → a ≡ Refused k → 0 ≡ cleared_after a
-cleared_none a k e = ap cleared_after (sym e)
-
-pub cleared_all : (a : Checked) → a ≡ Accepted → max_places ≡ cleared_after a
-cleared_all a e = ap cleared_after (sym e)

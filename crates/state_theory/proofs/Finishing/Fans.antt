@@ -8,8 +8,8 @@ use mathlib.Core.Path.{◌≡◌, refl, sym, ap, ap₂, ◌∙◌}
 use lib.ListN.{length, take}
 use lib.Seq.{take-add}
 use Rattle.rules.specs.declared.Triangle.{Triangle}
-use Rattle.rules.specs.declared.Checked.{Checked}
-use Rattle.rules.specs.declared.Checked.TheVariants.{Accepted, Refused}
+use Rattle.rules.specs.Checked.{Checked}
+use Rattle.rules.specs.Checked.{Accepted, Refused}
 use Rattle.rules.specs.Triangle.{triangles_of, edges_of}
 use Rattle.rules.specs.Count.{uses}
 use Rattle.rules.specs.Check.{all_distinct, none_twice, check, checks}
@@ -78,13 +78,12 @@ module _ (xs : List ℕ) (n : ℕ) (long : 3 * n ≤ length xs) where
         ∙ same_fans us used_once (λ x. sym (listed_uses x x) ∙ none_itself x (uses x x (triangles_of ls)) refl) v
 
   -- a list that is accepted, and one that only 7 refuses
-  pub accepted_fans : (v : ℕ) (c : Checked) → checked_answer c ≡ checks v ls → c ≡ Accepted → true ≡ one_fan_each v us
-  accepted_fans v c e h =
-      let p = (check_accepted v ls).0 (sym (same_check c (check v ls) e) ∙ h) in
+  pub accepted_fans : (v : ℕ) → checked_answer Accepted ≡ checks v ls → true ≡ one_fan_each v us
+  accepted_fans v e =
+      let p = (check_accepted v ls).0 (sym (same_check Accepted (check v ls) e)) in
       sym p.fans ∙ fans_same p.distinct p.once v
 
-  pub seven_fans : (v : ℕ) (c : Checked) (k : ℕ) → checked_answer c ≡ checks v ls → c ≡ Refused k → k ≡ 7
-      → false ≡ one_fan_each v us
-  seven_fans v c k e h i =
-      let p = (check_refused v ls 6).0 (sym (same_check c (check v ls) e) ∙ h ∙ ap Refused i) in
+  pub seven_fans : (v : ℕ) → checked_answer (Refused 7) ≡ checks v ls → false ≡ one_fan_each v us
+  seven_fans v e =
+      let p = (check_refused v ls 6).0 (sym (same_check (Refused 7) (check v ls) e)) in
       sym p.1.1.1.1.1.1 ∙ fans_same p.1.1.1.0 p.1.1.1.1.0 v

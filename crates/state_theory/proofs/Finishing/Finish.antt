@@ -11,8 +11,8 @@ use borrow.Author.Tests.{not-true, not-false, leb-true}
 use Rattle.rules.specs.declared.Builder.{Builder}
 use Rattle.rules.specs.declared.Place.{Place}
 use Rattle.rules.specs.declared.Totals.{Totals}
-use Rattle.rules.specs.declared.Finished.{Finished}
-use Rattle.rules.specs.declared.Finished.TheVariants as F
+use Rattle.rules.specs.Finished.{Finished}
+use Rattle.rules.specs.Finished as F
 use Rattle.rules.specs.Limits.{max_places, in_range}
 use Rattle.rules.specs.Fan.{one_fan_each}
 use Rattle.rules.specs.View.{triangles_built, view}
@@ -24,9 +24,10 @@ use Rattle.rules.specs.Build.{viewed, finishes}
 use Rattle.rules.specs.Sound.{sizes_of, sums_fit, links_fit, triangles_fit, sound}
 use Rattle.cutborder.specs.declared.Front.{Front}
 use Rattle.border_theory.specs.Memory.Keeps.{Keeps}
-use Rattle.cutborder.specs.declared.Opened.{Opened}
-use Rattle.cutborder.specs.declared.Opened.TheVariants.{Passed, Failed}
-use Rattle.state_theory.specs.Reading.Opens.{lent, Passes, Opens}
+use Rattle.std.specs.Prelude.{Ok, Err}
+use Rattle.rules.specs.declared.refusal.Refusal.{Refusal}
+use Rattle.rules.specs.Refusal.{number_of}
+use Rattle.state_theory.specs.Reading.Opens.{lent, Passes, Opened, Opens}
 use Rattle.border_theory.specs.Memory.Finish.{is_complete, is_as_stated, totals_of}
 use Rattle.border_theory.proofs.Memory.Finish.{complete_same, stated_same, totals_same}
 use Rattle.state_theory.specs.Finishing.Core.{FinishesOn, Fits, FinishesFront}
@@ -74,7 +75,7 @@ module _ (f : Front) (xs : List ℕ) where
       front_20 l M m k t =
           sym (finish_ended M true true false (all M m k) (stated M m k) (fan_same M m k t ∙ sym fans ∙ not-true c l))
 
-      pub front_done : not c ≡ false → (x : Totals) → x ≡ totals_of f → FinishesFront f xs (F.Totals x)
+      pub front_done : not c ≡ false → (x : Totals) → x ≡ totals_of f → FinishesFront f xs (F.Gives x)
       front_done l x q M m k t =
           ap numbers (q ∙ sym (totals_same max_places f m M k))
           ∙ sym (finish_ended M true true true (all M m k) (stated M m k) (fan_same M m k t ∙ sym fans ∙ not-false c l))
@@ -113,12 +114,13 @@ sound_parts b r h =
     )
 
 module _ (b : Builder) (xs m : List ℕ) (n : ℕ) (o : Opened) (m' : List ℕ) (opens : Opens b xs n m o m') where
-  pub failed_on : o ≡ Failed → FinishesOn b xs m n (F.Refused 21) m'
-  failed_on e =
-      let p : Opens b xs n m Failed m' = subst (λ (q : Opened). Opens b xs n m q m') e opens in
-      record { answer = ap answer_of (sym (finishes_by b xs m n false p.0)); same = p.1 }
+  pub failed_on : (e : Refusal) → o ≡ Err e → FinishesOn b xs m n (F.Refused (number_of e)) m'
+  failed_on e q =
+      let p = subst (λ (x : Opened). Opens b xs n m x m') q opens in
+      subst (λ (z : Refusal). FinishesOn b xs m n (F.Refused (number_of z)) m') (sym p.0)
+      (record { answer = ap answer_of (sym (finishes_by b xs m n false p.1.0)); same = p.1.1 })
 
-  passed : (f : Front) → o ≡ Passed f → Passes b xs n m f m'
+  passed : (f : Front) → o ≡ Ok f → Passes b xs n m f m'
   passed f e = subst (λ (q : Opened). Opens b xs n m q m') e opens
 
   -- what the tests say of the triangles
@@ -126,13 +128,13 @@ module _ (b : Builder) (xs m : List ℕ) (n : ℕ) (o : Opened) (m' : List ℕ) 
   unfolding view
   built_same f p = sym p.keeps.triangles ∙ built_long xs b.built
 
-  pub passed_fits : (f : Front) → o ≡ Passed f → Fits f xs
+  pub passed_fits : (f : Front) → o ≡ Ok f → Fits f xs
   passed_fits f e =
       let p = passed f e in
       let s = sound_parts b (lent xs n m) p.passes in
       record { most = p.ready.built; long = omega (arith, built_same f p, s.0, s.1) }
 
-  pub passed_on : (f : Front) → o ≡ Passed f → (r : Finished) → FinishesFront f xs r → FinishesOn b xs m n r m'
+  pub passed_on : (f : Front) → o ≡ Ok f → (r : Finished) → FinishesFront f xs r → FinishesOn b xs m n r m'
   unfolding view
   passed_on f e r h =
       let p = passed f e in

@@ -1,10 +1,10 @@
 -- The fan test over arrays is the definition's.
 -- Assumes nothing.
-use Prim.Native.Nat.{ℕ, zero, suc, ◌+◌, ◌-◌, ◌*◌, ◌≤◌, ◌<◌}
+use Prim.Native.Nat.{ℕ, zero, suc, ◌+◌, ◌*◌, ◌≤◌, ◌<◌}
 use native.Mathlib.Omega.{arith}
-use native.Mathlib.Numerals.{unary_clauses}
 use mathlib.Core.Bool.{Bool, true, false}
 use mathlib.Core.List.{List, [], ◌∷◌}
+use Rattle.std.specs.Prelude.{Option, Some, None}
 use mathlib.Core.Path.{◌≡◌, refl, sym, ap, ap₂, ◌∙◌, subst}
 use lib.ListN.{length, get_or, set, replicate, length-set, length-replicate, get_or-replicate}
 use lib.Seq.{get_or-set_same, get_or-set_other}
@@ -84,36 +84,42 @@ none_left fs ts gs (suc n) = go (eqb (get_or gs n 0) 0) refl (none_left fs ts gs
 
 -- ---- turning
 
-latest_below : (es gs : List ℕ) (x n : ℕ) → latest_left es gs x n ≤ n
+-- of what is found, the number after it
+abbrev after : Option ℕ → ℕ
+after None = 0
+after (Some i) = suc i
+
+latest_below : (es gs : List ℕ) (x n : ℕ) → after (latest_left es gs x n) ≤ n
 unfolding latest_left
 latest_below es gs x zero = omega arith
 latest_below es gs x (suc n) = go (is_left es gs n x) refl (latest_below es gs x n)
   where
-    go : (b : Bool) → is_left es gs n x ≡ b → latest_left es gs x n ≤ n → latest_left es gs x (suc n) ≤ suc n
+    go : (b : Bool) → is_left es gs n x ≡ b → after (latest_left es gs x n) ≤ n → after (latest_left es gs x (suc n)) ≤ suc n
     go true e h = rw (latest_left, e) (omega arith)
     go false e h = rw (latest_left, e) (omega arith)
 
 -- what is taken out of the list when the search finds i
-abbrev found : List ℕ → List ℕ → List ℕ → ℕ → ℕ → Taken
-found fs ts gs n zero = no_edge
-found fs ts gs n (suc i) = taken (edge_at fs ts i) (kept fs ts (set gs i 1) n)
+abbrev found : List ℕ → List ℕ → List ℕ → ℕ → Option ℕ → Taken
+found fs ts gs n None = no_edge
+found fs ts gs n (Some i) = taken (edge_at fs ts i) (kept fs ts (set gs i 1) n)
 
-found_keep : (fs ts gs : List ℕ) (n i : ℕ) → i ≤ n → get_or gs n 0 ≡ 0
+found_keep : (fs ts gs : List ℕ) (n : ℕ) (i : Option ℕ) → after i ≤ n → get_or gs n 0 ≡ 0
     → keep (edge_at fs ts n) (found fs ts gs n i) ≡ found fs ts gs (suc n) i
-found_keep fs ts gs n zero h e = refl
-found_keep fs ts gs n (suc i) h e =
+found_keep fs ts gs n None h e = refl
+found_keep fs ts gs n (Some i) h e =
     ap (taken (edge_at fs ts i))
     (sym (kept_yes fs ts (set gs i 1) n (get_or-set_other gs i n 1 0 (λ q. omega (arith, q)) ∙ e)))
 
-found_skip : (fs ts gs : List ℕ) (n i : ℕ) → i ≤ n → (get_or gs n 0 ≡ 0 → ⊥) → found fs ts gs n i ≡ found fs ts gs (suc n) i
-found_skip fs ts gs n zero h e = refl
-found_skip fs ts gs n (suc i) h e =
+found_skip : (fs ts gs : List ℕ) (n : ℕ) (i : Option ℕ) → after i ≤ n → (get_or gs n 0 ≡ 0 → ⊥)
+    → found fs ts gs n i ≡ found fs ts gs (suc n) i
+found_skip fs ts gs n None h e = refl
+found_skip fs ts gs n (Some i) h e =
     ap (taken (edge_at fs ts i))
     (sym (kept_no fs ts (set gs i 1) n (λ z. e (sym (get_or-set_other gs i n 1 0 (λ q. omega (arith, q))) ∙ z))))
 
 -- the search by the latest edge's mark and end
 latest_by : (es gs : List ℕ) (x n : ℕ) (b : Bool) → is_left es gs n x ≡ b
-    → latest_left es gs x (suc n) ≡ elim b [ true ↦ suc n | false ↦ latest_left es gs x n ]
+    → latest_left es gs x (suc n) ≡ elim b [ true ↦ Some n | false ↦ latest_left es gs x n ]
 unfolding latest_left
 latest_by es gs x n true e = rw (latest_left, e)
 latest_by es gs x n false e = rw (latest_left, e)
@@ -159,13 +165,13 @@ module _ (near far : Edge → ℕ) (take : ℕ → List Edge → Taken) (turn : 
       go (latest_left es gs x n) refl
       (λ i. turn_turned k (get_or os i 0) n (set gs i 1) (subst (λ (m : ℕ). n ≤ m) (sym (length-set gs i 1)) l))
     where
-      go : (i : ℕ) → latest_left es gs x n ≡ i
+      go : (i : Option ℕ) → latest_left es gs x n ≡ i
           → ((j : ℕ) → turn k (get_or os j 0) (kept fs ts (set gs j 1) n) ≡ kept fs ts (turned es os n k (get_or os j 0) (set gs j 1)) n)
           → turn (suc k) x (kept fs ts gs n) ≡ kept fs ts (turned es os n (suc k) x gs) n
-      go zero e h =
+      go None e h =
           T.turn_stop k x (kept fs ts gs n) (take_found gs x n l ∙ ap (found fs ts gs n) e)
           ∙ rw (turned, e)
-      go (suc i) e h =
+      go (Some i) e h =
           T.turn_more k x (kept fs ts gs n) (edge_at fs ts i) (kept fs ts (set gs i 1) n) (take_found gs x n l ∙ ap (found fs ts gs n) e)
           ∙ ap (λ (y : ℕ). turn k y (kept fs ts (set gs i 1) n)) (others i) ∙ h i ∙ rw (turned, e)
 
@@ -174,10 +180,11 @@ unfolding turned
 length_turned es os n zero x gs = refl
 length_turned es os n (suc k) x gs = go (latest_left es gs x n) refl (λ i. length_turned es os n k (get_or os i 0) (set gs i 1))
   where
-    go : (i : ℕ) → latest_left es gs x n ≡ i → ((j : ℕ) → length (turned es os n k (get_or os j 0) (set gs j 1)) ≡ length (set gs j 1))
+    go : (i : Option ℕ) → latest_left es gs x n ≡ i
+        → ((j : ℕ) → length (turned es os n k (get_or os j 0) (set gs j 1)) ≡ length (set gs j 1))
         → length (turned es os n (suc k) x gs) ≡ length gs
-    go zero e h = rw (turned, e)
-    go (suc i) e h = rw (turned, e) (h i ∙ length-set gs i 1)
+    go None e h = rw (turned, e)
+    go (Some i) e h = rw (turned, e) (h i ∙ length-set gs i 1)
 
 -- ---- the whole test at a vertex
 
@@ -216,63 +223,11 @@ module _ (fs ts : List ℕ) (m n : ℕ) (few : n ≤ m) where
       q ∙ ap (λ (js : List ℕ). all_taken js n) (g ∙ ap (turned ts fs n n (get_or fs n 0)) f) ∙ sym run_is
       ∙ ap (λ (j : ℕ). one_run (listed fs ts j)) (sym e) ∙ ap one_run h
 
--- ---- the search, the turn and the end, one law for each way through
-
-pub left_no : (es gs : List ℕ) (i x : ℕ) → (get_or gs i 0 ≡ 0 → ⊥) → false ≡ is_left es gs i x
-left_no es gs i x h = sym (left_by_lem es gs i x false (eqb (get_or es i 0) x) (ne_eqb (get_or gs i 0) 0 h) refl)
-
-pub left_is : (es gs : List ℕ) (i x : ℕ) → get_or gs i 0 ≡ 0 → eqb (get_or es i 0) x ≡ is_left es gs i x
-left_is es gs i x h = sym (left_by_lem es gs i x true (eqb (get_or es i 0) x) (eq-eqb (get_or gs i 0) 0 h) refl)
-
-pub latest_none : (es gs : List ℕ) (x n : ℕ) → n ≤ 0 → 0 ≡ latest_left es gs x n
-unfolding latest_left
-latest_none es gs x zero h = refl
-latest_none es gs x (suc n) h = absurd (omega arith)
-
-pub latest_here : (es gs : List ℕ) (x n : ℕ) (b : Bool) → 0 < n → b ≡ is_left es gs (n - 1) x → b ≡ true → n - 1 + 1 ≡ latest_left es gs x n
-latest_here es gs x zero b l h e = absurd (omega arith)
-latest_here es gs x (suc n) b l h e =
-    let q : suc n - 1 + 1 ≡ suc n = omega arith in q ∙ sym (latest_by es gs x n true (sym (simp unary_clauses at h) ∙ e))
-
-pub latest_later : (es gs : List ℕ) (x n : ℕ) (b : Bool) → 0 < n → b ≡ is_left es gs (n - 1) x → b ≡ false
-    → latest_left es gs x (n - 1) ≡ latest_left es gs x n
-latest_later es gs x zero b l h e = absurd (omega arith)
-latest_later es gs x (suc n) b l h e = simp unary_clauses (sym (latest_by es gs x n false (sym (simp unary_clauses at h) ∙ e)))
-
-pub turned_none : (es os : List ℕ) (n k x : ℕ) (gs : List ℕ) → k ≤ 0 → gs ≡ turned es os n k x gs
+-- one edge more
+pub turned_more : (es os : List ℕ) (n k j x : ℕ) (gs : List ℕ) (i : ℕ) → k ≡ suc j → latest_left es gs x n ≡ Some i
+    → turned es os n j (get_or os i 0) (set gs i 1) ≡ turned es os n k x gs
 unfolding turned
-turned_none es os n zero x gs h = refl
-turned_none es os n (suc k) x gs h = absurd (omega arith)
-
-pub turned_stop : (es os : List ℕ) (n k x : ℕ) (gs : List ℕ) (i : ℕ) → i ≡ latest_left es gs x n → i ≡ 0 → gs ≡ turned es os n k x gs
-unfolding turned
-turned_stop es os n zero x gs i h e = refl
-turned_stop es os n (suc k) x gs i h e = let q : latest_left es gs x n ≡ 0 = sym h ∙ e in rw (turned, q)
-
-pub turned_more : (es os : List ℕ) (n k x : ℕ) (gs : List ℕ) (i : ℕ) → 0 < k → i ≡ latest_left es gs x n → (i ≡ 0 → ⊥)
-    → turned es os n (k - 1) (get_or os (i - 1) 0) (set gs (i - 1) 1) ≡ turned es os n k x gs
-unfolding turned
-turned_more es os n zero x gs i l h e = absurd (omega arith)
-turned_more es os n (suc k) x gs zero l h e = absurd (e refl)
-turned_more es os n (suc k) x gs (suc i) l h e = let q : latest_left es gs x n ≡ suc i = sym h in simp unary_clauses (rw (turned, q))
-
-pub latest_most : (es gs : List ℕ) (x n i : ℕ) → i ≡ latest_left es gs x n → i ≤ n
-latest_most es gs x n i h = omega (arith, latest_below es gs x n)
-
-pub taken_all : (gs : List ℕ) (n : ℕ) → n ≤ 0 → true ≡ all_taken gs n
-unfolding all_taken
-taken_all gs zero h = refl
-taken_all gs (suc n) h = absurd (omega arith)
-
-pub taken_not : (gs : List ℕ) (n : ℕ) → 0 < n → get_or gs (n - 1) 0 ≡ 0 → false ≡ all_taken gs n
-unfolding all_taken
-taken_not gs zero l h = absurd (omega arith)
-taken_not gs (suc n) l h = rw (all_taken, eq-eqb (get_or gs n 0) 0 (simp unary_clauses at h))
-
-pub taken_more : (gs : List ℕ) (n : ℕ) → 0 < n → (get_or gs (n - 1) 0 ≡ 0 → ⊥) → all_taken gs (n - 1) ≡ all_taken gs n
-unfolding all_taken
-taken_more gs zero l h = absurd (omega arith)
-taken_more gs (suc n) l h = simp unary_clauses (rw (all_taken, ne_eqb (get_or gs n 0) 0 (λ e. h (simp unary_clauses e))))
+turned_more es os n k j x gs i d e = rw (d, turned, e) refl
 
 -- ---- the edges about a vertex
 
@@ -352,6 +307,3 @@ holds_more v xs t fs ts k fs' ts' k' l h a =
       edges = a.added (omega (arith, s.starts, h.few)) (omega (arith, s.ends, h.few)) (triangles_built xs t) h.edges
           ∙ ap (λ (n : ℕ). about v (triangles_built xs n)) q;
     }
-
-pub holds_all : (v : ℕ) (xs : List ℕ) (t n : ℕ) (fs ts : List ℕ) (k : ℕ) → t ≤ n → n ≤ t → Holds v xs t fs ts k → Holds v xs n fs ts k
-holds_all v xs t n fs ts k a b h = let q : t ≡ n = omega arith in subst (λ (j : ℕ). Holds v xs j fs ts k) q h

@@ -31,7 +31,9 @@ use Rattle.border_theory.specs.Memory.Keeps.{Roomy, Keeps, Ready}
 use Rattle.border_theory.proofs.Memory.Columns.{column_same}
 use Rattle.border_theory.proofs.Memory.Standing.{trails, rings_read}
 use Rattle.border_theory.proofs.Memory.Relinked.{current_places}
-use Rattle.state_theory.specs.Reading.Opens.{lent, SameRecords, Passes}
+use Rattle.std.specs.Prelude.{Err}
+use Rattle.rules.specs.declared.refusal.Refusal.TheVariants.{UnsoundState}
+use Rattle.state_theory.specs.Reading.Opens.{lent, SameRecords, Passes, Opens}
 use Rattle.state_theory.proofs.Reading.Records.{all_alike}
 use Rattle.state_theory.proofs.Reading.Closing.{Has, rings_has}
 use Rattle.state_theory.proofs.Reading.Current.{current_loops}
@@ -324,14 +326,14 @@ module _ (b : Builder) (xs m s : List ℕ) (k : ℕ) (m₁ m₂ : List ℕ) (one
 
 -- what the function that opens a state answers, from the answers of its parts
 pub fails_first : (b : Builder) (xs : List ℕ) (n : ℕ) (m : List ℕ) (r : Bool) → r ≡ numbers_fit b xs n → r ≡ false
-    → (sound b (lent xs n m) ≡ false) × SameRecords m m
-fails_first b xs n m r e h = (numbers_fail b xs n m (sym e ∙ h), λ i l. refl)
+    → Opens b xs n m (Err UnsoundState) m
+fails_first b xs n m r e h = (refl, (numbers_fail b xs n m (sym e ∙ h), λ i l. refl))
 
 pub fails_second : (b : Builder) (xs : List ℕ) (n : ℕ) (m s s' : List ℕ) (r t : Bool) → n ≤ max_places → r ≡ numbers_fit b xs n → r ≡ true
     → Marked (loops_mark b (records max_places m) (replicate max_places 0) b.live) s t s' → t ≡ false
-    → (sound b (lent xs n m) ≡ false) × SameRecords m m
+    → Opens b xs n m (Err UnsoundState) m
 fails_second b xs n m s s' r t few e h g f =
-    (loops_fail b xs n m (all_places b xs n few (sym e ∙ h)) (sym g.0 ∙ f), λ i l. refl)
+    (refl, (loops_fail b xs n m (all_places b xs n few (sym e ∙ h)) (sym g.0 ∙ f), λ i l. refl))
 
 pub live_few : (b : Builder) (xs : List ℕ) (n : ℕ) (r : Bool) → r ≡ numbers_fit b xs n → r ≡ true → b.live ≤ 100
 live_few b xs n r e h = few_live b xs n (sym e ∙ h)

@@ -2,84 +2,27 @@
 -- Assumes nothing.
 use Prim.Native.Nat.{ℕ, zero, suc, ◌-◌, ◌≤◌, ◌<◌}
 use native.Mathlib.Omega.{arith}
-use mathlib.Core.Bool.{Bool, true, false, ◌&&◌, ◌||◌, false≢true}
+use mathlib.Core.Bool.{Bool, true, false, ◌&&◌, false≢true}
 use mathlib.Core.List.{List}
-use mathlib.Core.Path.{◌≡◌, refl, sym, ap, ◌∙◌}
-use lib.Dec.{eqb, ltb, leb}
+use mathlib.Core.Path.{◌≡◌, refl, sym, ap, ◌∙◌, subst}
+use lib.Dec.{eqb}
 use lib.ListN.{get_or, set}
-use borrow.Author.Tests.{lt-ltb, le-ltb, le-leb, lt-leb, eq-eqb, ne_eqb}
 use Rattle.rules.specs.declared.Place.{Place}
 use Rattle.rules.specs.declared.Builder.{Builder}
 use Rattle.rules.specs.Limits.{max_places}
 use Rattle.rules.specs.View.{place_at, follow, followed, loop_places}
-use Rattle.rules.specs.Sound.{place_fits}
 use Rattle.border_theory.specs.Records.Plain.{record_at, records}
 use Rattle.state_theory.proofs.Reading.Records.{records_at}
 use Rattle.state_theory.specs.Opening.Marks.{Marked, markable, all_markable, flagged, returns, loop_marks, loops_mark, all_flagged}
 use Rattle.state_theory.proofs.Opening.Tests.{no_and, yes_and}
-use Rattle.counting.proofs.Bools.{and_no, and_both}
 
 -- a record of the memory
 pub place_record : (m : List ℕ) (i : ℕ) (p : Place) → i < max_places → p ≡ record_at m i → p ≡ place_at (records max_places m) i
 place_record m i p h e = e ∙ sym (records_at max_places m i h)
 
-module _ (ps : List Place) (v i : ℕ) (p q : Place) (ep : p ≡ place_at ps i) (eq : q ≡ place_at ps p.after) where
-  fits_as : place_fits ps v i ≡ eqb q.before i && ltb p.vertex v && (p.«open» || q.«open»)
-  fits_as =
-      ap (λ (r : Place). eqb (place_at ps r.after).before i && ltb r.vertex v && (r.«open» || (place_at ps r.after).«open»))
-      (sym ep)
-      ∙ ap (λ (r : Place). eqb r.before i && ltb p.vertex v && (p.«open» || r.«open»)) (sym eq)
-
-  pub fits_not : (q.before ≡ i → ⊥) → false ≡ place_fits ps v i
-  fits_not d = sym (fits_as ∙ ap (λ (t : Bool). t && ltb p.vertex v && (p.«open» || q.«open»)) (ne_eqb q.before i d))
-
-  module _ (e : q.before ≡ i) where
-    pub fits_above : v ≤ p.vertex → false ≡ place_fits ps v i
-    fits_above h =
-        sym (fits_as ∙ no_and (eqb q.before i && ltb p.vertex v) _
-        (and_no (eqb q.before i) (ltb p.vertex v) (le-ltb p.vertex v h)))
-
-    module _ (h : p.vertex < v) where
-      edges_fit : place_fits ps v i ≡ p.«open» || q.«open»
-      edges_fit =
-          fits_as
-          ∙ yes_and (eqb q.before i && ltb p.vertex v) (p.«open» || q.«open»)
-          (and_both (eqb q.before i) (ltb p.vertex v) (eq-eqb q.before i e) (lt-ltb p.vertex v h))
-
-      pub fits_here : p.«open» ≡ true → true ≡ place_fits ps v i
-      fits_here o = sym (edges_fit ∙ ap (λ (t : Bool). t || q.«open») o)
-
-      pub fits_next : p.«open» ≡ false → q.«open» ≡ place_fits ps v i
-      fits_next o = sym (edges_fit ∙ ap (λ (t : Bool). t || q.«open») o)
-
 -- a test that fails, whatever the flags then
 pub marked_not : (t : Bool) (s s' : List ℕ) → t ≡ false → Marked t s false s'
 marked_not t s s' e = (sym e, λ h. absurd (false≢true h))
-
-module _ (ps : List Place) (v : ℕ) (s : List ℕ) (i : ℕ) where
-  pub mark_none : (x s' : List ℕ) → max_places ≤ i → Marked (markable ps v s i) x false s'
-  unfolding markable
-  mark_none x s' h =
-      marked_not _ x s' (no_and _ (place_fits ps v i) (no_and (ltb i max_places) (eqb (get_or s i 0) 0) (le-ltb i max_places h)))
-
-  pub mark_twice : (x s' : List ℕ) → (get_or s i 0 ≡ 0 → ⊥) → Marked (markable ps v s i) x false s'
-  unfolding markable
-  mark_twice x s' h =
-      marked_not _ x s' (no_and _ (place_fits ps v i) (and_no (ltb i max_places) (eqb (get_or s i 0) 0) (ne_eqb (get_or s i 0) 0 h)))
-
-  pub mark_unfit : (x s' : List ℕ) (r : Bool) → r ≡ place_fits ps v i → r ≡ false → Marked (markable ps v s i) x false s'
-  unfolding markable
-  mark_unfit x s' r e h = marked_not _ x s' (and_no (ltb i max_places && eqb (get_or s i 0) 0) (place_fits ps v i) (sym e ∙ h))
-
-  pub mark_it : (x : List ℕ) (r : Bool) → i < max_places → get_or s i 0 ≡ 0 → r ≡ place_fits ps v i → r ≡ true
-      → Marked (markable ps v s i) x true x
-  unfolding markable
-  mark_it x r h g e t = (
-    sym (and_both _ (place_fits ps v i)
-        (and_both (ltb i max_places) (eqb (get_or s i 0) 0) (lt-ltb i max_places h) (eq-eqb (get_or s i 0) 0 g))
-        (sym e ∙ t)),
-    λ _. refl,
-  )
 
 -- of k places from e on those from x on are left, with the flags s
 pub record Walking (ps : List Place) (v : ℕ) (s₀ : List ℕ) (k e : ℕ) (s : List ℕ) (left x : ℕ) : Type 0 where
@@ -101,26 +44,22 @@ module _ (ps : List Place) (v : ℕ) (s₀ : List ℕ) (k e : ℕ) where
       ∙ no_and (markable ps v s x && all_markable ps v (set s x 1) (follow ps j n)) (eqb (followed ps j n) e)
       (no_and (markable ps v s x) (all_markable ps v (set s x 1) (follow ps j n)) (sym g.0 ∙ t)))
 
-  pub walk_more : (s : List ℕ) (left x : ℕ) (s' : List ℕ) (r : Bool) (p : Place) → Walking ps v s₀ k e s left x → 0 < left
-      → Marked (markable ps v s x) (set s x 1) r s' → r ≡ true → p ≡ place_at ps x → Walking ps v s₀ k e s' (left - 1) p.after
+  pub walk_more : (s : List ℕ) (left j x : ℕ) (s' : List ℕ) (r : Bool) (p : Place) → Walking ps v s₀ k e s left x → left ≡ suc j
+      → Marked (markable ps v s x) (set s x 1) r s' → r ≡ true → p ≡ place_at ps x → Walking ps v s₀ k e s' j p.after
   unfolding returns follow followed all_markable flagged
-  walk_more s zero x s' r p w h g t ep = absurd (omega arith)
-  walk_more s (suc j) x s' r p w h g t ep =
+  walk_more s left j x s' r p w d g t ep =
       let n = (place_at ps x).after in
-      let d : suc j - 1 ≡ j = omega arith in
       let a : p.after ≡ n = ap (λ (q : Place). q.after) ep in
       let f : s' ≡ set s x 1 = g.1 t in
+      let u : Walking ps v s₀ k e s (suc j) x = subst (λ (z : ℕ). Walking ps v s₀ k e s z x) d w in
       record {
         test =
-            ap (λ (z : List ℕ). returns ps v z (suc j - 1) p.after e) f ∙ ap (λ (z : ℕ). returns ps v (set s x 1) z p.after e) d
-            ∙ ap (λ (z : ℕ). returns ps v (set s x 1) j z e) a
+            ap (λ (z : List ℕ). returns ps v z j p.after e) f ∙ ap (λ (z : ℕ). returns ps v (set s x 1) j z e) a
             ∙ ap (λ (z : Bool). z && eqb (followed ps j n) e)
             (sym (yes_and (markable ps v s x) (all_markable ps v (set s x 1) (follow ps j n)) (sym g.0 ∙ t)))
-            ∙ w.test;
+            ∙ u.test;
         flags =
-            ap (λ (z : List ℕ). flagged z (follow ps (suc j - 1) p.after)) f
-            ∙ ap (λ (z : ℕ). flagged (set s x 1) (follow ps z p.after)) d
-            ∙ ap (λ (z : ℕ). flagged (set s x 1) (follow ps j z)) a ∙ w.flags;
+            ap (λ (z : List ℕ). flagged z (follow ps j p.after)) f ∙ ap (λ (z : ℕ). flagged (set s x 1) (follow ps j z)) a ∙ u.flags;
       }
 
   pub walk_done : (s : List ℕ) (left x : ℕ) → Walking ps v s₀ k e s left x → left ≤ 0
@@ -129,37 +68,11 @@ module _ (ps : List Place) (v : ℕ) (s₀ : List ℕ) (k e : ℕ) where
   walk_done s zero x w h = (w.test, λ _. w.flags)
   walk_done s (suc j) x w h = absurd (omega arith)
 
--- one loop
-module _ (ps : List Place) (v : ℕ) (s : List ℕ) (k e : ℕ) (y s' : List ℕ) where
-  pub loop_empty : k < 1 → Marked (loop_marks ps v s k e) y false s'
-  unfolding loop_marks
-  loop_empty h =
-      marked_not _ y s' (no_and _ (returns ps v s k e e) (no_and (leb 1 k) (place_at ps e).«open» (lt-leb 1 k h)))
-
-  pub loop_closed : (p : Place) → p ≡ place_at ps e → p.«open» ≡ false → Marked (loop_marks ps v s k e) y false s'
-  unfolding loop_marks
-  loop_closed p ep h =
-      marked_not _ y s'
-      (no_and _ (returns ps v s k e e) (and_no (leb 1 k) (place_at ps e).«open» (ap (λ (q : Place). q.«open») (sym ep) ∙ h)))
-
-  pub loop_walks : (p : Place) (r : Bool) → 1 ≤ k → p ≡ place_at ps e → p.«open» ≡ true → Marked (returns ps v s k e e) y r s'
-      → Marked (loop_marks ps v s k e) y r s'
-  unfolding loop_marks
-  loop_walks p r h ep o w = (
-    w.0
-        ∙ sym (yes_and (leb 1 k && (place_at ps e).«open») (returns ps v s k e e)
-        (and_both (leb 1 k) (place_at ps e).«open» (le-leb 1 k h) (ap (λ (q : Place). q.«open») (sym ep) ∙ o))),
-    w.1,
-  )
-
 -- of the first n loops the first w are left, with the flags s
 pub record Looping (b : Builder) (ps : List Place) (s₀ : List ℕ) (n : ℕ) (s : List ℕ) (w : ℕ) : Type 0 where
   pub within : w ≤ n
   pub test : loops_mark b ps s w ≡ loops_mark b ps s₀ n
   pub flags : all_flagged b ps s w ≡ all_flagged b ps s₀ n
-
-pub loops_start : (b : Builder) (ps : List Place) (s : List ℕ) (n : ℕ) → Looping b ps s n s n
-loops_start b ps s n = record { within = omega arith; test = refl; flags = refl }
 
 module _ (b : Builder) (ps : List Place) (s₀ : List ℕ) (n : ℕ) where
   pub loops_stop : (s : List ℕ) (w k e : ℕ) (y s' : List ℕ) (r : Bool) → Looping b ps s₀ n s w → 0 < w → k ≡ get_or b.sizes (w - 1) 0

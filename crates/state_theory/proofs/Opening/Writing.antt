@@ -1,19 +1,18 @@
 -- Laws of the free places and the waiting loops as they are written, that the functions' proofs cite.
 -- Assumes nothing.
-use Prim.Native.Nat.{ℕ, zero, suc, ◌+◌, ◌-◌, ◌*◌, ◌≤◌, ◌<◌}
+use Prim.Native.Nat.{ℕ, zero, suc, ◌+◌, ◌*◌, ◌≤◌, ◌<◌}
 use native.Mathlib.Omega.{arith}
 use mathlib.Core.Bool.{Bool, true, false, ◌&&◌}
 use mathlib.Core.List.{List}
-use mathlib.Core.Path.{◌≡◌, refl, sym, ap, ap₂, ◌∙◌, subst}
+use mathlib.Core.Path.{◌≡◌, refl, sym, ap, ◌∙◌}
 use lib.Dec.{eqb, ltb}
 use lib.ListN.{length, get_or, set, length-set}
-use lib.Seq.{get_or-set_same, get_or-set_other, lt-length-set}
+use lib.Seq.{get_or-set_same, get_or-set_other}
 use borrow.Author.Tests.{ltb-true, ltb-false, lt-ltb, le-ltb, eqb-true, eqb-false}
-use Rattle.rules.specs.declared.Builder.{Builder}
 use Rattle.rules.specs.Limits.{max_places}
 use Rattle.rules.specs.Count.{num, same}
 use Rattle.border_theory.specs.Memory.Layout.{at, stacked}
-use Rattle.state_theory.specs.Opening.Front.{FreedBelow, Waited, top_of, front_with, front_of}
+use Rattle.state_theory.specs.Opening.Front.{FreedBelow}
 use Rattle.counting.proofs.Counts.{same_yes, same_no}
 
 -- the first k of the stack are as they were
@@ -99,72 +98,3 @@ module _ (s m : List ℕ) (i k : ℕ) (m' : List ℕ) (f : FreedBelow s m i k m'
         same = λ j l. get_or-set_other m' (4 * max_places + k) j i 0 (λ q. omega (arith, q, l)) ∙ f.same j l;
         lengths = length-set m' (4 * max_places + k) i ∙ f.lengths;
       }
-
-pub freed_done : (s m : List ℕ) (i k : ℕ) (m' : List ℕ) → FreedBelow s m i k m' → i ≤ max_places → max_places ≤ i
-    → FreedBelow s m max_places k m'
-freed_done s m i k m' f h g =
-    let e : i ≡ max_places = omega (arith, h, g) in subst (λ (z : ℕ). FreedBelow s m z k m') e f
-
--- the loops that wait
-pub waited_none : (b : Builder) (m : List ℕ) → Waited b m 0 m
-waited_none b m = record {
-  places = λ w l. absurd (omega (arith, l));
-  sizes = λ w l. absurd (omega (arith, l));
-  same = λ j l. refl;
-  lengths = refl;
-}
-
-module _ (b : Builder) (m : List ℕ) (w : ℕ) (m' : List ℕ) (f : Waited b m w m') (long : 5 * max_places + 2 * (w + 1) ≤ length m) (p k : ℕ)
-    (ep : p ≡ get_or b.current w 0) (ek : k ≡ get_or b.sizes w 0) where
-  abbrev one : List ℕ
-  one = set m' (5 * max_places + 2 * w) p
-
-  abbrev two : List ℕ
-  two = set one (5 * max_places + 2 * w + 1) k
-
-  other : (j : ℕ) → (j ≡ 5 * max_places + 2 * w → ⊥) → (j ≡ 5 * max_places + 2 * w + 1 → ⊥) → at two j ≡ at m' j
-  other j c d = get_or-set_other one (5 * max_places + 2 * w + 1) j k 0 d ∙ get_or-set_other m' (5 * max_places + 2 * w) j p 0 c
-
-  place_at_lem : (j : ℕ) → j < w + 1 → (t : Bool) → eqb j w ≡ t → at two (5 * max_places + 2 * j) ≡ get_or b.current j 0
-  place_at_lem j l true e =
-      let z : j ≡ w = eqb-true j w e in
-      rw z (get_or-set_other one (5 * max_places + 2 * w + 1) (5 * max_places + 2 * w) k 0 (λ q. omega (arith, q))
-      ∙ get_or-set_same m' (5 * max_places + 2 * w) p 0 (omega (arith, f.lengths, long)) ∙ ep)
-  place_at_lem j l false e =
-      other (5 * max_places + 2 * j) (λ q. eqb-false j w e (omega (arith, q))) (λ q. omega (arith, q))
-      ∙ f.places j (omega (arith, l, eqb-false j w e))
-
-  size_at : (j : ℕ) → j < w + 1 → (t : Bool) → eqb j w ≡ t → at two (5 * max_places + 2 * j + 1) ≡ get_or b.sizes j 0
-  size_at j l true e =
-      let z : j ≡ w = eqb-true j w e in
-      rw z (get_or-set_same one (5 * max_places + 2 * w + 1) k 0
-      (omega (arith, length-set m' (5 * max_places + 2 * w) p, f.lengths, long)) ∙ ek)
-  size_at j l false e =
-      other (5 * max_places + 2 * j + 1) (λ q. omega (arith, q)) (λ q. eqb-false j w e (omega (arith, q)))
-      ∙ f.sizes j (omega (arith, l, eqb-false j w e))
-
-  pub waited_more : Waited b m (w + 1) two
-  waited_more = record {
-    places = λ j l. place_at_lem j l (eqb j w) refl;
-    sizes = λ j l. size_at j l (eqb j w) refl;
-    same = λ j l. other j (λ q. omega (arith, q, l)) (λ q. omega (arith, q, l)) ∙ f.same j l;
-    lengths = length-set one (5 * max_places + 2 * w + 1) k ∙ length-set m' (5 * max_places + 2 * w) p ∙ f.lengths;
-  }
-
--- there is room for a loop's second number
-pub second_inside : (b : Builder) (m : List ℕ) (w : ℕ) (m' : List ℕ) → Waited b m w m' → 5320 ≤ length m → w < 100 → (x : ℕ)
-    → 5 * max_places + 2 * w + 1 < length (set m' (5 * max_places + 2 * w) x)
-second_inside b m w m' f l h x = lt-length-set m' (5 * max_places + 2 * w) x (omega (arith, f.lengths, l, h))
-
-pub waited_done : (b : Builder) (m : List ℕ) (w : ℕ) (m' : List ℕ) (n : ℕ) → Waited b m w m' → w ≤ n → n ≤ w → Waited b m n m'
-waited_done b m w m' n f h g =
-    let e : w ≡ n = omega (arith, h, g) in subst (λ (z : ℕ). Waited b m z m') e f
-
-pub top_last : (xs : List ℕ) (n : ℕ) → (n ≡ 0 → ⊥) → get_or xs (n - 1) 0 ≡ top_of xs n
-top_last xs zero d = absurd (d refl)
-top_last xs (suc n) d = let e : suc n - 1 ≡ n = omega arith in ap (λ (i : ℕ). get_or xs i 0) e
-
--- the core's state, from its parts
-pub front_is : (b : Builder) (k e z : ℕ) → e ≡ top_of b.current b.live → z ≡ top_of b.sizes b.live
-    → front_with b k e z ≡ front_of b k
-front_is b k e z p q = ap₂ (front_with b k) p q

@@ -12,12 +12,13 @@ use borrow.Author.Tests.{le-leb, ltb-true, ltb-false, eqb-true, eqb-false}
 use Rattle.rules.specs.declared.Operation.{Operation}
 use Rattle.rules.specs.declared.Place.{Place}
 use Rattle.rules.specs.declared.Builder.{Builder}
-use Rattle.rules.specs.declared.Performed.{Performed}
+use Rattle.rules.specs.Operated.{Performed}
 use Rattle.rules.specs.Limits.{max_places}
 use Rattle.rules.specs.Count.{same, occurs}
 use Rattle.rules.specs.Check.{all_below}
 use Rattle.rules.specs.Places.{rings_after}
 use Rattle.rules.specs.Machine.{Machine, Step, refused, begun, built, declared, finished, operation, finishing, long_enough}
+use Rattle.rules.specs.Answer.{refusal}
 use Rattle.rules.specs.Book.{answer_of}
 use Rattle.rules.specs.Buffer.{free_place, Buffers, lengths}
 use Rattle.rules.specs.View.{place_at, places_of}
@@ -37,7 +38,7 @@ use Rattle.state_theory.proofs.Reading.Alike.{Alike, All, all_below_lem, placed_
 use Rattle.state_theory.proofs.Reading.Lifting.{loaded_sound, loaded_view}
 use Rattle.state_theory.proofs.Reading.Rings.{places_placed}
 use Rattle.promises.specs.Promises.{lent_to, Operating}
-use Rattle.state_theory.specs.Performing.Core.{rings_of, Written, Accepts, Done, OperatesOn}
+use Rattle.state_theory.specs.Performing.Core.{rings_of, Written, Accepts, Done, OperatesOn, refused_with}
 use Rattle.state_theory.proofs.Performing.Back.{written_back, linked_list, freed_list, back_is, length_linked, length_freed, freed_in}
 use Rattle.state_theory.proofs.Performing.Back.{freed_out, linked_in, linked_out}
 use Rattle.counting.proofs.Bools.{and_left, and_right}
@@ -294,6 +295,23 @@ operates_lent b o xs ps r xs' m' ps' p e =
           lifted b o xs ps r.state xs' m' (λ h. sound_links b (lent_to xs ps) h) (operates b (lent_to xs ps) o) (only_sound b xs ps o)
           (subst (λ (x : Step). Done b o xs (memory_of ps) (counted ps) x r.state xs' m') (sym s) p.after);
     })
+
+-- a refusal writes nothing back
+nothing_written : (b : Builder) (o : Operation) (xs m : List ℕ) (n : ℕ) (ps : List Place) (b' : Builder) (xs' m' : List ℕ) (k : ℕ)
+    (x : Step)
+    → refusal k ≡ answer_of x → Done b o xs m n x b' xs' m' → written_back m' ps ≡ ps
+nothing_written b o xs m n ps b' xs' m' k (refused j) e d = nothing_back m' ps d.links d.frees
+nothing_written b o xs m n ps b' xs' m' k (begun M) e d = absurd d
+nothing_written b o xs m n ps b' xs' m' k (built t M) e d = cc
+nothing_written b o xs m n ps b' xs' m' k (declared t M) e d = cc
+nothing_written b o xs m n ps b' xs' m' k (finished t) e d = absurd d
+
+pub refused_lent : (b : Builder) (o : Operation) (xs : List ℕ) (ps : List Place) (b' : Builder) (k : ℕ) (xs' m' : List ℕ)
+    → OperatesOn b o xs (memory_of ps) (counted ps) (refused_with b' k) xs' m' → Operating b o xs ps (refused_with b' k) xs' ps
+refused_lent b o xs ps b' k xs' m' p =
+    operates_lent b o xs ps (refused_with b' k) xs' m' ps p
+    (sym (nothing_written b o xs (memory_of ps) (counted ps) ps b' xs' m' k (operates b (lent xs (counted ps) (memory_of ps)) o) p.answer
+    p.after))
 
 -- a finish
 pub finishes_same : (b : Builder) (xs : List ℕ) (ps : List Place)

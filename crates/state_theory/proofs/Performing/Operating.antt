@@ -13,11 +13,10 @@ use Rattle.rules.specs.declared.Operation.{Operation}
 use Rattle.rules.specs.declared.Place.{Place}
 use Rattle.rules.specs.declared.Builder.{Builder}
 use Rattle.rules.specs.declared.Triangle.{Triangle}
-use Rattle.rules.specs.declared.Operated.TheVariants as O
-use Rattle.rules.specs.declared.Performed.{Performed}
+use Rattle.rules.specs.Operated as O
+use Rattle.rules.specs.Operated.{Performed}
 use Rattle.rules.specs.Limits.{max_places, max_loops, in_range}
 use Rattle.rules.specs.Check.{all_below}
-use Rattle.rules.specs.Ring.{places}
 use Rattle.rules.specs.Triangle.{edge}
 use Rattle.rules.specs.Table.{edge_rule}
 use Rattle.rules.specs.Machine.{Machine, Step, refused, begun, built, declared, finished, operation}
@@ -31,20 +30,20 @@ use Rattle.book.specs.Reached.{reached}
 use Rattle.border_theory.proofs.Links.Named.{named_lives}
 use Rattle.cutborder.specs.declared.Front.{Front}
 use Rattle.cutborder.specs.declared.Plan.{Plan}
-use Rattle.cutborder.specs.declared.Decided.{Decided}
-use Rattle.cutborder.specs.declared.Decided.TheVariants as D
+use Rattle.cutborder.specs.declared.Action.TheVariants.{Builds, Marks}
+use Rattle.std.specs.Prelude.{Ok, Err}
+use Rattle.rules.specs.declared.refusal.Refusal.{Refusal}
+use Rattle.rules.specs.Refusal.{number_of}
 use Rattle.border_theory.specs.Memory.Layout.{at, vertices_of}
 use Rattle.border_theory.specs.Memory.Stands.{rings_in}
 use Rattle.border_theory.specs.Memory.Moves.{Held, marked_held}
-use Rattle.border_theory.specs.Memory.Decision.{decided, side_of, held_after, built_front, marked_front}
+use Rattle.border_theory.specs.Memory.Decision.{Decided, decided, side_of, held_after, built_front, marked_front}
 use Rattle.border_theory.specs.Memory.Keeps.{Keeps}
 use Rattle.border_theory.proofs.Memory.Deciding.{stands_live}
 use Rattle.border_theory.proofs.Memory.Next.{decides_as, refused_next, rule_refused, built_step, built_keeps, marked_step, marked_keeps}
 use Rattle.border_theory.proofs.Memory.Next.{marks_live}
 use Rattle.border_theory.specs.Records.Plain.{records}
-use Rattle.cutborder.specs.declared.Opened.{Opened}
-use Rattle.cutborder.specs.declared.Opened.TheVariants.{Passed, Failed}
-use Rattle.state_theory.specs.Reading.Opens.{lent, Passes, Opens}
+use Rattle.state_theory.specs.Reading.Opens.{lent, Passes, Opened, Opens}
 use Rattle.state_theory.specs.Reading.Closing.{builder_of}
 use Rattle.state_theory.proofs.Reading.Records.{all_alike}
 use Rattle.state_theory.proofs.Reading.Closing.{closes}
@@ -74,29 +73,29 @@ use Rattle.promises.proofs.Kept.{built_long}
 abbrev pub built_with : Builder → Triangle → Performed
 built_with b t = record { state = b; answer = O.Built t }
 
--- a refusal
-refuses : (b : Builder) (o : Operation) (xs m : List ℕ) (n : ℕ) (m' : List ℕ) (k : ℕ) → operates b (lent xs n m) o ≡ refused k
-    → at m' 5320 ≡ 0 → at m' 5327 ≡ 0 → (r : Performed) → r ≡ refused_with b k → OperatesOn b o xs m n r xs m'
-refuses b o xs m n m' k e c d r er =
-    subst (λ (q : Performed). OperatesOn b o xs m n q xs m') (sym er)
-    (record {
-      answer = sym (ap answer_of e);
-      after = subst (λ (x : Step). Done b o xs m n x b xs m') (sym e) (record { state = refl; triangles = refl; links = c; frees = d });
-    })
-
 -- a memory that notes nothing
 abbrev pub unnoted : List ℕ → List ℕ
 unnoted m = noted m (listed []) 0 0
 
--- 21
-pub opens_failed : (b : Builder) (o : Operation) (xs m : List ℕ) (n : ℕ) (m₁ m' : List ℕ) (x : Opened) → Opens b xs n m x m₁ → x ≡ Failed
-    → m' ≡ unnoted m₁ → (r : Performed) → r ≡ refused_with b 21 → OperatesOn b o xs m n r xs m'
-opens_failed b o xs m n m₁ m' x h e em =
-    let f = subst (λ (y : Opened). Opens b xs n m y m₁) e h in
-    refuses b o xs m n m' 21 (ap (λ (t : Bool). elim t [ true ↦ operation (viewed b (lent xs n m)) o | false ↦ refused 21 ]) f.0)
-    (ap (λ (z : List ℕ). at z 5320) em ∙ nothing_linked m₁) (ap (λ (z : List ℕ). at z 5327) em ∙ nothing_freed m₁)
+-- a refusal
+refuses : (b : Builder) (o : Operation) (xs m : List ℕ) (n : ℕ) (m₁ : List ℕ) (k : ℕ) → operates b (lent xs n m) o ≡ refused k
+    → OperatesOn b o xs m n (refused_with b k) xs (unnoted m₁)
+refuses b o xs m n m₁ k e = record {
+  answer = sym (ap answer_of e);
+  after =
+      subst (λ (x : Step). Done b o xs m n x b xs (unnoted m₁)) (sym e)
+      (record { state = refl; triangles = refl; links = nothing_linked m₁; frees = nothing_freed m₁ });
+}
 
-pub opens_passed : (b : Builder) (xs : List ℕ) (n : ℕ) (m m' : List ℕ) (x : Opened) (f : Front) → Opens b xs n m x m' → x ≡ Passed f
+-- 21
+pub opens_failed : (b : Builder) (o : Operation) (xs m : List ℕ) (n : ℕ) (m₁ : List ℕ) (x : Opened) (e : Refusal)
+    → Opens b xs n m x m₁ → x ≡ Err e → OperatesOn b o xs m n (refused_with b (number_of e)) xs (unnoted m₁)
+opens_failed b o xs m n m₁ x e h q =
+    let f = subst (λ (y : Opened). Opens b xs n m y m₁) q h in
+    subst (λ (z : Refusal). OperatesOn b o xs m n (refused_with b (number_of z)) xs (unnoted m₁)) (sym f.0)
+    (refuses b o xs m n m₁ 21 (ap (λ (t : Bool). elim t [ true ↦ operation (viewed b (lent xs n m)) o | false ↦ refused 21 ]) f.1.0))
+
+pub opens_passed : (b : Builder) (xs : List ℕ) (n : ℕ) (m m' : List ℕ) (x : Opened) (f : Front) → Opens b xs n m x m' → x ≡ Ok f
     → Passes b xs n m f m'
 opens_passed b xs n m m' x f h e = subst (λ (y : Opened). Opens b xs n m y m') e h
 
@@ -143,15 +142,15 @@ from_open b o xs n m f m₁ p r xs' m' h =
           (done_from b o xs m m₁ n (operates b (lent xs max_places m₁) o) r.state xs' m' p.whole e h.after);
     }
 
--- what marking gives back, and the note of it
+-- what marking leaves, and the note of it
 pub marked_given : (f : Front) (m : List ℕ) (f' : Front) (m₁ : List ℕ) (b : Builder) (t : Touched) (m' : List ℕ)
     → f' ≡ marked_front max_places f (marked_held max_places f.loops m).loops → m₁ ≡ (marked_held max_places f.loops m).memory
     → b ≡ builder_of f' m₁
     → t ≡ listed (touched_by max_places f.loops m Border 0) → m' ≡ noted m₁ t f.loops.free f'.loops.free
-    → MarkedIn f m (marked_with b) m'
+    → MarkedIn f m b m'
 unfolding marked_front
 marked_given f m f' m₁ b t m' ef em eb et en = (
-  ap marked_with (eb ∙ ap₂ builder_of ef em),
+  eb ∙ ap₂ builder_of ef em,
   en ∙ ap₂ (λ (z : List ℕ) (v : Touched). noted z v f.loops.free f'.loops.free) em et
       ∙ ap (λ (z : Front). noted (marked_held max_places f.loops m).memory (listed (touched_by max_places f.loops m Border 0))
       f.loops.free z.loops.free) ef,
@@ -159,7 +158,7 @@ marked_given f m f' m₁ b t m' ef em eb et en = (
 
 -- what the function that lists the places touched asks
 pub can_touch : (b : Builder) (o : Operation) (xs m : List ℕ) (f : Front) → Open b xs m f → (p : Plan)
-    → decided max_places f m o ≡ D.Builds p
+    → decided max_places f m o ≡ Ok (Builds p)
     → Performs max_places f.loops m 0 o p.place
 can_touch b o xs m f w p e = at_zero o (performs max_places f m o p w.ready e)
   where
@@ -210,12 +209,10 @@ module _ (b : Builder) (o : Operation) (xs m : List ℕ) (f : Front) (w : Open b
       omega (arith, room, e, w.keeps.triangles, (within_each M ranges.counts).triangles)
 
   -- 16 and 17
-  pub decision_refused : (d : Decided) (k : ℕ) → d ≡ decided max_places f m o → d ≡ D.Refused k → (m' : List ℕ) → m' ≡ unnoted m
-      → (r : Performed) → r ≡ refused_with b k → OperatesOn b o xs m max_places r xs m'
-  decision_refused d k i e m' em =
-      refuses b o xs m max_places m' k (goes_on ∙ refused_next max_places f m M o w.keeps ranges k (sym i ∙ e))
-      (ap (λ (z : List ℕ). at z 5320) em ∙ nothing_linked m)
-      (ap (λ (z : List ℕ). at z 5327) em ∙ nothing_freed m)
+  pub decision_refused : (d : Decided) (k : Refusal) → d ≡ decided max_places f m o → d ≡ Err k
+      → OperatesOn b o xs m max_places (refused_with b (number_of k)) xs (unnoted m)
+  decision_refused d k i e =
+      refuses b o xs m max_places m (number_of k) (goes_on ∙ refused_next max_places f m M o w.keeps ranges k (sym i ∙ e))
 
   -- what follows the machine
   after_machine : Follows M (operation M o)
@@ -302,7 +299,7 @@ module _ (b : Builder) (o : Operation) (xs m : List ℕ) (f : Front) (w : Open b
         }
 
   -- a planned triangle: t is what the edge rule says
-  module _ (p : Plan) (e : decided max_places f m o ≡ D.Builds p) (t : Bool)
+  module _ (p : Plan) (e : decided max_places f m o ≡ Ok (Builds p)) (t : Bool)
       (i : t ≡ edge_rule p.triangle (side_of p.pq) (side_of p.qr) (side_of p.rp) (triangles_built xs f.built)) where
     rule_is : edge_rule p.triangle (side_of p.pq) (side_of p.qr) (side_of p.rp) M.triangles ≡ t
     unfolding view
@@ -311,12 +308,9 @@ module _ (b : Builder) (o : Operation) (xs m : List ℕ) (f : Front) (w : Open b
         ∙ sym i
 
     -- 18
-    pub rule_fails : not t ≡ true → (m' : List ℕ) → m' ≡ unnoted m → (r : Performed) → r ≡ refused_with b 18
-        → OperatesOn b o xs m max_places r xs m'
-    rule_fails h m' em =
-        refuses b o xs m max_places m' 18 (goes_on ∙ rule_refused max_places f m M o w.keeps ranges p e (rule_is ∙ not-true t h))
-        (ap (λ (z : List ℕ). at z 5320) em ∙ nothing_linked m)
-        (ap (λ (z : List ℕ). at z 5327) em ∙ nothing_freed m)
+    pub rule_fails : not t ≡ true → OperatesOn b o xs m max_places (refused_with b 18) xs (unnoted m)
+    rule_fails h =
+        refuses b o xs m max_places m 18 (goes_on ∙ rule_refused max_places f m M o w.keeps ranges p e (rule_is ∙ not-true t h))
 
     module _ (h : not t ≡ false) where
       abbrev M₁ : Machine
@@ -372,7 +366,7 @@ module _ (b : Builder) (o : Operation) (xs m : List ℕ) (f : Front) (w : Open b
           let s : f.built + 1 ≡ suc n = omega (arith, built_same) in
           let l : 3 * n + 3 ≤ length xs = omega (arith, write_room.0, built_same) in
           let ys : List ℕ = with_triangle n p.triangle xs in
-          let u = (decides_as max_places f m M o w.keeps ranges (D.Builds p) e).unchanged.lengths in
+          let u = (decides_as max_places f m M o w.keeps ranges (Ok (Builds p)) e).unchanged.lengths in
           accepts M₁ grown.next f₁ h₁ same₁ kept (touched_by max_places f.loops m o p.place)
           (built_tidy max_places f m M o w.keeps ranges w.ready p e) (few_touched max_places f.loops m o p.place) ys
           (written_long xs n p.triangle l) built_next
@@ -406,7 +400,7 @@ module _ (b : Builder) (o : Operation) (xs m : List ℕ) (f : Front) (w : Open b
           }
 
   -- an edge to be marked as border
-  module _ (d : Decided) (x y : ℕ) (i : d ≡ decided max_places f m o) (e : d ≡ D.Marks x y) where
+  module _ (d : Decided) (x y : ℕ) (i : d ≡ decided max_places f m o) (e : d ≡ Ok (Marks x y)) where
     abbrev M₂ : Machine
     M₂ = reached M (operation M o)
 
@@ -447,7 +441,7 @@ module _ (b : Builder) (o : Operation) (xs m : List ℕ) (f : Front) (w : Open b
         (noted m₂ (listed (touched_by max_places f.loops m Border 0)) f.loops.free h₂.loops.free)
     unfolding marked_front view
     marked_accepts big =
-        let u = (decides_as max_places f m M o w.keeps ranges (D.Marks x y) (sym i ∙ e)).unchanged.lengths in
+        let u = (decides_as max_places f m M o w.keeps ranges (Ok (Marks x y)) (sym i ∙ e)).unchanged.lengths in
         accepts M₂ follows_it.next f₂ h₂ same₂ kept_it (touched_by max_places f.loops m Border 0)
         (marked_tidy max_places f m M o w.keeps ranges w.ready x y (sym i ∙ e)) (few_touched max_places f.loops m Border 0) xs refl
         marked_next
@@ -455,16 +449,14 @@ module _ (b : Builder) (o : Operation) (xs m : List ℕ) (f : Front) (w : Open b
         ∙ below_more b.used M₂.used follows_it.next.more (take (3 * b.built) xs) (parts b r₀ w.passes).triangles)
         (omega (arith, big, u))
 
-    pub edge_marked : 5328 ≤ length m → (r : Performed) (m' : List ℕ)
-        → m' ≡ noted m₂ (listed (touched_by max_places f.loops m Border 0)) f.loops.free h₂.loops.free
-        → r ≡ marked_with (builder_of f₂ m₂)
-        → OperatesOn b o xs m max_places r xs m'
-    edge_marked big r m' em er =
+    pub edge_marked : 5328 ≤ length m → (b' : Builder) (m' : List ℕ) → MarkedIn f m b' m'
+        → OperatesOn b o xs m max_places (marked_with b') xs m'
+    edge_marked big b' m' h =
         let z : operates b r₀ o ≡ declared (edge x y) M₂ = goes_on ∙ declares_it in
-        subst (λ (q : Performed). OperatesOn b o xs m max_places q xs m') (sym er)
-        (record {
+        record {
           answer = sym (ap answer_of z);
           after =
-              subst (λ (s : Step). Done b o xs m max_places s (builder_of f₂ m₂) xs m') (sym z)
-              (subst (λ (m₁ : List ℕ). Accepts b o xs m max_places M₂ (builder_of f₂ m₂) xs m₁) (sym em) (marked_accepts big));
-        })
+              subst (λ (s : Step). Done b o xs m max_places s b' xs m') (sym z)
+              (subst (λ (c : Builder). Accepts b o xs m max_places M₂ c xs m') (sym h.0)
+              (subst (λ (m₁ : List ℕ). Accepts b o xs m max_places M₂ (builder_of f₂ m₂) xs m₁) (sym h.1) (marked_accepts big)));
+        }

@@ -12,7 +12,7 @@ use Rattle.rules.specs.declared.Place.{Place}
 use Rattle.rules.specs.declared.Builder.{Builder}
 use Rattle.rules.specs.Limits.{max_places, in_range}
 use Rattle.rules.specs.Check.{all_below}
-use Rattle.rules.specs.Ring.{vertex, places}
+use Rattle.rules.specs.Ring.{places}
 use Rattle.rules.specs.Machine.{long_enough}
 use Rattle.rules.specs.Buffer.{Buffers, lengths}
 use Rattle.rules.specs.View.{place_at, follow, nodes, loop_places, places_of, loops_of, triangles_built, view}

@@ -4,10 +4,10 @@
 use Rattle.std.specs.Prelude.{ℕ, ◌*◌, ◌≤◌, List, ◌≡◌, length}
 use Rattle.rules.specs.declared.Counts.{Counts}
 use Rattle.rules.specs.declared.Builder.{Builder}
-use Rattle.rules.specs.declared.Begun.{Begun}
-use Rattle.rules.specs.declared.Checked.{Checked}
-use Rattle.rules.specs.declared.Checked.TheVariants.{Accepted, Refused}
-use Rattle.rules.specs.declared.Finished.{Finished}
+use Rattle.rules.specs.Begun.{Begun}
+use Rattle.rules.specs.Checked.{Checked}
+use Rattle.rules.specs.Checked.{Accepted, Refused}
+use Rattle.rules.specs.Finished.{Finished}
 use Rattle.rules.specs.Limits.{max_places, max_triangles}
 use Rattle.rules.specs.View.{triangles_built}
 use Rattle.rules.specs.Machine.{Machine, finishing}

@@ -1,7 +1,8 @@
 -- The fan test over arrays: the edges about a vertex in two arrays, fs of their starts and ts of their ends, the latest triangle's
 -- last; and marks gs, not zero for an edge that is taken.
 -- Assumes nothing.
-use Rattle.std.specs.Prelude.{ℕ, zero, suc, ◌+◌, ◌≤◌, ◌<◌, Bool, true, false, List, [], ◌∷◌, ◌≡◌, length, get_or, set, eqb}
+use Rattle.std.specs.Prelude.{ℕ, zero, suc, ◌+◌, ◌≤◌, ◌<◌, Bool, true, false, Option, Some, None, List, [], ◌∷◌, ◌≡◌, length, get_or, set}
+use Rattle.std.specs.Prelude.{eqb}
 use Rattle.rules.specs.declared.Triangle.{Triangle}
 use Rattle.rules.specs.Triangle.{Edge, edge}
 use Rattle.rules.specs.Limits.{max_triangles}
@@ -21,17 +22,17 @@ listed fs ts (suc n) = edge_at fs ts n ∷ listed fs ts n
 unfoldable pub is_left : List ℕ → List ℕ → ℕ → ℕ → Bool
 is_left es gs i x = elim (eqb (get_or gs i 0) 0) [ true ↦ eqb (get_or es i 0) x | false ↦ false ]
 
--- 1 more than the latest such edge below n, or 0 for none
-unfoldable pub latest_left : List ℕ → List ℕ → ℕ → ℕ → ℕ
-latest_left es gs x zero = 0
-latest_left es gs x (suc n) = elim (is_left es gs n x) [ true ↦ suc n | false ↦ latest_left es gs x n ]
+-- the latest such edge below n
+unfoldable pub latest_left : List ℕ → List ℕ → ℕ → ℕ → Option ℕ
+latest_left es gs x zero = None
+latest_left es gs x (suc n) = elim (is_left es gs n x) [ true ↦ Some n | false ↦ latest_left es gs x n ]
 
 -- the marks after turning from x as far as it goes, by at most k of the first n edges, each taken from its end in the array near to
 -- that in far
 unfoldable pub turned : List ℕ → List ℕ → ℕ → ℕ → ℕ → List ℕ → List ℕ
 turned near far n zero x gs = gs
 turned near far n (suc k) x gs =
-    elim (latest_left near gs x n) [ zero ↦ gs | suc i ↦ turned near far n k (get_or far i 0) (set gs i 1) ]
+    elim (latest_left near gs x n) [ None ↦ gs | Some i ↦ turned near far n k (get_or far i 0) (set gs i 1) ]
 
 -- all of the first n edges are taken
 unfoldable pub all_taken : List ℕ → ℕ → Bool

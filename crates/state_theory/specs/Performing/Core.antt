@@ -1,12 +1,14 @@
 -- What the core of the building operation promises, over the first n records of the plain memory.
 -- Assumes nothing.
-use Rattle.std.specs.Prelude.{ℕ, ◌-◌, ◌≤◌, ◌<◌, ◌+◌, true, List, [], ◌≡◌, drop, replicate}
+use Rattle.std.specs.Prelude.{ℕ, ◌-◌, ◌≤◌, ◌<◌, ◌+◌, true, List, [], ◌≡◌, drop, replicate, Result, Ok, Err, Option}
 use Rattle.rules.specs.declared.Operation.{Operation}
 use Rattle.rules.specs.declared.Place.{Place}
 use Rattle.rules.specs.declared.Builder.{Builder}
 use Rattle.rules.specs.declared.Operation.TheVariants.{Border}
-use Rattle.rules.specs.declared.Operated.TheVariants.{Marked, Refused}
-use Rattle.rules.specs.declared.Performed.{Performed}
+use Rattle.rules.specs.declared.Triangle.{Triangle}
+use Rattle.rules.specs.declared.refusal.Refusal.{Refusal}
+use Rattle.rules.specs.Operated.{Marked, Refused}
+use Rattle.rules.specs.Operated.{Performed}
 use Rattle.rules.specs.Limits.{max_places, max_loops}
 use Rattle.rules.specs.Count.{occurs}
 use Rattle.rules.specs.Ring.{Ring}
@@ -93,13 +95,14 @@ refused_with b k = record { state = b; answer = Refused k }
 abbrev pub marked_with : Builder → Performed
 marked_with b = record { state = b; answer = Marked }
 
--- a refusal notes nothing
-abbrev pub RefusedIn : List ℕ → Builder → ℕ → Performed → List ℕ → Type 0
-RefusedIn m b k r m' = (r ≡ refused_with b k) × (m' ≡ noted m (listed []) 0 0)
+-- the memory m after a result, once a refusal has noted that nothing was touched
+abbrev pub told_after : Result (Option Triangle) Refusal → List ℕ → List ℕ
+told_after (Ok x) m = m
+told_after (Err e) m = noted m (listed []) 0 0
 
 -- the edge is marked: the state after it, and the note of what that touched
-abbrev pub MarkedIn : Front → List ℕ → Performed → List ℕ → Type 0
-MarkedIn f m r m' =
+abbrev pub MarkedIn : Front → List ℕ → Builder → List ℕ → Type 0
+MarkedIn f m b' m' =
     let h = marked_held max_places f.loops m in
-    (r ≡ marked_with (builder_of (marked_front max_places f h.loops) h.memory))
+    (b' ≡ builder_of (marked_front max_places f h.loops) h.memory)
     × (m' ≡ noted h.memory (listed (touched_by max_places f.loops m Border 0)) f.loops.free h.loops.free)

@@ -1,7 +1,7 @@
 -- A builder's state and the core's: what is promised of the way from the one to the other. The records of the lent place list stand in
 -- the first 4,096 numbers of the plain memory.
 -- Assumes nothing.
-use Rattle.std.specs.Prelude.{ℕ, ◌*◌, ◌<◌, true, false, List, ◌≡◌, length}
+use Rattle.std.specs.Prelude.{ℕ, ◌*◌, ◌<◌, true, false, List, ◌≡◌, length, Result, Ok, Err}
 use Rattle.rules.specs.declared.Builder.{Builder}
 use Rattle.rules.specs.Limits.{max_places}
 use Rattle.rules.specs.Buffer.{Buffers}
@@ -13,8 +13,8 @@ use Rattle.cutborder.specs.declared.Front.{Front}
 use Rattle.border_theory.specs.Memory.Layout.{at}
 use Rattle.border_theory.specs.Memory.Stands.{rings_in}
 use Rattle.border_theory.specs.Memory.Keeps.{Ready, Keeps}
-use Rattle.cutborder.specs.declared.Opened.{Opened}
-use Rattle.cutborder.specs.declared.Opened.TheVariants.{Passed, Failed}
+use Rattle.rules.specs.declared.refusal.Refusal.{Refusal}
+use Rattle.rules.specs.declared.refusal.Refusal.TheVariants.{UnsoundState}
 
 -- the buffers that a core works on: the triangle buffer xs, and the first n records of the memory m
 abbrev pub lent : List ℕ → ℕ → List ℕ → Buffers
@@ -35,7 +35,10 @@ pub record Passes (b : Builder) (xs : List ℕ) (n : ℕ) (m : List ℕ) (f : Fr
   pub lengths : length m' ≡ length m
   pub same : SameRecords m m'
 
--- the test of 21, and the way to the core
+-- what the way to the core comes to: the core's state of one that passes 21, or 21
+abbrev pub Opened : Type 0
+Opened = Result Front Refusal
+
 abbrev pub Opens : Builder → List ℕ → ℕ → List ℕ → Opened → List ℕ → Type 0
-Opens b xs n m (Passed f) m' = Passes b xs n m f m'
-Opens b xs n m Failed m' = (sound b (lent xs n m) ≡ false) × SameRecords m m'
+Opens b xs n m (Ok f) m' = Passes b xs n m f m'
+Opens b xs n m (Err e) m' = (e ≡ UnsoundState) × ((sound b (lent xs n m) ≡ false) × SameRecords m m')

@@ -6,6 +6,3 @@ use Rattle.builder.proofs.fan.all_runs.Given as goal
 
 abbrev pub invariant-loop-u : goal.invariant-loop-u
 invariant-loop-u l = (l.u ≤ l.v) × (one_fan_each l.u (triangles_built l.triangles l.n) ≡ one_fan_each l.v (triangles_built l.triangles l.n))
-
-abbrev pub decreases-loop-u : goal.decreases-loop-u
-decreases-loop-u l = l.u

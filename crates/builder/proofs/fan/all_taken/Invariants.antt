@@ -5,6 +5,3 @@ use Rattle.builder.proofs.fan.all_taken.Given as goal
 
 abbrev pub invariant-loop-i : goal.invariant-loop-i
 invariant-loop-i l = (l.i ≤ l.n) × (all_taken l.gone l.i ≡ all_taken l.gone l.n)
-
-abbrev pub decreases-loop-i : goal.decreases-loop-i
-decreases-loop-i l = l.i

@@ -1,16 +1,21 @@
-use Prim.Native.Nat.{◌-◌}
-use native.Mathlib.Omega.{arith}
+use Rattle.std.proofs.Common.{arith, rules, ◌≡◌}
 use Rattle.rules.specs.Limits.{max_triangles}
-use Rattle.rules.specs.Fan.{about}
-use Rattle.rules.specs.View.{triangles_built}
-use Rattle.state_theory.proofs.Finishing.Turning.{no_run, is_run}
+use Rattle.state_theory.proofs.Finishing.Turning.{holds_none, holds_more, no_run, is_run}
 use Rattle.builder.proofs.fan.is_run.Goals as goal
 
-pub returns-then-k-eq0 : goal.returns-then-k-eq0
-returns-then-k-eq0 c = no_run _ _ _ _ c.if-k-eq0.true c.collect-k.ensures.edges
+pub loop-t-init : goal.loop-t-init
+loop-t-init c = holds_none _ _ _ _ (search rules)
+
+pub loop-t-preserved : goal.loop-t-preserved
+loop-t-preserved c = holds_more _ _ _ _ _ _ _ _ _ (omega (arith, c.requires.0)) c.loop-t.invariant c.see.ensures
+
+pub returns-in_default : goal.returns-in_default
+returns-in_default c =
+    let e : c.loop-t.t ≡ c.args.n = omega arith in
+    no_run _ _ _ _ (search rules) (rw e at c.loop-t.invariant.edges)
 
 pub returns : goal.returns
-returns c = is_run _ _ max_triangles (c.collect-k.result - 1) (omega (arith, c.collect-k.ensures.few, c.requires.0)) c.collect-k.result
-    (omega (arith, c.if-k-eq0.false))
-    (about c.args.v (triangles_built c.args.triangles.now c.args.n)) c.collect-k.ensures.edges _ _ c.turn.ensures
-    c.turn-2.ensures _ c.all_taken.ensures
+returns c =
+    let e : c.loop-t.t ≡ c.args.n = omega arith in
+    is_run _ _ max_triangles _ (search rules) _ (search rules) _ (rw e at c.loop-t.invariant.edges) _ _ c.turn.ensures c.turn-2.ensures _
+    c.all_taken.ensures

@@ -1,8 +1,6 @@
+use Prim.Native.Nat.{◌-◌}
 use Rattle.chooser.proofs.Looking.{Looking}
 use Rattle.chooser.proofs.seek.waiting_seat.Given as goal
 
-abbrev pub invariant-loop-left : goal.invariant-loop-left
-invariant-loop-left l = Looking l.m l.x l.y l.initial.left l.initial.w l.left l.w
-
-abbrev pub decreases-loop-left : goal.decreases-loop-left
-decreases-loop-left l = l.left
+abbrev pub invariant-loop-w : goal.invariant-loop-w
+invariant-loop-w l = Looking l.m l.x l.y (l.l.live - 1) 1 (l.l.live - l.w) l.w

@@ -1,10 +1,11 @@
-use mathlib.Core.Path.{◌≡◌}
-use Rattle.cells_theory.specs.Bytes.{Whole}
-use Rattle.melting_theory.specs.Runs.{Comes, to_read}
+-- The reading goes on from the counts stated: as many operations may be read as turns are left.
+use Rattle.std.proofs.Common.{◌≡◌, ◌+◌, ◌*◌, ◌-◌, ◌≤◌, length}
+use Rattle.melting_theory.specs.Runs.{Going}
 use Rattle.melting.proofs.run.run.Given as goal
 
-abbrev pub invariant-loop-m : goal.invariant-loop-m
-invariant-loop-m l = Comes l.ops l.field l.p l.m × (l.p.front.stated ≡ l.initial.p.front.stated) × Whole l.m
-
-abbrev pub decreases-loop-m : goal.decreases-loop-m
-decreases-loop-m l = to_read l.p.stage l.ops l.p.at
+abbrev pub invariant-loop : goal.invariant-loop
+invariant-loop l = record {
+  left : l.counter ≤ 8 * length l.ops + 1;
+  going : Going l.ops l.field (8 * length l.ops + 1 - l.counter) l.p l.m;
+  stated : l.p.front.stated ≡ l.initial.p.front.stated;
+}

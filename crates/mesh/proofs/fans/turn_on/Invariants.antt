@@ -1,4 +1,4 @@
-use Prim.Native.Nat.{◌<◌}
+use Prim.Native.Nat.{◌<◌, ◌-◌}
 use mathlib.Core.List.{List}
 use mathlib.Core.Path.{◌≡◌}
 use Rattle.rules.specs.declared.Triangle.{Triangle}
@@ -7,9 +7,6 @@ use Rattle.mesh_theory.specs.Chains.Turn.{left_on}
 use Rattle.mesh.specs.Turns.{Noted}
 use Rattle.mesh.proofs.fans.turn_on.Given as goal
 
-abbrev pub invariant-loop-left : goal.invariant-loop-left
-invariant-loop-left l = (l.to < max_vertices)
-    × ((ts : List Triangle) → Noted ts l.v l.notes → left_on ts l.v l.x l.to l.left ≡ left_on ts l.v l.x l.y l.n)
-
-abbrev pub decreases-loop-left : goal.decreases-loop-left
-decreases-loop-left l = l.left
+abbrev pub invariant-loop-reached : goal.invariant-loop-reached
+invariant-loop-reached l = (l.to < max_vertices)
+    × ((ts : List Triangle) → Noted ts l.v l.notes → left_on ts l.v l.x l.to (l.n - l.reached) ≡ left_on ts l.v l.x l.y l.n)

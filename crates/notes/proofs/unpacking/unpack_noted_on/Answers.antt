@@ -1,19 +1,21 @@
-use mathlib.Core.Path.{◌∙◌}
-use Rattle.wire.proofs.Told.{told_none, told_contents}
-use Rattle.positions_theory.proofs.Unpacking.{whole_room, told_answer, told_triangles}
-use Rattle.notes_theory.proofs.Unpacking.{no_note_on, note_on}
+use native.Mathlib.Omega.{arith}
+use Rattle.std.proofs.lemmas.Result.{err_from_is_err_and}
+use Rattle.positions_theory.proofs.Unpacking.{whole_long}
+use Rattle.notes_theory.proofs.Unpacking.{note_refused, note_fit, note_unfit}
 use Rattle.notes.proofs.unpacking.unpack_noted_on.Goals as goal
 
-pub tested-requires : goal.tested-requires
-tested-requires c = whole_room _ c.args.triangles.now c.args.n c.unpack_whole_on-r.result _ c.unpack_whole_on-r.ensures
+pub returns-in_err-model : goal.returns-in_err-model
+returns-in_err-model c =
+    let p = err_from_is_err_and c.from_residual.result c.from_residual.ensures.1 in
+    rw (p.1, p.2) (note_refused _ _ _ _ _ c.note_of-split.ensures.told _ _ c.in_err-model.ensures)
 
-pub returns-in-Nothing : goal.returns-in-Nothing
-returns-in-Nothing c = no_note_on _ _ _ _ _ (told_none _ _ c.note_of-found.ensures c.in-Nothing.is) c.unpack_whole_on.ensures
+pub clear-requires : goal.clear-requires
+clear-requires c = omega (arith, whole_long _ _ _ _ _ c.in_ok-model.ensures, c.from.ensures)
 
-pub returns-in-At : goal.returns-in-At
-returns-in-At c = let f =
-    told_contents c.args.pack.now c.note_of-found.result c.note_of-found.ensures c.in-At.end c.in-At.from
-    c.in-At.is in
-    note_on _ _ _ c.args.triangles.now c.args.n f c.unpack_whole_on-r.result _ c.unpack_whole_on-r.ensures _ _
-    (c.tested.ensures.answer ∙ told_answer _ _ 25 c.unpack_whole_on-r.result (λ m e. c.is_note-passes.ensures))
-    (c.tested.ensures.triangles ∙ told_triangles _ _ c.unpack_whole_on-r.result _ (λ m e. c.is_note-passes.ensures))
+pub returns-then-not-is_fit : goal.returns-then-not-is_fit
+returns-then-not-is_fit c =
+    rw (rw c.from.ensures at c.clear.ensures)
+    (note_unfit _ _ _ _ _ c.note_of-split.ensures.told _ _ c.in_ok-model.ensures _ c.is_fit.ensures c.if-not-is_fit.true)
+
+pub returns : goal.returns
+returns c = note_fit _ _ _ _ _ c.note_of-split.ensures.told _ _ c.in_ok-model.ensures _ c.is_fit.ensures c.if-not-is_fit.false

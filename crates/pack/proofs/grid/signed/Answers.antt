@@ -1,34 +1,27 @@
--- `grid::signed` meets its contract.
+-- `grid::signed` meets its contract: std's reading of 16 bits is the one of the positions.
 -- Assumes nothing.
-use Rattle.std.proofs.Common.{◌≡◌, ℕ, zero, suc, ◌-◌, ◌<◌, ◌≤◌, ℤ, pos, ◌-ℤ◌, FitsSigned, to_z, of_z, arith, refl, sym, ap, subst, ◌∙◌}
+use Rattle.std.proofs.Common.{◌≡◌, ℕ, suc, ◌-◌, ◌<◌, ◌≤◌, Bool, true, false, ℤ, arith, refl, sym, ap, subst, ◌∙◌}
+use Rattle.std.proofs.Math.Facts.{to_z_pos, to_z-neg, of_z-to_z}
+use lib.Dec.{ltb}
 use lib.IntN.{negsuc}
-use mir.Facts.{to_z_pos, to_z-of_z}
+use borrow.Author.Tests.{ltb-true, ltb-false}
 use mir.Syntax.{w16}
+use mir.Val.{to_z, of_z}
 use Rattle.rules.specs.Grid.{signed_of}
 use Rattle.wire_theory.proofs.Positions.{signed_below, signed_from}
 use Rattle.pack.proofs.grid.signed.Goals as goal
 
-low_is : (w : ℕ) → w < 32768 → to_z w16 w ≡ signed_of w
-low_is w h = to_z_pos w16 h ∙ sym (signed_below w h)
-
--- minus one less a number of 15 bits
-less : (m : ℕ) → m < 32768 → negsuc 0 -ℤ to_z w16 m ≡ negsuc m
-less m h = ap (λ (z : ℤ). negsuc 0 -ℤ z) (to_z_pos w16 h) ∙ go m
-  where
-    go : (n : ℕ) → negsuc 0 -ℤ pos n ≡ negsuc n
-    go zero = refl
-    go (suc k) = ap negsuc (omega arith)
-
-less_fits : (m : ℕ) → m < 32768 → FitsSigned w16 (negsuc 0 -ℤ to_z w16 m)
-less_fits m h = subst (FitsSigned w16) (sym (less m h)) (record { sfits = h })
-
-high_is : (w : ℕ) → 32768 ≤ w → to_z w16 (of_z w16 (negsuc 0 -ℤ to_z w16 (65535 - w))) ≡ signed_of w
-high_is w h =
+high_is : (w : ℕ) → 32768 ≤ w → w < 65536 → to_z w16 w ≡ signed_of w
+high_is w h u =
     let l : 65535 - w < 32768 = omega arith in
-    to_z-of_z (less_fits (65535 - w) l) ∙ less (65535 - w) l ∙ sym (signed_from w h)
+    let e : 65536 - suc (65535 - w) ≡ w = omega arith in
+    subst (λ n. to_z w16 n ≡ negsuc (65535 - w)) e (to_z-neg w16 (65535 - w) l) ∙ sym (signed_from w h)
 
-pub returns-then-w-lt32768 : goal.returns-then-w-lt32768
-returns-then-w-lt32768 c = low_is c.args.w c.if-w-lt32768.true
+is : (w : ℕ) → w < 65536 → (b : Bool) → ltb w 32768 ≡ b → to_z w16 w ≡ signed_of w
+is w u true e = let h = ltb-true w 32768 e in to_z_pos w16 h ∙ sym (signed_below w h)
+is w u false e = high_is w (ltb-false w 32768 e) u
 
 pub returns : goal.returns
-returns c = high_is c.args.w c.if-w-lt32768.false
+returns c =
+    ap (λ (z : ℤ). to_z w16 (of_z w16 z)) c.cast_signed.ensures ∙ ap (to_z w16) (of_z-to_z c.ranges.w)
+    ∙ is c.args.w c.ranges.w.fits (ltb c.args.w 32768) refl

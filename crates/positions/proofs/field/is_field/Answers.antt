@@ -5,7 +5,9 @@ use Rattle.wire_theory.proofs.Grid.{none_tested, one_outside, all_tested}
 use Rattle.positions.proofs.field.is_field.Goals as goal
 
 pub loop-i-init : goal.loop-i-init
-loop-i-init c = none_tested _ _ _ _ c.if-field-v.false (length_from c.args.field.now (3 * c.args.v) (omega (arith, c.if-field-v.false)))
+loop-i-init c =
+    let l = length_from c.args.field.now (3 * c.args.v) (omega (arith, c.if-field-from.false, c.from.ensures)) in
+    none_tested _ _ _ _ (omega (arith, c.if-field-from.false, c.from.ensures)) (omega (arith, l, c.from-i.ensures))
 
 pub is_in_grid-requires : goal.is_in_grid-requires
 is_in_grid-requires c = omega (

@@ -6,6 +6,3 @@ use Rattle.positions.proofs.field.is_field.Given as goal
 
 abbrev pub invariant-loop-i : goal.invariant-loop-i
 invariant-loop-i l = InGridFrom (length l.field) (6 * l.v) (positions_from l.field) l.i
-
-abbrev pub decreases-loop-i : goal.decreases-loop-i
-decreases-loop-i l = l.i

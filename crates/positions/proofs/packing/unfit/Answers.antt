@@ -1,16 +1,21 @@
-use mathlib.Core.Path.{refl}
+use mathlib.Core.Path.{refl, ap}
+use Rattle.std.proofs.lemmas.Result.{err_from_is_err_and}
+use Rattle.rules.specs.Checked.{checked_of}
+use Rattle.rules.specs.Refusal.{number_of}
 use Rattle.mesh_theory.proofs.Chains.Linking.{zeros_none}
 use Rattle.positions_theory.proofs.Packing.{unfit_earlier, unfit_last}
 use Rattle.positions.proofs.packing.unfit.Goals as goal
 
-pub test_rooms-tested-requires : goal.test_rooms-tested-requires
-test_rooms-tested-requires c = zeros_none _ _ refl
+pub test_rooms-requires : goal.test_rooms-requires
+test_rooms-requires c = zeros_none _ _ refl
 
-pub returns-in_default : goal.returns-in_default
-returns-in_default c = unfit_earlier c.args.v c.args.list.now c.args.numbering c.args.order c.args.n _ c.test_rooms-tested.ensures.right _
-    c.in_default.is _
-    (c.refusal_of.ensures _ c.in_default.is) c.args.k
+pub returns-in_err-test_rooms : goal.returns-in_err-test_rooms
+returns-in_err-test_rooms c =
+    let p = err_from_is_err_and c.from_residual.result c.from_residual.ensures.1 in
+    rw (p.1, p.2)
+    (unfit_earlier c.args.v c.args.list.now c.args.numbering c.args.order c.args.n _ c.test_rooms.ensures.right _
+    (ap checked_of c.in_err-test_rooms.was) (number_of c.args.e))
 
 pub returns : goal.returns
-returns c = unfit_last c.args.v c.args.list.now c.args.numbering c.args.order c.args.n _ c.test_rooms-tested.ensures.right c.in-Accepted.is
-    c.args.k
+returns c = unfit_last c.args.v c.args.list.now c.args.numbering c.args.order c.args.n _ c.test_rooms.ensures.right
+    (ap checked_of c.in_ok-test_rooms.was) (number_of c.args.e)

@@ -1,21 +1,24 @@
-use mathlib.Core.Path.{◌∙◌}
-use Rattle.wire.proofs.Told.{told_neither, told_two, told_rest}
-use Rattle.positions_theory.proofs.Unpacking.{no_parts_on, two_parts_on, three_parts_on, room_on, as_told, told_answer, told_triangles}
+use native.Mathlib.Omega.{arith}
+use Rattle.std.proofs.lemmas.Result.{err_from_is_err_and}
+use Rattle.positions_theory.proofs.Unpacking.{no_parts_on, parts_refused, parts_fit, parts_unfit, model_long}
 use Rattle.positions.proofs.unpacking.unpack_whole_on.Goals as goal
 
-pub tested-requires : goal.tested-requires
-tested-requires c = room_on _ c.args.triangles.now c.args.n c.unpack_on-r.result _ c.unpack_on-r.ensures c.unpack_on-r.auto.triangles
+pub returns-in_default : goal.returns-in_default
+returns-in_default c = no_parts_on _ _ _ c.in_default.ensures
 
-pub returns-in-Neither : goal.returns-in-Neither
-returns-in-Neither c = no_parts_on _ _ _ (told_neither _ _ c.parts_of-parts.ensures c.in-Neither.is)
+pub returns-in_err-model : goal.returns-in_err-model
+returns-in_err-model c =
+    let p = err_from_is_err_and c.from_residual.result c.from_residual.ensures.1 in
+    rw (p.1, p.2) (parts_refused _ _ _ _ _ c.in-Some.ensures _ _ c.in_err-model.ensures)
 
-pub returns-in-Two : goal.returns-in-Two
-returns-in-Two c = two_parts_on _ _ _ _ _ (told_two _ _ c.parts_of-parts.ensures c.in-Two.is) c.unpack_on.ensures
+pub clear-requires : goal.clear-requires
+clear-requires c =
+    omega (arith, model_long _ _ _ _ _ c.in_ok-model.ensures c.unpack_on.auto.triangles, c.from.ensures)
 
-pub returns-in-Three : goal.returns-in-Three
-returns-in-Three c = let f =
-    told_rest c.args.pack.now c.parts_of-parts.result c.parts_of-parts.ensures c.in-Three.end c.in-Three.from
-    c.in-Three.is in
-    as_told _ _ _ _ _ _ _ (three_parts_on _ _ _ c.args.triangles.now c.args.n f c.unpack_on-r.result _ c.unpack_on-r.ensures)
-    (c.tested.ensures.answer ∙ told_answer _ _ 23 c.unpack_on-r.result c.fits-passes.ensures)
-    (c.tested.ensures.triangles ∙ told_triangles _ _ c.unpack_on-r.result _ c.fits-passes.ensures)
+pub returns-then-not-are_fit : goal.returns-then-not-are_fit
+returns-then-not-are_fit c =
+    rw (rw c.from.ensures at c.clear.ensures)
+    (parts_unfit _ _ _ _ _ c.in-Some.ensures _ _ c.in_ok-model.ensures _ c.are_fit.ensures c.if-not-are_fit.true)
+
+pub returns : goal.returns
+returns c = parts_fit _ _ _ _ _ c.in-Some.ensures _ _ c.in_ok-model.ensures _ c.are_fit.ensures c.if-not-are_fit.false

@@ -5,6 +5,3 @@ use Rattle.positions.proofs.writing.are_positions.Given as goal
 
 abbrev pub invariant-loop-i : goal.invariant-loop-i
 invariant-loop-i l = InGridFrom (length l.positions) (3 * l.v) l.positions l.i
-
-abbrev pub decreases-loop-i : goal.decreases-loop-i
-decreases-loop-i l = l.i

@@ -1,11 +1,6 @@
-use Prim.Native.Nat.{◌≤◌}
-use mathlib.Core.Path.{◌≡◌}
-use lib.Dec.{leb}
+use Rattle.std.proofs.Common.{◌≡◌, ◌*◌, ◌≤◌}
 use Rattle.rules.specs.Sound.{sizes_of}
 use Rattle.state.proofs.counts.sizes_fit.Given as goal
 
 abbrev pub invariant-loop-w : goal.invariant-loop-w
-invariant-loop-w l = (l.w ≤ l.b.live) × (leb (sizes_of l.b l.w) l.left ≡ leb (sizes_of l.b l.b.live) l.b.stated.places)
-
-abbrev pub decreases-loop-w : goal.decreases-loop-w
-decreases-loop-w l = l.w
+invariant-loop-w l = (l.sum ≡ sizes_of l.b l.w) × (l.sum ≤ 65535 * l.w)

@@ -1,9 +1,9 @@
-use borrow.Author.Rules.{rules}
+use Rattle.std.proofs.Common.{rules}
 use Rattle.state_theory.proofs.Opening.Writing.{freed_none, freed_more}
 use Rattle.state.proofs.front.free_rest.Goals as goal
 
 pub loop-i-init : goal.loop-i-init
-loop-i-init c = (search rules, freed_none _ _)
+loop-i-init c = freed_none _ _
 
 pub loop-i-preserved : goal.loop-i-preserved
-loop-i-preserved c = (search rules, freed_more _ _ _ _ _ c.loop-i.invariant.1 c.loop-i-test.true (search rules) _ c.unmarked-free.ensures.0)
+loop-i-preserved c = freed_more _ _ _ _ _ c.loop-i.invariant c.loop-i-test.true (search rules) _ (search rules)

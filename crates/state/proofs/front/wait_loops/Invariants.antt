@@ -1,9 +1,5 @@
-use Prim.Native.Nat.{◌-◌, ◌≤◌}
 use Rattle.state_theory.specs.Opening.Front.{Waited}
 use Rattle.state.proofs.front.wait_loops.Given as goal
 
 abbrev pub invariant-loop-w : goal.invariant-loop-w
-invariant-loop-w l = (l.w ≤ l.n) × Waited l.b l.initial.m l.w l.m
-
-abbrev pub decreases-loop-w : goal.decreases-loop-w
-decreases-loop-w l = l.n - l.w
+invariant-loop-w l = Waited l.b l.initial.m l.w l.m

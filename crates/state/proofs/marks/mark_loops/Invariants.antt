@@ -5,6 +5,3 @@ use Rattle.state.proofs.marks.mark_loops.Given as goal
 
 abbrev pub invariant-loop-w : goal.invariant-loop-w
 invariant-loop-w l = Looping l.b (records max_places l.m) l.initial.flags l.b.live l.flags l.w
-
-abbrev pub decreases-loop-w : goal.decreases-loop-w
-decreases-loop-w l = l.w

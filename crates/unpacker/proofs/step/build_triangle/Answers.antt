@@ -2,21 +2,22 @@ use Rattle.rules.specs.Limits.{max_places}
 use Rattle.border_theory.proofs.Memory.Performed.{performs}
 use Rattle.border_theory.proofs.Memory.Done.{built_counts, built_state}
 use Rattle.unpack_theory.proofs.Operating.{held_ready, operate_ruled, operate_room, operate_third, operate_beyond, operate_built}
-use Rattle.std.proofs.lemmas.Bool.{not_from_false, not_from_true}
+use native.Mathlib.Omega.{arith}
 use Rattle.unpacker.proofs.step.build_triangle.Goals as goal
 
 pub returns-then-not-is_ruled-clause-turn : goal.returns-then-not-is_ruled-clause-turn
-returns-then-not-is_ruled-clause-turn c =
-    operate_ruled c.args.o c.args.next c.args.s c.args.triangles.now c.args.m.now c.args.chains.now
-    c.args.met.now c.args.p c.requires.1 _ c.is_ruled.ensures (not_from_false _ c.if-not-is_ruled.true)
+returns-then-not-is_ruled-clause-turn c = λ next.
+    operate_ruled c.args.o next c.args.s c.args.triangles.now c.args.m.now c.args.chains.now
+    c.args.met.now c.args.p c.requires.1 _ c.is_ruled.ensures c.if-not-is_ruled.true
 
 pub put_triangle-requires : goal.put_triangle-requires
-put_triangle-requires c = operate_room c.args.o c.args.next c.args.s c.args.triangles.now c.args.m.now c.args.chains.now
-    c.args.met.now c.args.p c.requires.1 _ c.is_ruled.ensures (not_from_true _ c.if-not-is_ruled.false) c.requires.0
+put_triangle-requires c = let r = operate_room c.args.o 0 c.args.s c.args.triangles.now c.args.m.now c.args.chains.now
+    c.args.met.now c.args.p c.requires.1 _ c.is_ruled.ensures c.if-not-is_ruled.false c.requires.0 in
+    (omega (arith, r.0, c.from-n.ensures), omega (arith, r.1, c.from-n.ensures))
 
 pub meet-requires : goal.meet-requires
-meet-requires c = operate_third c.args.o c.args.next c.args.s c.args.triangles.now c.args.m.now c.args.chains.now
-    c.args.met.now c.args.p c.requires.1 _ c.is_ruled.ensures (not_from_true _ c.if-not-is_ruled.false) c.requires.0
+meet-requires c = operate_third c.args.o 0 c.args.s c.args.triangles.now c.args.m.now c.args.chains.now
+    c.args.met.now c.args.p c.requires.1 _ c.is_ruled.ensures c.if-not-is_ruled.false c.requires.0
 
 pub alter-l-requires : goal.alter-l-requires
 alter-l-requires c = performs _ _ _ _ _ (held_ready c.args.s c.args.triangles.now c.args.m.now c.args.chains.now c.args.met.now
@@ -29,19 +30,20 @@ count_built-requires c = built_counts _ _ _ _ _ _ (
 ) c.alter-l.ensures.loops
 
 pub returns-clause-turn : goal.returns-clause-turn
-returns-clause-turn c =
+returns-clause-turn c = λ next.
     let b = built_state max_places c.args.s c.args.m.now c.args.o c.args.p _ _ _ (c.alter-l.ensures.loops, c.alter-l.ensures.memory)
     c.count_built.ensures in
-    operate_built c.args.o c.args.next c.args.s c.args.triangles.now c.args.m.now c.args.chains.now
-    c.args.met.now c.args.p c.requires.1 _ c.is_ruled.ensures (not_from_true _ c.if-not-is_ruled.false) _ b.0 _ c.put_triangle.ensures _ b.1
+    operate_built c.args.o next c.args.s c.args.triangles.now c.args.m.now c.args.chains.now
+    c.args.met.now c.args.p c.requires.1 _ c.is_ruled.ensures c.if-not-is_ruled.false _ b.0 _
+    (rw c.from-n.ensures at c.put_triangle.ensures) _ b.1
     _
-    c.link.ensures _
+    (rw c.from-n.ensures at c.link.ensures) _
     c.meet.ensures
 
 pub returns-clause-beyond : goal.returns-clause-beyond
 returns-clause-beyond c =
     let b = built_state max_places c.args.s c.args.m.now c.args.o c.args.p _ _ _ (c.alter-l.ensures.loops, c.alter-l.ensures.memory)
     c.count_built.ensures in
-    operate_beyond c.args.o c.args.next c.args.s c.args.triangles.now c.args.m.now c.args.chains.now
-    c.args.met.now c.args.p c.requires.1 _ c.is_ruled.ensures (not_from_true _ c.if-not-is_ruled.false) c.requires.0 _
-    c.put_triangle.ensures
+    operate_beyond c.args.o 0 c.args.s c.args.triangles.now c.args.m.now c.args.chains.now
+    c.args.met.now c.args.p c.requires.1 _ c.is_ruled.ensures c.if-not-is_ruled.false c.requires.0 _
+    (rw c.from-n.ensures at c.put_triangle.ensures)

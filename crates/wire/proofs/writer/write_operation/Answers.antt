@@ -1,9 +1,8 @@
-use Rattle.wire.proofs.Words.{buffer_refused, buffer_written}
+use mathlib.Core.Path.{ap, ◌∙◌}
+use lib.ListN.{take}
+use Rattle.wire.proofs.Words.{buffer_written}
 use Rattle.wire.proofs.writer.write_operation.Goals as goal
 
-pub returns-then-pack-k : goal.returns-then-pack-k
-returns-then-pack-k c = buffer_refused _ _ _ _ _ c.piece_of-piece.ensures.width c.after-next.ensures c.if-pack-k.true
-
-pub returns : goal.returns
-returns c = buffer_written _ _ _ _ _ c.piece_of-piece.ensures.width c.after-next.ensures _ _ _ _ c.slice_known-1.given c.if-pack-k.false
-    c.wide-b.ensures.0 c.piece_of-piece.ensures.value c.word_of-word.ensures c.put_word.ensures
+pub returns-clause-bytes : goal.returns-clause-bytes
+returns-clause-bytes c = buffer_written _ _ _ _ c.piece_of-piece.ensures.0 _ _ _ _ c.slice_known-1.given c.if-pack-k.false
+    c.from.ensures c.piece_of-piece.ensures.1 c.word_of-word.ensures (c.copy_from_slice.ensures.after ∙ ap (take _) c.to_be_bytes.ensures)

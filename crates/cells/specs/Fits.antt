@@ -1,0 +1,12 @@
+-- Each memory has room for what the operations store.
+-- Assumes nothing.
+use Rattle.std.specs.Prelude.{ℕ, ◌+◌, ◌/◌, ◌^◌, ◌≤◌, ◌<◌, min}
+use Rattle.std.proofs.Common.{arith}
+use Rattle.rules.specs.Limits.{max_places, max_vertices, furnace_places}
+
+pub plain_fits : (n : ℕ)
+    → (min max_places (n / 5) ≤ max_places) × (min max_places (n / 5) < 2 ^ 16) × (max_vertices + 2 < 2 ^ 16) × (1 < 2 ^ 16)
+plain_fits n = omega arith
+
+pub bytes_fit : (furnace_places ≤ max_places) × (furnace_places < 256) × (max_vertices + 2 < 32768) × (1 < 2)
+bytes_fit = omega arith

@@ -1,2 +1,0 @@
-mod Places
-mod Doing

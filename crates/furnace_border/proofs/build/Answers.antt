@@ -1,9 +1,0 @@
-use Rattle.border_theory.proofs.Memory.Performed.{performs}
-use Rattle.border_theory.proofs.Memory.Done.{built_counts}
-use Rattle.furnace_border.proofs.build.Goals as goal
-
-pub alter-l-requires : goal.alter-l-requires
-alter-l-requires c = (performs _ _ _ _ _ c.requires.0 c.requires.2, c.requires.1, c.requires.0.used)
-
-pub count_built-requires : goal.count_built-requires
-count_built-requires c = built_counts _ _ _ _ _ _ (c.requires.0, c.requires.2) c.alter-l.ensures.loops

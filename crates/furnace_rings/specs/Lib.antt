@@ -1,2 +1,0 @@
--- Nothing beside border_theory and cells_theory.
--- Assumes nothing.

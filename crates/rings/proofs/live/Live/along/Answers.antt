@@ -1,0 +1,12 @@
+use Rattle.std.proofs.Common.{suc, arith}
+use Rattle.border_theory.specs.Memory.Layout.{walked}
+use Rattle.rings.proofs.live.Live.along.Goals as goal
+
+pub walk-requires : goal.walk-requires
+unfolding walked
+walk-requires g c = λ j h. rw c.next.ensures.value (c.args.self.now.near.ahead (suc j) (omega (arith, c.requires, h)))
+
+pub returns-clause-place : goal.returns-clause-place
+unfolding walked
+returns-clause-place g c =
+    rw (c.walk.ensures, c.next.ensures.value) (c.args.self.now.near.ahead (suc c.args.i) (omega (arith, c.requires)))

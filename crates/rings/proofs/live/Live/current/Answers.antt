@@ -1,0 +1,5 @@
+use Rattle.border_theory.proofs.Memory.Near.{near_e}
+use Rattle.rings.proofs.live.Live.current.Goals as goal
+
+pub returns-clause-place : goal.returns-clause-place
+returns-clause-place g c = near_e _ _ _ c.args.self.now.near

@@ -1,0 +1,5 @@
+use Rattle.border_theory.proofs.Memory.Near.{near_f}
+use Rattle.rings.proofs.live.Live.next.Goals as goal
+
+pub returns-clause-place : goal.returns-clause-place
+returns-clause-place g c = rw (c.after_of.ensures, c.current.ensures.value) (near_f _ _ _ c.args.self.now.near)

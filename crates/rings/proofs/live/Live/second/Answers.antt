@@ -1,0 +1,5 @@
+use Rattle.border_theory.proofs.Memory.Near.{near_next}
+use Rattle.rings.proofs.live.Live.second.Goals as goal
+
+pub returns-clause-place : goal.returns-clause-place
+returns-clause-place g c = near_next _ _ _ c.args.self.now.near _ _ c.next.ensures.value c.after_of.ensures

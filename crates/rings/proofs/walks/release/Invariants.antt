@@ -1,0 +1,8 @@
+use Rattle.std.specs.Prelude.{◌+◌, ◌-◌}
+use Rattle.border_theory.proofs.Ways.Stacking.{Releases}
+use Rattle.rings.proofs.walks.release.Given as goal
+
+abbrev pub invariant-loop-i : goal.invariant-loop-i
+invariant-loop-i g l =
+    let m = g.M.PlaceMemory in
+    Releases m.places (m.numbers l.initial.m) l.k l.j l.p (m.numbers l.m) (l.k + l.i) (l.j - l.i) l.at
