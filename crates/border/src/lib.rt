@@ -21,7 +21,7 @@ ghost use Rattle.border_theory.specs.Memory.Fresh.{all_free, fresh_front};
 use crate::alter::alter;
 use crate::count::{count_built, count_marked};
 use crate::verdict::{propose, test_room};
-use cells::PlaceMemory;
+use cells::{PlaceMemory, PlaceMemoryMut};
 use cutborder::{Action, Front, Loops, Plan};
 use rings::surgery::mark_border;
 use rings::walks::free_all;
@@ -30,10 +30,12 @@ use rules::{Counts, Operation, Peaks};
 
 // `as u16` narrows a capacity, which `fits` of `PlaceMemory` bounds by `max_places`: `try_from` would be no plainer.
 /// A building with the counts stated begins: the state, with every place free.
-pub fn begin<M: PlaceMemory>(m: &mut M, stated: Counts) -> Front
-    requires { 5 * M.places ≤ length (M.numbers m.old) }
-    ensures state { result ≡ fresh_front M.places stated }
-    ensures memory { M.numbers m.new ≡ all_free M.places (M.numbers m.old) M.places }
+pub fn begin<M: PlaceMemoryMut>(m: &mut M, stated: Counts) -> Front
+    requires { 5 * M.places m.old ≤ length (M.numbers m.old) }
+    ensures state { result ≡ fresh_front (M.places m.old) stated }
+    ensures memory { M.numbers m.new ≡ all_free (M.places m.old) (M.numbers m.old) (M.places m.old) }
+    ensures kept { (M.places m.new ≡ M.places m.old) × (M.records m.new ≡ M.records m.old)
+        × (M.lender m.new ≡ M.lender m.old) }
 {
     free_all(m);
     let peaks = Peaks {
@@ -44,7 +46,7 @@ pub fn begin<M: PlaceMemory>(m: &mut M, stated: Counts) -> Front
         live: 0,
         current: 0,
         size: 0,
-        free: M::capacity() as u16,
+        free: m.capacity() as u16,
     };
     Front {
         stated,
@@ -62,28 +64,32 @@ pub fn begin<M: PlaceMemory>(m: &mut M, stated: Counts) -> Front
 /// What the operation o would do: 16, then 17, or the plan of a triangle, or the edge to be marked as border.
 #[tactic(auto, unfolding(border_theory::specs::Memory::Decision::decided, border_theory::specs::Memory::Decision::proposed))]
 pub fn decide<M: PlaceMemory>(m: &M, s: Front, o: Operation) -> Result<Action, Refusal>
-    requires { Ready M.places s (M.numbers m.now) }
-    ensures { result ≡ decided M.places s (M.numbers m.now) o }
+    requires { Ready (M.places m.now) s (M.numbers m.now) }
+    ensures { result ≡ decided (M.places m.now) s (M.numbers m.now) o }
 {
-    test_room(M::capacity(), s, propose(m, s.loops, s.used, o))
+    test_room(m.capacity(), s, propose(m, s.loops, s.used, o))
 }
 
 /// The planned operation o is done: the state after it. The memory past the waiting loops is unchanged.
-pub fn build<M: PlaceMemory>(m: &mut M, s: Front, o: Operation, p: Plan) -> Front
-    requires { Ready M.places s (M.numbers m.old) × (decided M.places s (M.numbers m.old) o ≡ Ok (Builds p)) }
-    ensures state { result ≡ built_front M.places s p (held_after M.places s (M.numbers m.old) o p).loops }
-    ensures memory { M.numbers m.new ≡ (held_after M.places s (M.numbers m.old) o p).memory }
+pub fn build<M: PlaceMemoryMut>(m: &mut M, s: Front, o: Operation, p: Plan) -> Front
+    requires { Ready (M.places m.old) s (M.numbers m.old) × (decided (M.places m.old) s (M.numbers m.old) o ≡ Ok (Builds p)) }
+    ensures state { result ≡ built_front (M.places m.old) s p (held_after (M.places m.old) s (M.numbers m.old) o p).loops }
+    ensures memory { M.numbers m.new ≡ (held_after (M.places m.old) s (M.numbers m.old) o p).memory }
+    ensures kept { (M.places m.new ≡ M.places m.old) × (M.records m.new ≡ M.records m.old)
+        × (M.lender m.new ≡ M.lender m.old) }
 {
     let l = alter(m, s.loops, s.used, o, p.place);
-    count_built(M::capacity(), s, p, l)
+    count_built(m.capacity(), s, p, l)
 }
 
 /// The current edge is marked as border: the state after it.
-pub fn mark<M: PlaceMemory>(m: &mut M, s: Front) -> Front
-    requires { Ready M.places s (M.numbers m.old) × (s.loops.live ≡ 0 → ⊥) }
-    ensures state { result ≡ marked_front M.places s (marked_held M.places s.loops (M.numbers m.old)).loops }
-    ensures memory { M.numbers m.new ≡ (marked_held M.places s.loops (M.numbers m.old)).memory }
+pub fn mark<M: PlaceMemoryMut>(m: &mut M, s: Front) -> Front
+    requires { Ready (M.places m.old) s (M.numbers m.old) × (s.loops.live ≡ 0 → ⊥) }
+    ensures state { result ≡ marked_front (M.places m.old) s (marked_held (M.places m.old) s.loops (M.numbers m.old)).loops }
+    ensures memory { M.numbers m.new ≡ (marked_held (M.places m.old) s.loops (M.numbers m.old)).memory }
+    ensures kept { (M.places m.new ≡ M.places m.old) × (M.records m.new ≡ M.records m.old)
+        × (M.lender m.new ≡ M.lender m.old) }
 {
     let l = mark_border(m, s.loops);
-    count_marked(M::capacity(), s, l)
+    count_marked(m.capacity(), s, l)
 }

@@ -149,7 +149,7 @@ pub(crate) fn union_plan<M: PlaceMemory>(
     p: u16,
     j: u16,
 ) -> Result<Action, Refusal>
-    ensures { result ≡ union_plan M.places live.now.loops (M.numbers live.now.memory.now) p j }
+    ensures { result ≡ union_plan (M.places live.now.memory.now) live.now.loops (M.numbers live.now.memory.now) p j }
 {
     let waiting = live.loops.live - 1;
     if 1 <= p && p <= waiting && j < live.waiting_size(waiting - p) {

@@ -39,8 +39,8 @@ const NOTHING: Touched = Touched {
 
 // New: the current place, the next one, and the new one between them.
 fn by_new<M: PlaceMemory>(m: &M, l: Loops) -> Touched
-    requires { Near M.places l (M.numbers m.now) × (1 ≤ l.free) }
-    ensures { result ≡ listed (touched_by M.places l (M.numbers m.now) Operations.New 0) }
+    requires { Near (M.places m.now) l (M.numbers m.now) × (1 ≤ l.free) }
+    ensures { result ≡ listed (touched_by (M.places m.now) l (M.numbers m.now) Operations.New 0) }
 {
     let live = Live {
         memory: m,
@@ -57,8 +57,8 @@ fn by_new<M: PlaceMemory>(m: &M, l: Loops) -> Touched
 
 // Forward: the current place, and the one after the next.
 fn by_forward<M: PlaceMemory>(m: &M, l: Loops) -> Touched
-    requires { Near M.places l (M.numbers m.now) }
-    ensures { result ≡ listed (touched_by M.places l (M.numbers m.now) Operations.Forward 0) }
+    requires { Near (M.places m.now) l (M.numbers m.now) }
+    ensures { result ≡ listed (touched_by (M.places m.now) l (M.numbers m.now) Operations.Forward 0) }
 {
     let live = Live {
         memory: m,
@@ -74,8 +74,8 @@ fn by_forward<M: PlaceMemory>(m: &M, l: Loops) -> Touched
 
 // Backward: the place before the current one, and the next one.
 fn by_backward<M: PlaceMemory>(m: &M, l: Loops) -> Touched
-    requires { Near M.places l (M.numbers m.now) }
-    ensures { result ≡ listed (touched_by M.places l (M.numbers m.now) Operations.Backward 0) }
+    requires { Near (M.places m.now) l (M.numbers m.now) }
+    ensures { result ≡ listed (touched_by (M.places m.now) l (M.numbers m.now) Operations.Backward 0) }
 {
     let live = Live {
         memory: m,
@@ -91,8 +91,8 @@ fn by_backward<M: PlaceMemory>(m: &M, l: Loops) -> Touched
 
 /// Border: the place before the current one, this one, and the two after it.
 pub fn by_border<M: PlaceMemory>(m: &M, l: Loops) -> Touched
-    requires { Near M.places l (M.numbers m.now) }
-    ensures { result ≡ listed (touched_by M.places l (M.numbers m.now) Operations.Border 0) }
+    requires { Near (M.places m.now) l (M.numbers m.now) }
+    ensures { result ≡ listed (touched_by (M.places m.now) l (M.numbers m.now) Operations.Border 0) }
 {
     let live = Live {
         memory: m,
@@ -110,8 +110,8 @@ pub fn by_border<M: PlaceMemory>(m: &M, l: Loops) -> Touched
 
 // Split and union: the current place, the next one, c's place, the one before it, and c's second place.
 fn by_double<M: PlaceMemory>(m: &M, l: Loops, c: u16) -> Touched
-    requires { Near M.places l (M.numbers m.now) × Doubles M.places l (M.numbers m.now) c }
-    ensures { result ≡ listed (touched_by M.places l (M.numbers m.now) (Operations.Split 0) c) }
+    requires { Near (M.places m.now) l (M.numbers m.now) × Doubles (M.places m.now) l (M.numbers m.now) c }
+    ensures { result ≡ listed (touched_by (M.places m.now) l (M.numbers m.now) (Operations.Split 0) c) }
 {
     let live = Live {
         memory: m,
@@ -129,8 +129,8 @@ fn by_double<M: PlaceMemory>(m: &M, l: Loops, c: u16) -> Touched
 
 // Start: three new places.
 fn by_start<M: PlaceMemory>(m: &M, l: Loops) -> Touched
-    requires { Starts M.places l (M.numbers m.now) }
-    ensures { result ≡ listed (touched_by M.places l (M.numbers m.now) Operations.Start 0) }
+    requires { Starts (M.places m.now) l (M.numbers m.now) }
+    ensures { result ≡ listed (touched_by (M.places m.now) l (M.numbers m.now) Operations.Start 0) }
 {
     Touched {
         count: 3,
@@ -143,8 +143,8 @@ fn by_start<M: PlaceMemory>(m: &M, l: Loops) -> Touched
 
 /// The places whose records the operation o would write, where c is its plan's place.
 pub fn touched<M: PlaceMemory>(m: &M, l: Loops, o: Operation, c: u16) -> Touched
-    requires { Performs M.places l (M.numbers m.now) 0 o c }
-    ensures { result ≡ listed (touched_by M.places l (M.numbers m.now) o c) }
+    requires { Performs (M.places m.now) l (M.numbers m.now) 0 o c }
+    ensures { result ≡ listed (touched_by (M.places m.now) l (M.numbers m.now) o c) }
 {
     match o {
         Operation::New => by_new(m, l),

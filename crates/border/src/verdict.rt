@@ -27,7 +27,7 @@ pub fn propose_rest(u: u16, o: Operation) -> Result<Action, Refusal>
 
 // With a live loop all but a start are.
 fn propose_edge<M: PlaceMemory>(live: &Live<'_, M>, u: u16, o: Operation) -> Result<Action, Refusal>
-    ensures { result ≡ edge_proposed M.places live.now.loops (M.numbers live.now.memory.now) u o }
+    ensures { result ≡ edge_proposed (M.places live.now.memory.now) live.now.loops (M.numbers live.now.memory.now) u o }
 {
     match o {
         Operation::New => new_plan(live, u),
@@ -43,8 +43,8 @@ fn propose_edge<M: PlaceMemory>(live: &Live<'_, M>, u: u16, o: Operation) -> Res
 
 /// 16, or what would be done with the loops l, where u is the next unused number.
 pub fn propose<M: PlaceMemory>(m: &M, l: Loops, u: u16, o: Operation) -> Result<Action, Refusal>
-    requires { Proposable M.places l (M.numbers m.now) u }
-    ensures { result ≡ proposed_at M.places l (M.numbers m.now) u o }
+    requires { Proposable (M.places m.now) l (M.numbers m.now) u }
+    ensures { result ≡ proposed_at (M.places m.now) l (M.numbers m.now) u o }
 {
     if l.live == 0 {
         return propose_rest(u, o);

@@ -6,7 +6,7 @@ ghost use Rattle.rules.specs.Limits.{furnace_places};
 ghost use Rattle.cells_theory.specs.Bytes.{numbers};
 ghost use Rattle.cells.specs.Fits.{bytes_fit};
 
-use crate::PlaceMemory;
+use crate::{PlaceMemory, PlaceMemoryMut};
 use rules::{FURNACE_LOOPS, FURNACE_PLACES};
 
 // The free places stand from here on, then the waiting loops.
@@ -20,7 +20,11 @@ pub const BYTES: usize = WAITING + 2 * FURNACE_LOOPS;
 impl PlaceMemory for [u8; BYTES] {
     ghost numbers = { λ m. numbers m };
 
-    ghost places = { furnace_places };
+    ghost places = { λ m. furnace_places };
+
+    ghost records = { λ m. furnace_places };
+
+    ghost lender = { λ m. 0 };
 
     ghost vertex_end = { 32768 };
 
@@ -28,9 +32,9 @@ impl PlaceMemory for [u8; BYTES] {
 
     ghost open_end = { 2 };
 
-    ghost fits = { bytes_fit };
+    ghost fits = { λ m. bytes_fit };
 
-    fn capacity() -> usize {
+    fn capacity(&self) -> usize {
         FURNACE_PLACES
     }
 
@@ -40,12 +44,12 @@ impl PlaceMemory for [u8; BYTES] {
         u16::from_be_bytes([self[at + 3] / 2, self[at]])
     }
 
-    #[tactic(auto, using(cells_theory::proofs::Bytes::before_is))]
+    #[tactic(auto, using(cells_theory::proofs::Cells::before_told))]
     fn before_of(&self, p: u16) -> u16 {
         u16::from(self[4 * usize::from(p) + 1])
     }
 
-    #[tactic(auto, using(cells_theory::proofs::Bytes::after_is))]
+    #[tactic(auto, using(cells_theory::proofs::Cells::after_told))]
     fn after_of(&self, p: u16) -> u16 {
         u16::from(self[4 * usize::from(p) + 2])
     }
@@ -55,6 +59,23 @@ impl PlaceMemory for [u8; BYTES] {
         u16::from(self[4 * usize::from(p) + 3] % 2)
     }
 
+    #[tactic(auto, using(cells_theory::proofs::Cells::past_told, cells_theory::proofs::Bytes::length_numbers))]
+    fn free_at(&self, k: u16, below: u16) -> u16 {
+        u16::from(self[FREE + usize::from(k - below)])
+    }
+
+    #[tactic(auto, using(cells_theory::proofs::Cells::past_told, cells_theory::proofs::Bytes::length_numbers))]
+    fn place_at(&self, l: u16) -> u16 {
+        u16::from(self[WAITING + 2 * usize::from(l)])
+    }
+
+    #[tactic(auto, using(cells_theory::proofs::Cells::past_told, cells_theory::proofs::Bytes::length_numbers))]
+    fn size_at(&self, l: u16) -> u16 {
+        u16::from(self[WAITING + 2 * usize::from(l) + 1])
+    }
+}
+
+impl PlaceMemoryMut for [u8; BYTES] {
     #[tactic(auto, using(cells_theory::proofs::Cells::vertex_stored))]
     fn set_vertex(&mut self, p: u16, v: u16) {
         let at = 4 * usize::from(p);
@@ -72,14 +93,9 @@ impl PlaceMemory for [u8; BYTES] {
         self[from + 3] = 2 * (self[from + 3] / 2) + o as u8;
     }
 
-    #[tactic(auto, using(cells_theory::proofs::Bytes::past_set))]
+    #[tactic(auto, using(cells_theory::proofs::Cells::free_stored, cells_theory::proofs::Bytes::length_numbers))]
     fn free_place(&mut self, k: u16, p: u16) {
         self[FREE + usize::from(k)] = p as u8;
-    }
-
-    #[tactic(auto, using(cells_theory::proofs::Bytes::past_is))]
-    fn free_at(&self, k: u16, below: u16) -> u16 {
-        u16::from(self[FREE + usize::from(k - below)])
     }
 
     #[tactic(auto, using(cells_theory::proofs::Cells::wait_stored, cells_theory::proofs::Bytes::length_numbers))]
@@ -87,15 +103,5 @@ impl PlaceMemory for [u8; BYTES] {
         let at = WAITING + 2 * usize::from(l);
         self[at] = p as u8;
         self[at + 1] = k as u8;
-    }
-
-    #[tactic(auto, using(cells_theory::proofs::Bytes::past_is, cells_theory::proofs::Bytes::length_numbers))]
-    fn place_at(&self, l: u16) -> u16 {
-        u16::from(self[WAITING + 2 * usize::from(l)])
-    }
-
-    #[tactic(auto, using(cells_theory::proofs::Bytes::past_is, cells_theory::proofs::Bytes::length_numbers))]
-    fn size_at(&self, l: u16) -> u16 {
-        u16::from(self[WAITING + 2 * usize::from(l) + 1])
     }
 }

@@ -114,7 +114,7 @@ module _ (l : Loops) (m : List ℕ) (x y : ℕ) where
         seat_walked s h q = rw (seat_in, first_is ∙ no, second_is ∙ no-c, third_is ∙ h) q
 
 -- the current place
-pub current_long : (l : Loops) (m : List ℕ) → Seekable l m → l.current < max_places
+pub current_long : (l : Loops) (m : List ℕ) → Seekable l m → 4 * l.current + 3 < length m
 unfolding walked
 current_long l m h = (h.ahead 0 (omega (arith, h.two))).0
 

@@ -18,7 +18,7 @@ use crate::name::place_operation;
 use crate::seek::seat_of;
 use crate::turn::{Way, turn};
 use corners::Links;
-use cutborder::{CORE, Flags, Loops, Seat};
+use cutborder::{Flags, Loops, Seat};
 use rules::Operation;
 
 // What a place is chosen from: the list and its chains, the triangles that are built, the memory and its loops, and a, b and c.
@@ -27,7 +27,7 @@ struct Choice<'a> {
     list: &'a [u16],
     chains: &'a Links,
     built: &'a Flags,
-    m: &'a [u16; CORE],
+    m: &'a [u16],
     l: Loops,
     a: u16,
     b: u16,
@@ -70,7 +70,7 @@ pub fn choose_place(
     list: &[u16],
     chains: &Links,
     built: &Flags,
-    m: &[u16; CORE],
+    m: &[u16],
     l: Loops,
     a: u16,
     b: u16,

@@ -12,14 +12,15 @@ use cutborder::Loops;
 pub struct Live<'a, M: PlaceMemory> {
     pub memory: &'a M,
     pub loops: Loops,
-    ghost near: { Near M.places loops (M.numbers memory.now) },
+    ghost near: { Near (M.places memory.now) loops (M.numbers memory.now) },
 }
 
 impl<'a, M: PlaceMemory> Live<'a, M> {
     /// The place where the current edge starts.
     pub fn current(&self) -> u16
         ensures value { result ≡ self.now.loops.current }
-        ensures place { result < M.places }
+        ensures place { result < M.places self.now.memory.now }
+        ensures record { result < M.records self.now.memory.now }
     {
         self.loops.current
     }
@@ -27,7 +28,8 @@ impl<'a, M: PlaceMemory> Live<'a, M> {
     /// The place after the current one.
     pub fn next(&self) -> u16
         ensures value { result ≡ after_of (M.numbers self.now.memory.now) self.now.loops.current }
-        ensures place { result < M.places }
+        ensures place { result < M.places self.now.memory.now }
+        ensures record { result < M.records self.now.memory.now }
     {
         self.memory.after_of(self.current())
     }
@@ -36,7 +38,8 @@ impl<'a, M: PlaceMemory> Live<'a, M> {
     pub fn second(&self) -> u16
         ensures value { result ≡ after_of (M.numbers self.now.memory.now)
             (after_of (M.numbers self.now.memory.now) self.now.loops.current) }
-        ensures place { result < M.places }
+        ensures place { result < M.places self.now.memory.now }
+        ensures record { result < M.records self.now.memory.now }
     {
         self.memory.after_of(self.next())
     }
@@ -44,7 +47,8 @@ impl<'a, M: PlaceMemory> Live<'a, M> {
     /// The place before the current one.
     pub fn last(&self) -> u16
         ensures value { result ≡ before_of (M.numbers self.now.memory.now) self.now.loops.current }
-        ensures place { result < M.places }
+        ensures place { result < M.places self.now.memory.now }
+        ensures record { result < M.records self.now.memory.now }
     {
         self.memory.before_of(self.current())
     }
@@ -54,7 +58,8 @@ impl<'a, M: PlaceMemory> Live<'a, M> {
         requires { i + 2 ≤ self.now.loops.size }
         ensures value { result ≡ walked (M.numbers self.now.memory.now) i
             (after_of (M.numbers self.now.memory.now) self.now.loops.current) }
-        ensures place { result < M.places }
+        ensures place { result < M.places self.now.memory.now }
+        ensures record { result < M.records self.now.memory.now }
     {
         walk(self.memory, i, self.next())
     }
@@ -62,7 +67,7 @@ impl<'a, M: PlaceMemory> Live<'a, M> {
     /// How many places the loop has that waits at w.
     pub fn waiting_size(&self, w: u16) -> u16
         requires { w + 2 ≤ self.now.loops.live }
-        ensures { result ≡ at (M.numbers self.now.memory.now) (5 * M.places + 2 * w + 1) }
+        ensures { result ≡ at (M.numbers self.now.memory.now) (5 * M.places self.now.memory.now + 2 * w + 1) }
     {
         self.memory.size_at(w)
     }
@@ -70,10 +75,11 @@ impl<'a, M: PlaceMemory> Live<'a, M> {
     /// Its place j places after the start of its current edge.
     pub fn waiting_place(&self, w: u16, j: u16) -> u16
         requires { (w + 2 ≤ self.now.loops.live)
-            × (j < at (M.numbers self.now.memory.now) (5 * M.places + 2 * w + 1)) }
+            × (j < at (M.numbers self.now.memory.now) (5 * M.places self.now.memory.now + 2 * w + 1)) }
         ensures value { result ≡ walked (M.numbers self.now.memory.now) j
-            (at (M.numbers self.now.memory.now) (5 * M.places + 2 * w)) }
-        ensures place { result < M.places }
+            (at (M.numbers self.now.memory.now) (5 * M.places self.now.memory.now + 2 * w)) }
+        ensures place { result < M.places self.now.memory.now }
+        ensures record { result < M.records self.now.memory.now }
     {
         walk(self.memory, j, self.memory.place_at(w))
     }

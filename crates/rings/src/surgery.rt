@@ -11,15 +11,17 @@ ghost use Rattle.border_theory.specs.Memory.Near.{Near, Borders, Doubles, Starts
 
 use crate::live::Live;
 use crate::walks::{move_down, release};
-use cells::PlaceMemory;
+use cells::{PlaceMemory, PlaceMemoryMut};
 use cutborder::Loops;
 
 /// New: a free place goes between the current place and the next. It gets vertex u and is current.
 #[tactic(auto, unfolding(border_theory::specs::Memory::Moves::new_held, border_theory::specs::Memory::Layout::edges_stored))]
-pub fn new_vertex<M: PlaceMemory>(m: &mut M, l: Loops, u: u16) -> Loops
-    requires { Near M.places l (M.numbers m.old) × (1 ≤ l.free) × (u < M.vertex_end) }
-    ensures loops { result ≡ (new_held M.places l (M.numbers m.old) u).loops }
-    ensures memory { M.numbers m.new ≡ (new_held M.places l (M.numbers m.old) u).memory }
+pub fn new_vertex<M: PlaceMemoryMut>(m: &mut M, l: Loops, u: u16) -> Loops
+    requires { Near (M.places m.old) l (M.numbers m.old) × (1 ≤ l.free) × (u < M.vertex_end) }
+    ensures loops { result ≡ (new_held (M.places m.old) l (M.numbers m.old) u).loops }
+    ensures memory { M.numbers m.new ≡ (new_held (M.places m.old) l (M.numbers m.old) u).memory }
+    ensures kept { (M.places m.new ≡ M.places m.old) × (M.records m.new ≡ M.records m.old)
+        × (M.lender m.new ≡ M.lender m.old) }
 {
     let live = Live {
         memory: &*m,
@@ -41,10 +43,12 @@ pub fn new_vertex<M: PlaceMemory>(m: &mut M, l: Loops, u: u16) -> Loops
 
 /// Forward: the place after the current one leaves.
 #[tactic(auto, unfolding(border_theory::specs::Memory::Moves::forward_held, border_theory::specs::Memory::Layout::edges_stored))]
-pub fn forward<M: PlaceMemory>(m: &mut M, l: Loops) -> Loops
-    requires { Near M.places l (M.numbers m.old) }
-    ensures loops { result ≡ (forward_held M.places l (M.numbers m.old)).loops }
-    ensures memory { M.numbers m.new ≡ (forward_held M.places l (M.numbers m.old)).memory }
+pub fn forward<M: PlaceMemoryMut>(m: &mut M, l: Loops) -> Loops
+    requires { Near (M.places m.old) l (M.numbers m.old) }
+    ensures loops { result ≡ (forward_held (M.places m.old) l (M.numbers m.old)).loops }
+    ensures memory { M.numbers m.new ≡ (forward_held (M.places m.old) l (M.numbers m.old)).memory }
+    ensures kept { (M.places m.new ≡ M.places m.old) × (M.records m.new ≡ M.records m.old)
+        × (M.lender m.new ≡ M.lender m.old) }
 {
     let live = Live {
         memory: &*m,
@@ -64,10 +68,12 @@ pub fn forward<M: PlaceMemory>(m: &mut M, l: Loops) -> Loops
 
 /// Backward: the current place leaves, and the one before it is current.
 #[tactic(auto, unfolding(border_theory::specs::Memory::Moves::backward_held, border_theory::specs::Memory::Layout::edges_stored))]
-pub fn backward<M: PlaceMemory>(m: &mut M, l: Loops) -> Loops
-    requires { Near M.places l (M.numbers m.old) }
-    ensures loops { result ≡ (backward_held M.places l (M.numbers m.old)).loops }
-    ensures memory { M.numbers m.new ≡ (backward_held M.places l (M.numbers m.old)).memory }
+pub fn backward<M: PlaceMemoryMut>(m: &mut M, l: Loops) -> Loops
+    requires { Near (M.places m.old) l (M.numbers m.old) }
+    ensures loops { result ≡ (backward_held (M.places m.old) l (M.numbers m.old)).loops }
+    ensures memory { M.numbers m.new ≡ (backward_held (M.places m.old) l (M.numbers m.old)).memory }
+    ensures kept { (M.places m.new ≡ M.places m.old) × (M.records m.new ≡ M.records m.old)
+        × (M.lender m.new ≡ M.lender m.old) }
 {
     let live = Live {
         memory: &*m,
@@ -88,10 +94,12 @@ pub fn backward<M: PlaceMemory>(m: &mut M, l: Loops) -> Loops
 
 /// The current loop ends: its places are freed, and the latest waiting loop goes on.
 #[tactic(auto, unfolding(border_theory::specs::Memory::Moves::ended_held))]
-pub fn close<M: PlaceMemory>(m: &mut M, l: Loops) -> Loops
-    requires { Near M.places l (M.numbers m.old) }
-    ensures loops { result ≡ (ended_held M.places l (M.numbers m.old)).loops }
-    ensures memory { M.numbers m.new ≡ (ended_held M.places l (M.numbers m.old)).memory }
+pub fn close<M: PlaceMemoryMut>(m: &mut M, l: Loops) -> Loops
+    requires { Near (M.places m.old) l (M.numbers m.old) }
+    ensures loops { result ≡ (ended_held (M.places m.old) l (M.numbers m.old)).loops }
+    ensures memory { M.numbers m.new ≡ (ended_held (M.places m.old) l (M.numbers m.old)).memory }
+    ensures kept { (M.places m.new ≡ M.places m.old) × (M.records m.new ≡ M.records m.old)
+        × (M.lender m.new ≡ M.lender m.old) }
 {
     if l.live <= 1 {
         release(m, l.free, l.size, l.current);
@@ -115,10 +123,12 @@ pub fn close<M: PlaceMemory>(m: &mut M, l: Loops) -> Loops
 
 // The place c gets a second one, between the place before it and the one after the current one; the current edge leads to c.
 #[tactic(auto, unfolding(border_theory::specs::Memory::Moves::doubled))]
-pub fn double<M: PlaceMemory>(m: &mut M, l: Loops, c: u16)
-    requires { Near M.places l (M.numbers m.old) × Doubles M.places l (M.numbers m.old) c }
-    ensures value { M.numbers m.new ≡ doubled M.places l (M.numbers m.old) c }
+pub fn double<M: PlaceMemoryMut>(m: &mut M, l: Loops, c: u16)
+    requires { Near (M.places m.old) l (M.numbers m.old) × Doubles (M.places m.old) l (M.numbers m.old) c }
+    ensures value { M.numbers m.new ≡ doubled (M.places m.old) l (M.numbers m.old) c }
     ensures long { length (M.numbers m.new) ≡ length (M.numbers m.old) }
+    ensures kept { (M.places m.new ≡ M.places m.old) × (M.records m.new ≡ M.records m.old)
+        × (M.lender m.new ≡ M.lender m.old) }
 {
     let live = Live {
         memory: &*m,
@@ -138,10 +148,12 @@ pub fn double<M: PlaceMemory>(m: &mut M, l: Loops, c: u16)
 
 // The place after the current one leaves if its edge is marked, as the current edge will be.
 #[tactic(auto, unfolding(border_theory::specs::Memory::Moves::next_cut))]
-fn leave_next<M: PlaceMemory>(m: &mut M, l: Loops) -> Loops
-    requires { Near M.places l (M.numbers m.old) }
-    ensures loops { result ≡ (next_cut M.places l (M.numbers m.old)).loops }
-    ensures memory { M.numbers m.new ≡ (next_cut M.places l (M.numbers m.old)).memory }
+fn leave_next<M: PlaceMemoryMut>(m: &mut M, l: Loops) -> Loops
+    requires { Near (M.places m.old) l (M.numbers m.old) }
+    ensures loops { result ≡ (next_cut (M.places m.old) l (M.numbers m.old)).loops }
+    ensures memory { M.numbers m.new ≡ (next_cut (M.places m.old) l (M.numbers m.old)).memory }
+    ensures kept { (M.places m.new ≡ M.places m.old) × (M.records m.new ≡ M.records m.old)
+        × (M.lender m.new ≡ M.lender m.old) }
 {
     let f = Live {
         memory: &*m,
@@ -156,10 +168,12 @@ fn leave_next<M: PlaceMemory>(m: &mut M, l: Loops) -> Loops
 
 // The current place leaves if the edge before it is marked, as the current edge will be.
 #[tactic(auto, unfolding(border_theory::specs::Memory::Moves::last_cut))]
-fn leave_current<M: PlaceMemory>(m: &mut M, l: Loops) -> Loops
-    requires { Near M.places l (M.numbers m.old) }
-    ensures loops { result ≡ (last_cut M.places l (M.numbers m.old)).loops }
-    ensures memory { M.numbers m.new ≡ (last_cut M.places l (M.numbers m.old)).memory }
+fn leave_current<M: PlaceMemoryMut>(m: &mut M, l: Loops) -> Loops
+    requires { Near (M.places m.old) l (M.numbers m.old) }
+    ensures loops { result ≡ (last_cut (M.places m.old) l (M.numbers m.old)).loops }
+    ensures memory { M.numbers m.new ≡ (last_cut (M.places m.old) l (M.numbers m.old)).memory }
+    ensures kept { (M.places m.new ≡ M.places m.old) × (M.records m.new ≡ M.records m.old)
+        × (M.lender m.new ≡ M.lender m.old) }
 {
     let c = Live {
         memory: &*m,
@@ -174,10 +188,12 @@ fn leave_current<M: PlaceMemory>(m: &mut M, l: Loops) -> Loops
 
 /// Border: up to two places leave, then the current edge is marked.
 #[tactic(auto, unfolding(border_theory::specs::Memory::Moves::marked_held))]
-pub fn mark_border<M: PlaceMemory>(m: &mut M, l: Loops) -> Loops
-    requires { Borders M.places l (M.numbers m.old) }
-    ensures loops { result ≡ (marked_held M.places l (M.numbers m.old)).loops }
-    ensures memory { M.numbers m.new ≡ (marked_held M.places l (M.numbers m.old)).memory }
+pub fn mark_border<M: PlaceMemoryMut>(m: &mut M, l: Loops) -> Loops
+    requires { Borders (M.places m.old) l (M.numbers m.old) }
+    ensures loops { result ≡ (marked_held (M.places m.old) l (M.numbers m.old)).loops }
+    ensures memory { M.numbers m.new ≡ (marked_held (M.places m.old) l (M.numbers m.old)).memory }
+    ensures kept { (M.places m.new ≡ M.places m.old) × (M.records m.new ≡ M.records m.old)
+        × (M.lender m.new ≡ M.lender m.old) }
 {
     let a = leave_next(m, l);
     let b = leave_current(m, a);
@@ -186,10 +202,12 @@ pub fn mark_border<M: PlaceMemory>(m: &mut M, l: Loops) -> Loops
 
 // The current edge is marked. The next one is open and becomes current; where it is not, the loop has one place left, and ends.
 #[tactic(auto, unfolding(border_theory::specs::Memory::Moves::turned_held, border_theory::specs::Memory::Layout::edges_stored))]
-fn mark_edge<M: PlaceMemory>(m: &mut M, l: Loops) -> Loops
-    requires { Near M.places l (M.numbers m.old) }
-    ensures loops { result ≡ (turned_held M.places l (M.numbers m.old)).loops }
-    ensures memory { M.numbers m.new ≡ (turned_held M.places l (M.numbers m.old)).memory }
+fn mark_edge<M: PlaceMemoryMut>(m: &mut M, l: Loops) -> Loops
+    requires { Near (M.places m.old) l (M.numbers m.old) }
+    ensures loops { result ≡ (turned_held (M.places m.old) l (M.numbers m.old)).loops }
+    ensures memory { M.numbers m.new ≡ (turned_held (M.places m.old) l (M.numbers m.old)).memory }
+    ensures kept { (M.places m.new ≡ M.places m.old) × (M.records m.new ≡ M.records m.old)
+        × (M.lender m.new ≡ M.lender m.old) }
 {
     let live = Live {
         memory: &*m,
@@ -206,11 +224,13 @@ fn mark_edge<M: PlaceMemory>(m: &mut M, l: Loops) -> Loops
 
 /// Split: the loop falls in two, of i + 1 places and of the others. The shorter goes on; the other waits.
 #[tactic(auto, unfolding(border_theory::specs::Memory::Moves::split_held))]
-pub fn split<M: PlaceMemory>(m: &mut M, l: Loops, i: u16, c: u16) -> Loops
-    requires near { Near M.places l (M.numbers m.old) × Doubles M.places l (M.numbers m.old) c }
-    requires i_bound { (i + 2 ≤ l.size) × (l.live < 65535) × (5 * M.places + 2 * (l.live + 1) ≤ length (M.numbers m.old)) }
-    ensures loops { result ≡ (split_held M.places l (M.numbers m.old) i c).loops }
-    ensures memory { M.numbers m.new ≡ (split_held M.places l (M.numbers m.old) i c).memory }
+pub fn split<M: PlaceMemoryMut>(m: &mut M, l: Loops, i: u16, c: u16) -> Loops
+    requires near { Near (M.places m.old) l (M.numbers m.old) × Doubles (M.places m.old) l (M.numbers m.old) c }
+    requires i_bound { (i + 2 ≤ l.size) × (l.live < 65535) × (5 * M.places m.old + 2 * (l.live + 1) ≤ length (M.numbers m.old)) }
+    ensures loops { result ≡ (split_held (M.places m.old) l (M.numbers m.old) i c).loops }
+    ensures memory { M.numbers m.new ≡ (split_held (M.places m.old) l (M.numbers m.old) i c).memory }
+    ensures kept { (M.places m.new ≡ M.places m.old) × (M.records m.new ≡ M.records m.old)
+        × (M.lender m.new ≡ M.lender m.old) }
 {
     let e = Live {
         memory: &*m,
@@ -240,11 +260,13 @@ pub fn split<M: PlaceMemory>(m: &mut M, l: Loops, i: u16, c: u16) -> Loops
 
 /// Union: waiting loop p, joined at its place c, becomes part of the current one.
 #[tactic(auto, unfolding(border_theory::specs::Memory::Moves::union_held))]
-pub fn union<M: PlaceMemory>(m: &mut M, l: Loops, p: u16, c: u16) -> Loops
-    requires near { Near M.places l (M.numbers m.old) × Doubles M.places l (M.numbers m.old) c }
+pub fn union<M: PlaceMemoryMut>(m: &mut M, l: Loops, p: u16, c: u16) -> Loops
+    requires near { Near (M.places m.old) l (M.numbers m.old) × Doubles (M.places m.old) l (M.numbers m.old) c }
     requires le_p { (1 ≤ p) × (p + 1 ≤ l.live) }
-    ensures loops { result ≡ (union_held M.places l (M.numbers m.old) p c).loops }
-    ensures memory { M.numbers m.new ≡ (union_held M.places l (M.numbers m.old) p c).memory }
+    ensures loops { result ≡ (union_held (M.places m.old) l (M.numbers m.old) p c).loops }
+    ensures memory { M.numbers m.new ≡ (union_held (M.places m.old) l (M.numbers m.old) p c).memory }
+    ensures kept { (M.places m.new ≡ M.places m.old) × (M.records m.new ≡ M.records m.old)
+        × (M.lender m.new ≡ M.lender m.old) }
 {
     let w = l.live - 1 - p;
     let q = m.free_at(l.free, 1);
@@ -261,10 +283,12 @@ pub fn union<M: PlaceMemory>(m: &mut M, l: Loops, p: u16, c: u16) -> Loops
 
 /// Start: a loop of three free places, with the vertices u, u + 1 and u + 2.
 #[tactic(auto, unfolding(border_theory::specs::Memory::Moves::start_held, border_theory::specs::Memory::Layout::edges_stored))]
-pub fn start<M: PlaceMemory>(m: &mut M, l: Loops, u: u16) -> Loops
-    requires { Starts M.places l (M.numbers m.old) × (u ≤ max_vertices) }
-    ensures loops { result ≡ (start_held M.places l (M.numbers m.old) u).loops }
-    ensures memory { M.numbers m.new ≡ (start_held M.places l (M.numbers m.old) u).memory }
+pub fn start<M: PlaceMemoryMut>(m: &mut M, l: Loops, u: u16) -> Loops
+    requires { Starts (M.places m.old) l (M.numbers m.old) × (u ≤ max_vertices) }
+    ensures loops { result ≡ (start_held (M.places m.old) l (M.numbers m.old) u).loops }
+    ensures memory { M.numbers m.new ≡ (start_held (M.places m.old) l (M.numbers m.old) u).memory }
+    ensures kept { (M.places m.new ≡ M.places m.old) × (M.records m.new ≡ M.records m.old)
+        × (M.lender m.new ≡ M.lender m.old) }
 {
     let a = m.free_at(l.free, 1);
     let b = m.free_at(l.free, 2);

@@ -15,8 +15,9 @@ use border::finish::is_complete;
 use border::mark;
 use border::triangles::put_triangle;
 use border::verdict::test_room;
+use cells::PlaceMemoryMut;
 use corners::{Links, link};
-use cutborder::{Action, CORE, Front, PLACES, Plan};
+use cutborder::{Action, Front, PLACES, Plan};
 use mesh::fans::Met;
 use rules::Operation;
 use rules::refusal::Refusal;
@@ -24,19 +25,23 @@ use wire::reader::OperationReader;
 
 // Builds a planned triangle, unless the edge rule fails (18): into the buffer, the chains and the memory. A vertex that it meets is
 // noted.
-fn build_triangle(
+fn build_triangle<M: PlaceMemoryMut>(
     o: Operation,
     s: Front,
     p: Plan,
     triangles: &mut [u16],
-    m: &mut [u16; CORE],
+    m: &mut M,
     chains: &mut Links,
     met: &mut Met,
 ) -> Result<Front, Refusal>
-    requires { Held s triangles.old m.old chains.old met.old × (decided max_places s m.old o ≡ Ok (Builds p)) }
-    ensures turn { (next : ℕ) → OperateOf o next s triangles.old m.old chains.old met.old (stepped_to next result)
-        triangles.new m.new chains.new met.new }
+    requires held { Held s triangles.old (M.numbers m.old) chains.old met.old
+        × (decided max_places s (M.numbers m.old) o ≡ Ok (Builds p)) }
+    requires places { M.places m.old ≡ max_places }
+    ensures turn { (next : ℕ) → OperateOf o next s triangles.old (M.numbers m.old) chains.old met.old
+        (stepped_to next result) triangles.new (M.numbers m.new) chains.new met.new }
     ensures beyond { Beyond s.stated triangles.old triangles.new }
+    ensures kept { (M.places m.new ≡ M.places m.old) × (M.records m.new ≡ M.records m.old)
+        × (M.lender m.new ≡ M.lender m.old) }
 {
     if !is_ruled(triangles, chains, o, p) {
         return Err(Refusal::EdgeRule);
@@ -51,18 +56,21 @@ fn build_triangle(
 }
 
 // Does the operation o: 16, 17, 18, or the state after it.
-fn operate(
+fn operate<M: PlaceMemoryMut>(
     o: Operation,
     s: Front,
     triangles: &mut [u16],
-    m: &mut [u16; CORE],
+    m: &mut M,
     chains: &mut Links,
     met: &mut Met,
 ) -> Result<Front, Refusal>
-    requires { Held s triangles.old m.old chains.old met.old }
-    ensures turn { (next : ℕ) → OperateOf o next s triangles.old m.old chains.old met.old (stepped_to next result)
-        triangles.new m.new chains.new met.new }
+    requires held { Held s triangles.old (M.numbers m.old) chains.old met.old }
+    requires places { M.places m.old ≡ max_places }
+    ensures turn { (next : ℕ) → OperateOf o next s triangles.old (M.numbers m.old) chains.old met.old
+        (stepped_to next result) triangles.new (M.numbers m.new) chains.new met.new }
     ensures beyond { Beyond s.stated triangles.old triangles.new }
+    ensures kept { (M.places m.new ≡ M.places m.old) × (M.records m.new ≡ M.records m.old)
+        × (M.lender m.new ≡ M.lender m.old) }
 {
     let proposed = propose(m, s.loops, s.used, o);
     match test_room(PLACES, s, proposed)? {
@@ -73,19 +81,22 @@ fn operate(
 
 // Operations from the first bit on until the model is complete, by at most `budget` of them: the state and the position then, or
 // the refusal of the first at fault. One reader goes through them all.
-pub fn run(
+pub fn run<M: PlaceMemoryMut>(
     ops: &[u8],
     start: Front,
     budget: usize,
     triangles: &mut [u16],
-    m: &mut [u16; CORE],
+    m: &mut M,
     chains: &mut Links,
     met: &mut Met,
 ) -> Result<(Front, usize), Refusal>
-    requires { Held start triangles.old m.old chains.old met.old × (length ops.now < 65536) }
-    ensures run { RunOf ops.now budget start triangles.old m.old chains.old
-        met.old (stepped_of result) triangles.new m.new chains.new met.new }
+    requires held { Held start triangles.old (M.numbers m.old) chains.old met.old × (length ops.now < 65536) }
+    requires places { M.places m.old ≡ max_places }
+    ensures run { RunOf ops.now budget start triangles.old (M.numbers m.old) chains.old
+        met.old (stepped_of result) triangles.new (M.numbers m.new) chains.new met.new }
     ensures beyond { Beyond start.stated triangles.old triangles.new }
+    ensures kept { (M.places m.new ≡ M.places m.old) × (M.records m.new ≡ M.records m.old)
+        × (M.lender m.new ≡ M.lender m.old) }
 {
     let mut s = start;
     let mut r = OperationReader { bytes: ops, at: 0 };

@@ -6,4 +6,5 @@ pub mark_border-l-requires : goal.mark_border-l-requires
 mark_border-l-requires g c = ready_borders _ _ _ c.requires.0 c.requires.1
 
 pub count_marked-requires : goal.count_marked-requires
-count_marked-requires g c = rw c.capacity.ensures (marked_counts _ _ _ _ c.requires c.mark_border-l.ensures.loops)
+count_marked-requires g c =
+    rw (c.capacity.ensures, c.mark_border-l.ensures.kept.0) (marked_counts _ _ _ _ c.requires c.mark_border-l.ensures.loops)

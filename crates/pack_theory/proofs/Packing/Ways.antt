@@ -1,44 +1,36 @@
 -- One law for each way through the small functions of the packer.
 -- Assumes nothing.
-use Prim.Native.Nat.{ℕ, ◌+◌, ◌-◌, ◌*◌, ◌/◌, ◌≤◌, ◌<◌}
-use native.Mathlib.Omega.{arith}
-use mathlib.Core.Bool.{Bool, true, false, not}
+use Prim.Native.Nat.{ℕ, ◌+◌, ◌-◌, ◌/◌, ◌≤◌, ◌<◌}
+use mathlib.Core.Bool.{Bool, true, false}
 use mathlib.Core.List.{List}
-use mathlib.Core.Path.{◌≡◌, refl, sym, ap, ap₂, ◌∙◌, subst}
+use mathlib.Core.Path.{◌≡◌, sym, ap, ap₂, ◌∙◌, subst}
 use lib.ListN.{length, set}
 use lib.Seq.{sets}
-use lib.Dec.{eqb}
-use borrow.Author.Tests.{eq-eqb, ne_eqb, le-leb, lt-leb, eqb-true, eqb-false, not-true, not-false}
+use borrow.Author.Tests.{le-leb}
 use Rattle.rules.specs.Across.{Across}
 use Rattle.rules.specs.Across.{Found, Nothing}
-use Rattle.rules.specs.declared.Operation.{Operation}
-use Rattle.rules.specs.declared.Operation.TheVariants.{New, Border}
+use Rattle.rules.specs.declared.Operation.TheVariants.{Border}
 use Rattle.rules.specs.Packed.{Packed}
 use Rattle.rules.specs.Packed as P
 use Rattle.rules.specs.declared.Counts.{Counts}
-use Rattle.rules.specs.Limits.{max_places}
 use Rattle.rules.specs.Triangle.{triangles_of}
 use Rattle.rules.specs.Across.{across}
-use Rattle.rules.specs.Choice.{choose_place}
 use Rattle.rules.specs.Order.{number_found}
-use Rattle.rules.specs.Buffer.{over, zeroed}
+use Rattle.rules.specs.Buffer.{over}
 use Rattle.wire_theory.specs.Header.{header_of}
 use Rattle.wire_theory.specs.Buffer.{bytes_for}
 use Rattle.mesh_theory.specs.Chains.Linked.{Finds}
 use Rattle.mesh_theory.proofs.Chains.Finding.{linked_found}
 use Rattle.cutborder.specs.declared.Loops.{Loops}
 use Rattle.border_theory.specs.Memory.Layout.{vertex_of, after_of}
-use Rattle.border_theory.specs.Memory.Stands.{loops_in}
-use Rattle.pack_theory.specs.Choosing.Choosable.{flag_of, unbuilt_of, Choosable}
+use Rattle.pack_theory.specs.Choosing.Choosable.{flag_of, Choosable}
 use Rattle.cutborder.specs.declared.Course.{Course}
 use Rattle.cutborder.specs.declared.Move.{Move}
 use Rattle.pack_theory.specs.Packing.Ran.{Ran}
 use Rattle.pack_theory.specs.Packing.Ran as R
-use Rattle.pack_theory.specs.Packing.Numbers.{unnumbered}
-use Rattle.pack_theory.specs.Packing.Course.{start_of, end_of, is_numbered, placed_by, flags_by, move_by, move_of, flags_of, given_by}
-use Rattle.pack_theory.specs.Packing.Course.{numbers_by, renamed, Chooses}
+use Rattle.pack_theory.specs.Packing.Course.{start_of, end_of, is_numbered, placed_by, flags_by, move_by, move_of, flags_of}
+use Rattle.pack_theory.specs.Packing.Course.{Chooses}
 use Rattle.pack_theory.specs.Packing.Order.{order_of, Notable}
-use Rattle.pack_theory.specs.Packing.Steps.{Lowest, Renames}
 use Rattle.pack_theory.specs.Packing.Finish.{counts_at, fits_buffer, answer_if, finish_answer, numbers_if, finish_numbers, pack_if}
 use Rattle.pack_theory.specs.Packing.Finish.{finish_pack, Sized}
 

@@ -67,7 +67,7 @@ operation_by k u v (suc w) i = Union (suc w) i
 
 -- place p and the place after it are in the memory
 abbrev pub Inside : List ℕ → ℕ → Type 0
-Inside m p = (p < max_places) × (after_of m p < max_places)
+Inside m p = (4 * p + 3 < length m) × (4 * after_of m p + 3 < length m)
 
 -- the places that are looked at are in the memory
 pub record Seekable (l : Loops) (m : List ℕ) : Type 0 where

@@ -8,8 +8,8 @@ use Rattle.unpack_theory.specs.Stepped as S
 use Rattle.unpack_theory.proofs.Unpacking.{first_held, first_ended, run_gives}
 use Rattle.unpacker.proofs.build_model.Goals as goal
 
-pub run-requires : goal.run-requires
-run-requires c = (
+pub run-requires-clause-held : goal.run-requires-clause-held
+run-requires-clause-held c = (
   first_held c.args.stated c.args.ops.now c.args.triangles.now c.args.m.now c.requires c.begin-start.result c.begin-start.ensures.state
       c.begin-start.new.m c.begin-start.ensures.memory _ (zeros_none _ _ refl) _ (length-replicate {A = ℕ} 4096 0),
   c.requires.short,

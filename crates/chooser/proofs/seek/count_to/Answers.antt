@@ -10,7 +10,7 @@ returns-then-is_start c = counting_found _ _ _ _ _ _ _ c.loop-i.invariant _ c.lo
     c.is_start.ensures c.if-is_start.true
 
 pub after_of-at-requires : goal.after_of-at-requires
-after_of-at-requires c = (omega arith, (counting_here _ _ _ _ _ _ _ c.loop-i.invariant c.loop-i-test.true).0)
+after_of-at-requires c = (counting_here _ _ _ _ _ _ _ c.loop-i.invariant c.loop-i-test.true).0
 
 pub loop-i-preserved : goal.loop-i-preserved
 loop-i-preserved c = counting_more _ _ _ _ _ _ _ c.loop-i.invariant _ _ c.loop-i-test.true

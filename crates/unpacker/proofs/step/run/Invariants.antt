@@ -4,11 +4,15 @@ use Rattle.unpack_theory.specs.Runs.{Beyond, ComesFrom}
 use Rattle.unpacker.proofs.step.run.Given as goal
 
 abbrev pub invariant-loop : goal.invariant-loop
-invariant-loop l = record {
+invariant-loop g l = record {
   bytes : l.r.bytes.now ≡ l.ops;
   left : l.counter ≤ l.budget;
-  comes : ComesFrom l.ops l.budget l.initial.s l.initial.triangles l.initial.m l.initial.chains l.initial.met (l.budget - l.counter) l.s
+  comes : ComesFrom l.ops l.budget l.initial.s l.initial.triangles (g.M.PlaceMemory.numbers l.initial.m) l.initial.chains l.initial.met
+      (l.budget - l.counter) l.s
       l.r.at
-      l.triangles l.m l.chains l.met;
+      l.triangles (g.M.PlaceMemory.numbers l.m) l.chains l.met;
+  kept : (g.M.PlaceMemory.places l.m ≡ g.M.PlaceMemory.places l.initial.m)
+      × (g.M.PlaceMemory.records l.m ≡ g.M.PlaceMemory.records l.initial.m)
+      × (g.M.PlaceMemory.lender l.m ≡ g.M.PlaceMemory.lender l.initial.m);
   beyond : Beyond l.initial.s.stated l.initial.triangles l.triangles;
 }
