@@ -1,7 +1,9 @@
 // The beginning of a building: 13, 14, or an empty builder.
+ghost use Rattle.std.specs.Prelude.{◌≡◌};
 ghost use Rattle.rules.specs.Build.{begun_of};
-ghost use Rattle.state_theory.specs.Finishing.Core.{BeginsOn};
+ghost use Rattle.state_theory.specs.Finishing.Core.{BeginsOn, cleared_by};
 
+use cutborder::PLACES;
 use rules::refusal::Refusal;
 use rules::{Builder, Counts};
 use wire::fields::{is_in_range, is_long_enough};
@@ -21,4 +23,14 @@ pub fn begin_on(stated: Counts, triangles: &[u16], n: usize) -> Result<Builder, 
         stated,
         ..Builder::empty()
     })
+}
+
+// How many place records a beginning clears, read off its answer: the first 1,024, if it is accepted.
+pub fn cleared(r: &Result<Builder, Refusal>) -> usize
+    ensures { result ≡ cleared_by (begun_of r.now) }
+{
+    match r {
+        Ok(_) => PLACES,
+        Err(_) => 0,
+    }
 }

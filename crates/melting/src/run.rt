@@ -23,7 +23,7 @@ fn weighed(field: &[u8], t: Triangle, six: i64) -> i64
     weigh(field, t, six)
 }
 
-// The next operation, read and done.
+// The next operation, read and done: further on and in the bytes.
 fn turn(ops: &[u8], field: &[u8], p: Melt, m: &mut [u8; BYTES]) -> Result<Melt, Refusal>
     requires { Held field.now p m.old × Weighable p.front.stated field.now × (is_complete p.front ≡ false) × (length ops.now < 65536) }
     ensures { Turned ops.now field.now p m.old result m.new }
@@ -48,7 +48,8 @@ fn turn(ops: &[u8], field: &[u8], p: Melt, m: &mut [u8; BYTES]) -> Result<Melt, 
     }
 }
 
-// Operations from the first bit on until the model is complete or one is at fault.
+// Operations from the first bit on until the model is complete or one is at fault. Each turn reads further on, so that the last line is
+// never met.
 pub(crate) fn run(
     ops: &[u8],
     field: &[u8],

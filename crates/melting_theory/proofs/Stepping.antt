@@ -59,7 +59,7 @@ use Rattle.cells_theory.proofs.Bytes.{length_numbers}
 use Rattle.melting_theory.specs.Runs.{Melts, Weighed, Held, run_in, Going, Done, TurnedTo, Turned}
 use Rattle.melting_theory.specs.Runs.{Weighable, Weighs, WeighsTo, Begins}
 use Rattle.melting_theory.proofs.Weighing.{weighs_may, weighs_told, weighed_more}
-use Rattle.melting_theory.proofs.Runs.{ran_complete, ran_none, ran_broken, ran_refused, ran_built, ran_marked}
+use Rattle.melting_theory.proofs.Runs.{ran_complete, ran_broken, ran_refused, ran_built, ran_marked}
 
 module _ (M : Machine) (s : Front) (bs : List ℕ) (h : Melts M s bs) where
   abbrev book : Book
@@ -156,6 +156,10 @@ module _ (M : Machine) (s : Front) (bs : List ℕ) (h : Melts M s bs) where
 
 -- ---- the ways through a turn
 
+-- the bits from a position on
+bits_left : (ops : List ℕ) (k : ℕ) → length (bits_from ops k) ≡ 8 * length ops - k
+bits_left ops k = length-drop k (bits_of_bytes ops) ∙ ap (λ (n : ℕ). n - k) (length_bits_of_bytes ops)
+
 -- with no live loop no edge is marked
 never : (y : Marking) → not_allowed ≡ marks y → ⊥
 never y e = let z : ◌≡◌ {A = ℕ} 0 1 = cc in omega arith
@@ -203,77 +207,87 @@ module _ (field : List ℕ) (p : Melt) (bs : List ℕ) (h : Held field p bs) whe
       (live_same furnace_places p.front (numbers bs) h.machine h.melts.keeps ∙ z)
 
 module _ (ops field : List ℕ) (p : Melt) (bs : List ℕ) where
-  pub turn_complete : (left : ℕ) → 0 < left → Going ops field left p bs → (b : Bool) → b ≡ is_complete p.front → b ≡ true
-      → Done ops field p bs
-  turn_complete left l g b eb e = record {
+  -- the count is never used up
+  pub some_left : (left : ℕ) → Going ops field left p bs → 0 < left
+  some_left left g = omega (arith, g.enough)
+
+  pub turn_complete : (left : ℕ) → Going ops field left p bs → (b : Bool) → b ≡ is_complete p.front → b ≡ true → Done ops field p bs
+  turn_complete left g b eb e = record {
     held = g.held;
     ran =
-        g.ran ∙ ran_complete left g.held.machine (bits_from ops p.at) l
+        g.ran ∙ ran_complete left g.held.machine (bits_from ops p.at) (some_left left g)
         (melts_complete g.held.machine p.front bs g.held.melts ∙ sym eb ∙ e);
   }
-
-  -- none may be read any more
-  pub turn_none : (left : ℕ) → left ≤ 0 → Going ops field left p bs → run_in ops p ≡ stopped 15
-  turn_none left l g = g.ran ∙ ran_none left g.held.machine (bits_from ops p.at) l
 
   module _ (b : Bool) (eb : b ≡ is_complete p.front) (c : b ≡ false) where
     on : {left : ℕ} → (g : Going ops field left p bs) → complete g.held.machine ≡ false
     on g = melts_complete g.held.machine p.front bs g.held.melts ∙ sym eb ∙ c
 
     pub turn_broken : read_operation (bits_from ops p.at) ≡ breaks_off → Turned ops field p bs (Err EndsEarly) bs
-    turn_broken e left l g = g.ran ∙ ran_broken left g.held.machine (bits_from ops p.at) (on g) e
+    turn_broken e left g = g.ran ∙ ran_broken left g.held.machine (bits_from ops p.at) (on g) e
 
     module _ (o : Operation) (k : ℕ) (reads : read_operation (bits_from ops p.at) ≡ read o (bits_from ops k)) where
       pub turn_refused : (n : Refusal) → decided furnace_places p.front (numbers bs) o ≡ Err n → Turned ops field p bs (Err n) bs
-      turn_refused n e left l g =
+      turn_refused n e left g =
           g.ran
-          ∙ ran_refused g.held.machine (bits_from ops p.at) (bits_from ops k) o (on g) reads left (number_of n) l
+          ∙ ran_refused g.held.machine (bits_from ops p.at) (bits_from ops k) o (on g) reads left (number_of n) (some_left left g)
           (refused_it g.held.machine p.front bs g.held.melts o n e)
 
-      onward_by : (left : ℕ) (g : Going ops field left p bs) (s' : Front) (z : ℤ) (bs' : List ℕ) → s'.stated ≡ p.front.stated
-          → (N : Machine) → Melts N s' bs' → Weighed field N.triangles z
-          → run_freely left g.held.machine (bits_from ops p.at) ≡ run_freely (left - 1) N (bits_from ops k)
-          → TurnedTo ops field left p (Ok (record { at = k; front = s'; six = z })) bs'
-      onward_by left g s' z bs' es N m w e = (
-        record {
-          held = record { machine = N; melts = m; weighed = w };
-          ran = ap (λ (c : Counts). run_freely_of c ops) es ∙ g.ran ∙ e;
-        },
-        es,
-      )
+      module _ (ahead : p.at < k) (within : k ≤ 8 * length ops) where
+        -- fewer bits are left
+        fewer : (left : ℕ) → length (bits_from ops p.at) < left → length (bits_from ops k) < left - 1
+        fewer left h =
+            let a = bits_left ops p.at in
+            let b = bits_left ops k in
+            omega (arith, h, a, b, ahead, within)
 
-      pub turn_built : (t : Plan) → decided furnace_places p.front (numbers bs) o ≡ Ok (Builds t) → (s' : Front)
-          → s' ≡ built_front furnace_places p.front t (held_after furnace_places p.front (numbers bs) o t).loops → (bs' : List ℕ)
-          → numbers bs' ≡ (held_after furnace_places p.front (numbers bs) o t).memory → Whole bs' → (w : ℤ) → SFits w64 w
-          → WeighsTo field t.triangle (held p.six) w → Turned ops field p bs (Ok (record { at = k; front = s'; six = held w })) bs'
-      unfolding next built_front
-      turn_built t e s' es bs' em wh w f v left l g =
-          let M = g.held.machine in
-          let m = g.held.melts in
-          let d = does M p.front bs m o t e in
-          let v' : Weighed field (t.triangle ∷ M.triangles) (held w) =
-          weighed_more field M.triangles t.triangle p.six (held w) g.held.weighed
-          (weighs_told field t.triangle p.six (held p.six) w (held w) (same_six field p bs g.held) (to_z-of_z f) (v.sum, v.amount)) in
-          onward_by left g s' (held w) bs' (ap (λ (f : Front). f.stated) es) (next M p.front bs m o t e)
-          (next_melts M p.front bs m o t e s' es bs' em wh)
-          (subst (λ (u : Triangle). Weighed field (u ∷ M.triangles) (held w)) (sym d.triangle) v')
-          (ran_built M (bits_from ops p.at) (bits_from ops k) o (on g) reads left t.triangle (next M p.front bs m o t e) l
-          (made M p.front bs m o t e))
+        onward_by : (left : ℕ) (g : Going ops field left p bs) (s' : Front) (z : ℤ) (bs' : List ℕ) → s'.stated ≡ p.front.stated
+            → (N : Machine) → Melts N s' bs' → Weighed field N.triangles z
+            → run_freely left g.held.machine (bits_from ops p.at) ≡ run_freely (left - 1) N (bits_from ops k)
+            → TurnedTo ops field left p (Ok (record { at = k; front = s'; six = z })) bs'
+        onward_by left g s' z bs' es N m w e = (
+          record {
+            held = record { machine = N; melts = m; weighed = w };
+            ran = ap (λ (c : Counts). run_freely_of c ops) es ∙ g.ran ∙ e;
+            enough = fewer left g.enough;
+          },
+          es,
+          ahead,
+          within,
+        )
 
-      pub turn_marked : (x y : ℕ) → decided furnace_places p.front (numbers bs) o ≡ Ok (Marks x y) → (s' : Front)
-          → s' ≡ marked_front furnace_places p.front (marked_held furnace_places p.front.loops (numbers bs)).loops → (bs' : List ℕ)
-          → numbers bs' ≡ (marked_held furnace_places p.front.loops (numbers bs)).memory → Whole bs' → (z : ℤ) → z ≡ held p.six
-          → Turned ops field p bs (Ok (record { at = k; front = s'; six = z })) bs'
-      unfolding after marked_front
-      turn_marked x y e s' es bs' em w z ez left l g =
-          let M = g.held.machine in
-          let m = g.held.melts in
-          let d = marked M p.front bs m o x y e in
-          rw (ez, same_six field p bs g.held)
-          (onward_by left g s' p.six bs' (ap (λ (f : Front). f.stated) es) (after M p.front bs m o x y e)
-          (after_melts M p.front bs m o x y e s' es bs' em w) g.held.weighed
-          (ran_marked M (bits_from ops p.at) (bits_from ops k) o (on g) reads left d.marking.edge (after M p.front bs m o x y e) l
-          (declares M p.front bs m o x y e)))
+        pub turn_built : (t : Plan) → decided furnace_places p.front (numbers bs) o ≡ Ok (Builds t) → (s' : Front)
+            → s' ≡ built_front furnace_places p.front t (held_after furnace_places p.front (numbers bs) o t).loops → (bs' : List ℕ)
+            → numbers bs' ≡ (held_after furnace_places p.front (numbers bs) o t).memory → Whole bs' → (w : ℤ) → SFits w64 w
+            → WeighsTo field t.triangle (held p.six) w → Turned ops field p bs (Ok (record { at = k; front = s'; six = held w })) bs'
+        unfolding next built_front
+        turn_built t e s' es bs' em wh w f v left g =
+            let M = g.held.machine in
+            let m = g.held.melts in
+            let d = does M p.front bs m o t e in
+            let v' : Weighed field (t.triangle ∷ M.triangles) (held w) =
+            weighed_more field M.triangles t.triangle p.six (held w) g.held.weighed
+            (weighs_told field t.triangle p.six (held p.six) w (held w) (same_six field p bs g.held) (to_z-of_z f) (v.sum, v.amount)) in
+            onward_by left g s' (held w) bs' (ap (λ (f : Front). f.stated) es) (next M p.front bs m o t e)
+            (next_melts M p.front bs m o t e s' es bs' em wh)
+            (subst (λ (u : Triangle). Weighed field (u ∷ M.triangles) (held w)) (sym d.triangle) v')
+            (ran_built M (bits_from ops p.at) (bits_from ops k) o (on g) reads left t.triangle (next M p.front bs m o t e)
+            (some_left left g) (made M p.front bs m o t e))
+
+        pub turn_marked : (x y : ℕ) → decided furnace_places p.front (numbers bs) o ≡ Ok (Marks x y) → (s' : Front)
+            → s' ≡ marked_front furnace_places p.front (marked_held furnace_places p.front.loops (numbers bs)).loops → (bs' : List ℕ)
+            → numbers bs' ≡ (marked_held furnace_places p.front.loops (numbers bs)).memory → Whole bs' → (z : ℤ) → z ≡ held p.six
+            → Turned ops field p bs (Ok (record { at = k; front = s'; six = z })) bs'
+        unfolding after marked_front
+        turn_marked x y e s' es bs' em w z ez left g =
+            let M = g.held.machine in
+            let m = g.held.melts in
+            let d = marked M p.front bs m o x y e in
+            rw (ez, same_six field p bs g.held)
+            (onward_by left g s' p.six bs' (ap (λ (f : Front). f.stated) es) (after M p.front bs m o x y e)
+            (after_melts M p.front bs m o x y e s' es bs' em w) g.held.weighed
+            (ran_marked M (bits_from ops p.at) (bits_from ops k) o (on g) reads left d.marking.edge (after M p.front bs m o x y e)
+            (some_left left g) (declares M p.front bs m o x y e)))
 
 fuel : (ops : List ℕ) (n : ℕ) → n ≡ 8 * length ops + 1 → suc (length (bits_from ops 0)) ≡ n
 fuel ops n e = omega (arith, e, length_bits_of_bytes ops)
@@ -297,4 +311,5 @@ begins c ops field bs bs' h s es em w n en =
         weighed = record { sum = refl; amount = omega arith };
       };
       ran = rw es (ap (λ (k : ℕ). run_freely k (empty c) (bits_from ops 0)) (fuel ops n en));
+      enough = omega (arith, fuel ops n en);
     }

@@ -17,12 +17,14 @@ pub fn is_note(note: &[u8]) -> bool
     (1..=MOST_NOTE).contains(&note.len())
 }
 
-// Writes some bytes over a buffer, from byte n on.
+// Writes some bytes over a buffer, from byte n on. (One by one: std's copy calls memmove, which the archive asks of no one else.)
 fn put_bytes(buffer: &mut [u8], n: usize, bytes: &[u8])
     requires { n + length bytes.now ≤ length buffer.old }
     ensures { buffer.new ≡ put_at buffer.old n bytes.now }
 {
-    buffer[n..n + bytes.len()].copy_from_slice(bytes);
+    for i in 0..bytes.len() {
+        buffer[n + i] = bytes[i];
+    }
 }
 
 // Writes the field of a note that fits, from byte n on.

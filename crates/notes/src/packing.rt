@@ -9,7 +9,7 @@ ghost use Rattle.notes_theory.specs.Packing.{NoteRoom, NoteFollows, FaultIs};
 
 use crate::note::{is_note, put_note};
 use packer::pack_on;
-use positions::packing::{clear_after, pack_positions_on, unfit};
+use positions::packing::{clear_after, pack_positions_on, room_before, unfit};
 use positions::writing::are_positions;
 use rules::refusal::Refusal;
 
@@ -41,9 +41,16 @@ pub fn pack_note_on(
         buffer.old order.old n (packed_of result) numbering.new buffer.new order.new }
 {
     if !is_note(note) {
-        return unfit(v, list, numbering.len(), order.len(), n, Refusal::UnfitNote);
+        return unfit(
+            v,
+            list,
+            numbering.len(),
+            order.len(),
+            n,
+            Refusal::UnfitNote.number(),
+        );
     }
-    let end = buffer.len().saturating_sub(3 + note.len());
+    let end = room_before(buffer.len(), 3 + note.len());
     let r = pack_on(v, list, numbering, &mut buffer[..end], order, n);
     follow(r, note, buffer)
 }
@@ -76,9 +83,9 @@ pub fn pack_positions_note_on(
 {
     if !is_note(note) {
         let e = fault(positions, v);
-        return unfit(v, list, numbering.len(), order.len(), n, e);
+        return unfit(v, list, numbering.len(), order.len(), n, e.number());
     }
-    let end = buffer.len().saturating_sub(3 + note.len());
+    let end = room_before(buffer.len(), 3 + note.len());
     let r = pack_positions_on(v, list, positions, numbering, &mut buffer[..end], order, n);
     follow(r, note, buffer)
 }

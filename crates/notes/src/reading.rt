@@ -1,7 +1,7 @@
 // The bench reader: a pack is unpacked, and where its note stands is told, if it has one and is accepted.
-ghost use Rattle.std.specs.Prelude.{◌≡◌, length};
-ghost use Rattle.rules.specs.Later.{Given};
+ghost use Rattle.std.specs.Prelude.{true, ◌≡◌, ◌≤◌, IfOk, IfSome};
 ghost use Rattle.rules.specs.Benched.{benched_of};
+ghost use Rattle.rules.specs.Note.{note_fits, take_note};
 ghost use Rattle.notes_theory.specs.Unpacking.{BenchedOn, Spanned, cleared_bench};
 
 use crate::unpacking::unpack_noted_on;
@@ -9,9 +9,11 @@ use rules::refusal::Refusal;
 use rules::{Located, Span};
 use wire::fields::note_of;
 
-// Where the note of any bytes stands, if there is one.
+// Where the note of some bytes stands, if there is one. It fits, so that it is not empty.
 fn note_span(pack: &[u8]) -> Option<Span>
-    ensures { Spanned pack.now result }
+    requires { note_fits (take_note pack.now).note ≡ true }
+    ensures told { Spanned pack.now result }
+    ensures some { IfSome result (λ s. 1 ≤ s.length) }
 {
     let note = note_of(pack).note?;
     Some(Span {
@@ -20,9 +22,11 @@ fn note_span(pack: &[u8]) -> Option<Span>
     })
 }
 
-// Unpacks any bytes into any triangle buffer, where n place records were lent, and tells where the note stands in them.
+// Unpacks any bytes into any triangle buffer, where n place records were lent, and tells where the note stands in them. A
+// note that is told of has a byte or more.
 pub fn bench_on(pack: &[u8], triangles: &mut [u16], n: usize) -> Result<Located, Refusal>
-    ensures { BenchedOn pack.now triangles.old n (benched_of result) triangles.new }
+    ensures told { BenchedOn pack.now triangles.old n (benched_of result) triangles.new }
+    ensures some { IfOk result (λ x. IfSome x.note (λ s. 1 ≤ s.length)) }
 {
     let model = unpack_noted_on(pack, triangles, n)?;
     Ok(Located {

@@ -6,8 +6,7 @@ ghost use Rattle.wire.specs.Told.{lent};
 ghost use Rattle.notes_theory.specs.Unpacking.{UnpackedNotedOn};
 
 use crate::note::is_note;
-use places::buffers::clear;
-use positions::unpacking::unpack_whole_on;
+use positions::unpacking::{tested, unpack_whole_on};
 use rules::Model;
 use rules::refusal::Refusal;
 use wire::fields::note_of;
@@ -28,9 +27,6 @@ pub fn unpack_noted_on(pack: &[u8], triangles: &mut [u16], n: usize) -> Result<M
 {
     let split = note_of(pack);
     let model = unpack_whole_on(split.before, &mut *triangles, n)?;
-    if !is_fit(split.note) {
-        clear(triangles, 3 * usize::from(model.triangles));
-        return Err(Refusal::UnfitNote);
-    }
-    Ok(model)
+    let passes = is_fit(split.note);
+    tested(passes, Refusal::UnfitNote, triangles, Ok(model))
 }

@@ -1,7 +1,7 @@
 -- Unpacking a pack that may have a note: what stands before it, and 25; and what the bench reader tells.
 -- Assumes nothing.
-use Prim.Native.Nat.{ℕ, ◌+◌, ◌*◌}
-use mathlib.Core.Bool.{Bool, true, false}
+use Prim.Native.Nat.{ℕ, ◌+◌}
+use mathlib.Core.Bool.{Bool, true}
 use mathlib.Core.List.{List}
 use mathlib.Core.Path.{◌≡◌, refl, sym, ap, ◌∙◌, subst}
 use lib.ListN.{length}
@@ -12,16 +12,16 @@ use Rattle.rules.specs.Unpacked.{Unpacked}
 use Rattle.rules.specs.Unpacked as U
 use Rattle.rules.specs.Benched.{Benched, start_of, length_of}
 use Rattle.rules.specs.Answer.{unpacked_answer}
-use Rattle.rules.specs.Buffer.{zeroed}
 use Rattle.rules.specs.Unpack.{UnpackResult}
 use Rattle.rules.specs.Later.{Given, not_given, given}
 use Rattle.rules.specs.Note.{note_fits, NoteTaken, take_note}
 use Rattle.rules.specs.UnpackWhole.{model_in, then_tested, unpack_whole}
 use Rattle.rules.specs.Reading.{unpack_noted, handed_back, handed_from}
 use Rattle.border_theory.specs.Records.Lent.{lent}
-use Rattle.positions_theory.specs.Unpacking.{UnpackedWholeOn, tested_answer, tested_triangles}
-use Rattle.positions_theory.proofs.Unpacking.{whole_beyond, tested_on, tested_fits, tested_fails}
+use Rattle.positions_theory.specs.Unpacking.{UnpackedWholeOn, tested_answer, tested_triangles, always, TestTold}
+use Rattle.positions_theory.proofs.Unpacking.{whole_beyond, tested_on, told_answer, told_triangles}
 use Rattle.notes_theory.specs.Unpacking.{UnpackedNotedOn, note_test, Handed, Spanned, BenchedOn}
+use Rattle.notes_theory.proofs.Reading.{accepts_noted}
 
 abbrev noted_by : NoteTaken → List ℕ → ℕ → UnpackResult
 noted_by d ts n =
@@ -47,12 +47,22 @@ module _ (bytes front : List ℕ) (ns : Given (List ℕ)) (ts : List ℕ) (n : �
   pub note_refused : (k : ℕ) (ts' : List ℕ) → UnpackedWholeOn front ts n (U.Refused k) ts' → UnpackedNotedOn bytes ts n (U.Refused k) ts'
   note_refused k ts' h = note_on (U.Refused k) ts' h
 
-  module _ (m : Model) (ts' : List ℕ) (h : UnpackedWholeOn front ts n (U.Gives m) ts') (b : Bool) (f : b ≡ note_fits ns) where
-    pub note_fit : b ≡ true → UnpackedNotedOn bytes ts n (U.Gives m) ts'
-    note_fit t = tested_fits 25 (note_test ns) m ts' (UnpackedNotedOn bytes ts n) (note_on (U.Gives m) ts' h) (sym f ∙ t)
+  -- after a test of the note with the outcome b
+  pub note_tested : (r : Unpacked) (ts' : List ℕ) → UnpackedWholeOn front ts n r ts' → (b : Bool) → b ≡ note_fits ns
+      → (s : Unpacked) (us : List ℕ) → s ≡ tested_answer 25 (always b) r → us ≡ tested_triangles (always b) r ts'
+      → UnpackedNotedOn bytes ts n s us
+  note_tested r ts' h b f s us p q =
+      let t : TestTold (note_test ns) r b = λ m e. f in
+      let d = note_on r ts' h in
+      record {
+        answer = ap unpacked_answer (p ∙ told_answer (note_test ns) b 25 r t) ∙ d.answer;
+        triangles = q ∙ told_triangles (note_test ns) b r ts' t ∙ d.triangles;
+      }
 
-    pub note_unfit : b ≡ false → UnpackedNotedOn bytes ts n (U.Refused 25) (zeroed (3 * m.triangles) ts')
-    note_unfit t = tested_fails 25 (note_test ns) m ts' (UnpackedNotedOn bytes ts n) (note_on (U.Gives m) ts' h) (sym f ∙ t)
+-- the note of an accepted pack fits
+pub noted_fits : (bytes ts : List ℕ) (n : ℕ) (m : Model) (ts' : List ℕ) → UnpackedNotedOn bytes ts n (U.Gives m) ts'
+    → note_fits (take_note bytes).note ≡ true
+noted_fits bytes ts n m ts' u = (accepts_noted bytes (lent n ts) m (sym u.answer)).fits
 
 -- where the note stands: none, or to the end of the bytes
 module _ (bytes front : List ℕ) where

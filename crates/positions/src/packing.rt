@@ -1,8 +1,7 @@
 // Packing a list with positions. Where the positions do not fit only 1 to 8 and 22 are tested; else the list is packed into the buffer
 // without the bytes that the field takes, and the field is written after the pack.
-ghost use Rattle.std.specs.Prelude.{true, ◌≡◌};
+ghost use Rattle.std.specs.Prelude.{true, ◌≡◌, ◌-◌};
 ghost use Rattle.rules.specs.Packed.{packed_of};
-ghost use Rattle.rules.specs.Refusal.{number_of};
 ghost use Rattle.rules.specs.PackWhole.{extras, positions_fit};
 ghost use Rattle.rules.specs.Later.{not_given, given};
 ghost use Rattle.positions_theory.specs.Packing.{PackedWholeOn, Unfit, buffer_after, Followable, Follows};
@@ -12,21 +11,38 @@ use packer::{cleared, pack_on, test_rooms};
 use rules::refusal::Refusal;
 use rules::{CORNERS, VERTICES};
 
-// The answer where what is given besides does not fit, by the refusal e: the first of 1 to 8, 22 and e. The numbering and the order
-// have so many entries.
+// The refusal with number k, if one has it.
+fn refusal_of(k: u8) -> Option<Refusal> {
+    let at = usize::from(k).checked_sub(1)?;
+    Refusal::ALL.get(at).copied()
+}
+
+// The answer where what is given besides does not fit: the first of 1 to 8, 22 and k. The numbering and the order have so many entries.
 pub fn unfit(
     v: usize,
     list: &[u16],
     numbering: usize,
     order: usize,
     n: usize,
-    e: Refusal,
+    k: u8,
 ) -> Result<u32, Refusal>
-    ensures { Unfit v list.now numbering order n (number_of e) (packed_of result) }
+    ensures { Unfit v list.now numbering order n k (packed_of result) }
 {
     let mut chains = [0u16; VERTICES + CORNERS];
     test_rooms(v, list, numbering, order, n, &mut chains)?;
-    Err(e)
+    match k {
+        23 => Err(Refusal::UnfitPositions),
+        25 => Err(Refusal::UnfitNote),
+        // No caller asks it: what is given besides is refused with 23 or 25.
+        _ => Err(refusal_of(k).unwrap_or(Refusal::UnfitNote)),
+    }
+}
+
+// How many bytes of a buffer are left before a field at its end.
+pub fn room_before(buffer: usize, field: usize) -> usize
+    ensures { result ≡ buffer - field }
+{
+    buffer.saturating_sub(field)
 }
 
 // After a packing into a part of the buffer answered r: all is cleared if that part was.
@@ -70,7 +86,7 @@ fn pack_fitting(
     ensures { PackedWholeOn v list.now (extras (given positions.now) not_given) numbering.old
         buffer.old order.old n (packed_of result) numbering.new buffer.new order.new }
 {
-    let end = buffer.len().saturating_sub(3 + 2 * positions.len());
+    let end = room_before(buffer.len(), 3 + 2 * positions.len());
     let r = pack_on(v, list, numbering, &mut buffer[..end], order, n);
     follow(r, positions, numbering, buffer)
 }
@@ -96,7 +112,7 @@ pub fn pack_positions_on(
             numbering.len(),
             order.len(),
             n,
-            Refusal::UnfitPositions,
+            Refusal::UnfitPositions.number(),
         );
     }
     pack_fitting(v, list, positions, numbering, buffer, order, n)

@@ -84,27 +84,24 @@ module _ (k : ℕ) (fits : Model → Bool) (ts : List ℕ) (n : ℕ) (u : Unpack
                 ∙ sym (ap (λ (x : UnpackResult). x.buffers.triangles) v),
           )
 
--- what is answered and left by a test of an accepted model that holds, and by one that fails
-module _ (k : ℕ) (fits : Model → Bool) (m : Model) (ts : List ℕ) (P : Unpacked → List ℕ → Type 0)
-    (p : P (tested_answer k fits (U.Gives m)) (tested_triangles fits (U.Gives m) ts)) where
-  by_test : (t : Bool) → fits m ≡ t
-      → P (elim t [ true ↦ U.Gives m | false ↦ U.Refused k ]) (elim t [ true ↦ ts | false ↦ zeroed (3 * m.triangles) ts ])
-  by_test t f =
-      subst (λ (s : Bool).
-      P (elim s as (λ _. Unpacked) [ true ↦ U.Gives m | false ↦ U.Refused k ])
-      (elim s as (λ _. List ℕ) [ true ↦ ts | false ↦ zeroed (3 * m.triangles) ts ])) f p
-
-  pub tested_fits : fits m ≡ true → P (U.Gives m) ts
-  tested_fits f = by_test true f
-
-  pub tested_fails : fits m ≡ false → P (U.Refused k) (zeroed (3 * m.triangles) ts)
-  tested_fails f = by_test false f
-
 -- the outcome is that of the test, if there is a model
-pub told_answer : (fits : Model → Bool) (b : Bool) (k : ℕ) (r : Unpacked) → TestTold fits r b
-    → tested_answer k (always b) r ≡ tested_answer k fits r
-told_answer fits b k (U.Gives m) h = ap (λ (t : Bool). elim t as (λ _. Unpacked) [ true ↦ U.Gives m | false ↦ U.Refused k ]) (h m refl)
-told_answer fits b k (U.Refused j) h = refl
+module _ (fits : Model → Bool) (b : Bool) where
+  pub told_answer : (k : ℕ) (r : Unpacked) → TestTold fits r b → tested_answer k (always b) r ≡ tested_answer k fits r
+  told_answer k (U.Gives m) h = ap (λ (t : Bool). elim t as (λ _. Unpacked) [ true ↦ U.Gives m | false ↦ U.Refused k ]) (h m refl)
+  told_answer k (U.Refused j) h = refl
+
+  pub told_triangles : (r : Unpacked) (ts : List ℕ) → TestTold fits r b → tested_triangles (always b) r ts ≡ tested_triangles fits r ts
+  told_triangles (U.Gives m) ts h =
+      ap (λ (t : Bool). elim t as (λ _. List ℕ) [ true ↦ ts | false ↦ zeroed (3 * m.triangles) ts ]) (h m refl)
+  told_triangles (U.Refused j) ts h = refl
+
+  pub model_told : (r : Unpacked) (m : Model) → r ≡ U.Gives m → b ≡ fits m → TestTold fits r b
+  model_told r m e h n f = let q : U.Gives m ≡ U.Gives n = sym e ∙ f in let p : m ≡ n = cc in h ∙ ap fits p
+
+-- what is answered and left is the definition's
+pub as_told : (bytes ts : List ℕ) (n : ℕ) (r s : Unpacked) (us vs : List ℕ) → UnpackedWholeOn bytes ts n s vs → r ≡ s → us ≡ vs
+    → UnpackedWholeOn bytes ts n r us
+as_told bytes ts n r s us vs h e f = record { answer = ap unpacked_answer e ∙ h.answer; triangles = f ∙ h.triangles }
 
 -- the first two fields are unpacked, then 23 is tested
 module _ (bytes two : List ℕ) (ps : Given (List ℕ)) (ts : List ℕ) (n : ℕ) (e : parts_of bytes ≡ parts two ps) where
@@ -122,12 +119,14 @@ module _ (bytes two : List ℕ) (ps : Given (List ℕ)) (ts : List ℕ) (n : ℕ
   pub parts_refused : (k : ℕ) (ts' : List ℕ) → UnpackedOn two ts n (U.Refused k) ts' → UnpackedWholeOn bytes ts n (U.Refused k) ts'
   parts_refused k ts' h = parts_on (U.Refused k) ts' h
 
-  module _ (m : Model) (ts' : List ℕ) (h : UnpackedOn two ts n (U.Gives m) ts') (b : Bool) (f : b ≡ field_fits m.vertices ps) where
-    pub parts_fit : b ≡ true → UnpackedWholeOn bytes ts n (U.Gives m) ts'
-    parts_fit t = tested_fits 23 (positions_test ps) m ts' (UnpackedWholeOn bytes ts n) (parts_on (U.Gives m) ts' h) (sym f ∙ t)
-
-    pub parts_unfit : b ≡ false → UnpackedWholeOn bytes ts n (U.Refused 23) (zeroed (3 * m.triangles) ts')
-    parts_unfit t = tested_fails 23 (positions_test ps) m ts' (UnpackedWholeOn bytes ts n) (parts_on (U.Gives m) ts' h) (sym f ∙ t)
+  -- after a test of the model with the outcome b
+  pub parts_tested : (m : Model) (ts' : List ℕ) → UnpackedOn two ts n (U.Gives m) ts' → (b : Bool) → b ≡ field_fits m.vertices ps
+      → (s : Unpacked) (us : List ℕ) → s ≡ tested_answer 23 (always b) (U.Gives m) → us ≡ tested_triangles (always b) (U.Gives m) ts'
+      → UnpackedWholeOn bytes ts n s us
+  parts_tested m ts' h b f s us p q =
+      let t = model_told (positions_test ps) b (U.Gives m) m refl f in
+      as_told bytes ts n s _ us _ (parts_on (U.Gives m) ts' h) (p ∙ told_answer (positions_test ps) b 23 (U.Gives m) t)
+      (q ∙ told_triangles (positions_test ps) b (U.Gives m) ts' t)
 
 -- three
 pub three_parts_on : (bytes two bs ts : List ℕ) (n : ℕ) → parts_of bytes ≡ parts two (given bs) → (r : Unpacked) (ts' : List ℕ)

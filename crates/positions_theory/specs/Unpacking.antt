@@ -1,6 +1,6 @@
 -- Unpacking a pack that may have positions, and the volume, with n place records, of which only the number counts.
 -- Assumes nothing.
-use Rattle.std.specs.Prelude.{ℕ, ◌*◌, Bool, true, false, List, ◌≡◌, eqb, take}
+use Rattle.std.specs.Prelude.{ℕ, ◌*◌, ◌≤◌, Bool, true, false, List, ◌≡◌, eqb, length, take}
 use Rattle.rules.specs.Unpacked.{Unpacked}
 use Rattle.rules.specs.Unpacked as U
 use Rattle.rules.specs.Measured.{Measured}
@@ -46,6 +46,11 @@ TestTold fits r b = (m : Model) → r ≡ U.Gives m → b ≡ fits m
 -- 23, of the positions ps, if there are any
 abbrev pub positions_test : Given (List ℕ) → Model → Bool
 positions_test ps m = field_fits m.vertices ps
+
+-- the triangles of an accepted unpacking are in the buffer
+abbrev pub RoomFor : Unpacked → List ℕ → Type 0
+RoomFor (U.Gives m) ts = 3 * m.triangles ≤ length ts
+RoomFor (U.Refused k) ts = Unit {0}
 
 -- how many place records the volume call clears, read off its answer: as many as unpacking
 abbrev pub cleared_measuring : Measured → ℕ

@@ -175,10 +175,10 @@ pub struct Located {
     pub note: Option<Span>,
 }
 
-/// The same, with the note as a part of the pack that was lent, empty if there is none. (No `Option`: a note that is there is not
-/// empty, and what is handed back is always a part of the pack.)
+/// The bench reader's answer, with the note as a part of the pack that was lent, empty if there is none or the pack is refused. (No
+/// `Option`: a note that is there is not empty, and what is handed back is always a part of the pack.)
 #[derive(Clone, Copy)]
 pub struct Noted<'a> {
-    pub model: Model,
+    pub answer: Result<Model, refusal::Refusal>,
     pub note: &'a [u8],
 }

@@ -2,13 +2,13 @@
 -- Assumes nothing.
 use Prim.Native.Nat.{ℕ, ◌+◌, ◌≤◌, ◌<◌}
 use native.Mathlib.Omega.{arith}
-use mathlib.Core.List.{List, []}
+use mathlib.Core.List.{List}
 use mathlib.Core.Path.{◌≡◌, refl, sym, ap, ◌∙◌, subst}
 use lib.ListN.{length, take, drop}
 use Rattle.rules.specs.declared.Counts.{Counts}
 use Rattle.rules.specs.declared.Place.{Place}
 use Rattle.rules.specs.declared.Builder.{Builder}
-use Rattle.rules.specs.Unpacked.{Unpacked, Refused}
+use Rattle.rules.specs.Unpacked.{Unpacked}
 use Rattle.rules.specs.Benched.{Benched}
 use Rattle.rules.specs.Measured.{Measured}
 use Rattle.rules.specs.Begun.{Begun}
@@ -34,7 +34,7 @@ use Rattle.notes_theory.specs.Unpacking.{UnpackedNotedOn, MeasuredOn, BenchedOn,
 use Rattle.notes_theory.proofs.Lending.{lend_unpack, lend_volume, unpack_noted_clears, volume_clears}
 use Rattle.notes_theory.proofs.Reading.{the_note_is_a_part_of_the_pack}
 use Rattle.state_theory.proofs.Reading.Flags.{loaded_open}
-use Rattle.state_theory.specs.Finishing.Core.{BeginsOn, FinishesOn, refused_by, cleared_by as clearedBegun}
+use Rattle.state_theory.specs.Finishing.Core.{BeginsOn, FinishesOn, cleared_by as clearedBegun}
 use Rattle.state_theory.proofs.Finishing.Lifting.{begins_lifted}
 use Rattle.state_theory.proofs.Performing.Lifting.{finishes_same}
 
@@ -106,10 +106,6 @@ module _ (bytes ts : List ℕ) (ps : List Place) (b : Benched) (ts' : List ℕ) 
         places = u.places;
       }
 
--- the place where the pack begins
-pub further_none : (p : ℕ × ℕ) → p ≡ further 0 p
-further_none p = let e : p.1 ≡ 0 + p.1 = omega arith in ap (λ (n : ℕ). (p.0, n)) e
-
 -- the note that it tells of, as a part of the pack
 module _ (bytes ts : List ℕ) (ps : List Place) (b : Benched) (ts' : List ℕ) (ps' : List Place) (t : Tells bytes ts ps b ts' ps') where
   pub note_within : b.start + b.length ≤ length bytes
@@ -127,12 +123,6 @@ module _ (bytes ts : List ℕ) (ps : List Place) (b : Benched) (ts' : List ℕ) 
     places = t.places;
   }
 
--- none is handed back of a pack that is refused
-pub hands_none : (bytes ts : List ℕ) (ps : List Place) (k : ℕ) (ts' : List ℕ) (ps' : List Place) (p : ℕ × ℕ)
-    → Tells bytes ts ps (record { answer = Refused k; start = 0; length = 0 }) ts' ps' → HandsBack bytes p ts ps (Refused k) [] p ts' ps'
-hands_none bytes ts ps k ts' ps' p t =
-    hands_back bytes ts ps (record { answer = Refused k; start = 0; length = 0 }) ts' ps' t p p [] (refl, further_none p)
-
 -- what the cores of the operation and of the finish ask of the memory that a list is read into
 pub loaded_fits : (ps : List Place) → (counted ps ≤ 1024) × ((p : ℕ) → p < 1024 → open_of (memory_of ps) p ≤ 1)
 loaded_fits ps = ((count_within (length ps)).1, loaded_open ps)
@@ -144,12 +134,6 @@ pub begins_as : (s : Counts) (ts : List ℕ) (ps : List Place) (r : Begun) (ts' 
 begins_as s ts ps r ts' p ps' e =
     let l = begins_lifted s ts ps r ts' ps' p e in
     record { answer = l.0; after = l.1 }
-
--- a refused beginning clears nothing
-pub begins_refused : (s : Counts) (ts : List ℕ) (ps : List Place) (k : ℕ) (ts' : List ℕ) → BeginsOn s ts (counted ps) (refused_by k) ts'
-    → Beginning s ts ps (refused_by k) ts' ps
-unfolding cleared_to
-begins_refused s ts ps k ts' p = begins_as s ts ps (refused_by k) ts' p ps refl
 
 pub finishes_as : (b : Builder) (ts : List ℕ) (ps : List Place) (r : Finished) (m' : List ℕ)
     → FinishesOn b ts (memory_of ps) (counted ps) r m' → Finishing b ts ps r

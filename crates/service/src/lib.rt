@@ -4,7 +4,7 @@
 // each call promises stands on one page, promises/specs/Promises.antt.
 #![tactic(auto)]
 
-ghost use Rattle.std.specs.Prelude.{◌≡◌, ◌+◌, ◌≤◌, MatchResult, [], length, take, drop};
+ghost use Rattle.std.specs.Prelude.{◌≡◌, ◌+◌, ◌≤◌, IfOk, IfSome, length, take, drop};
 ghost use Rattle.rules.specs.Benched.{benched_of, start_of, length_of};
 ghost use Rattle.rules.specs.Build.{begun_of};
 ghost use Rattle.rules.specs.Checked.{checked_of};
@@ -14,8 +14,7 @@ ghost use Rattle.rules.specs.Measured.{measured_of};
 ghost use Rattle.rules.specs.Operated.{performed_of};
 ghost use Rattle.rules.specs.PackWhole.{extras};
 ghost use Rattle.rules.specs.Packed.{packed_of};
-ghost use Rattle.rules.specs.Refusal.{number_of};
-ghost use Rattle.rules.specs.Unpacked.{unpacked_of, Gives, Refused};
+ghost use Rattle.rules.specs.Unpacked.{unpacked_of};
 ghost use Rattle.promises.specs.Promises.{Beginning, Operating, Finishing};
 ghost use Rattle.promises.specs.Promises.{Checking, Packs, Unpacks, Measures, Tells, HandsBack, further};
 
@@ -60,14 +59,15 @@ pub fn volume(
 }
 
 // The bench reader, for callers that take no part of their pack: unpacks any bytes as `unpack` does, and tells where the note stands in
-// them and how many bytes it has, if there is one.
+// them and how many bytes it has, one or more, if there is one.
 pub fn bench_at(
     pack: &[u8],
     triangles: &mut [u16],
     places: &mut [Place],
 ) -> Result<Located, Refusal>
-    ensures { Tells pack.now triangles.old places.old (benched_of result) triangles.new
+    ensures told { Tells pack.now triangles.old places.old (benched_of result) triangles.new
         places.new }
+    ensures some { IfOk result (λ x. IfSome x.note (λ s. 1 ≤ s.length)) }
 {
     let n = count(places.len());
     let r = notes::reading::bench_on(pack, triangles, n);
@@ -88,23 +88,21 @@ fn part(pack: &[u8], told: Option<Span>) -> &[u8]
 }
 
 // The bench reader: unpacks any bytes as `unpack` does, and hands back the note, which is a part of the pack; an empty part if there is
-// none.
-pub fn bench<'a>(
-    pack: &'a [u8],
-    triangles: &mut [u16],
-    places: &mut [Place],
-) -> Result<Noted<'a>, Refusal>
-    ensures { MatchResult result
-        (λ x. HandsBack pack.now pack.entry.ref_ptr triangles.old places.old (Gives x.model)
-        x.note.now x.note.ref_ptr triangles.new places.new)
-        (λ e. HandsBack pack.now pack.entry.ref_ptr triangles.old places.old (Refused (number_of e))
-        [] pack.entry.ref_ptr triangles.new places.new) }
+// none or the pack is refused.
+pub fn bench<'a>(pack: &'a [u8], triangles: &mut [u16], places: &mut [Place]) -> Noted<'a>
+    ensures { HandsBack pack.now pack.entry.ref_ptr triangles.old places.old (unpacked_of result.answer)
+        result.note.now result.note.ref_ptr triangles.new places.new }
 {
-    let told = bench_at(pack, triangles, places)?;
-    Ok(Noted {
-        model: told.model,
-        note: part(pack, told.note),
-    })
+    match bench_at(pack, triangles, places) {
+        Ok(told) => Noted {
+            answer: Ok(told.model),
+            note: part(pack, told.note),
+        },
+        Err(e) => Noted {
+            answer: Err(e),
+            note: part(pack, None),
+        },
+    }
 }
 
 // The four packings stay four functions: README and CLAIMS name each, and `capi` calls each for its export of the same name.
@@ -205,9 +203,10 @@ pub fn begin(
 ) -> Result<Builder, Refusal>
     ensures { Beginning stated triangles.old places.old (begun_of result) triangles.new places.new }
 {
-    let state = builder::begin::begin_on(stated, triangles, count(places.len()))?;
-    clear(places, Builder::MAX_PLACES);
-    Ok(state)
+    let n = count(places.len());
+    let r = builder::begin::begin_on(stated, triangles, n);
+    clear(places, builder::begin::cleared(&r));
+    r
 }
 
 // Does an operation on any state, in any buffers: 21, then 16 to 18, or the state after it and the triangle that it built, which then

@@ -129,7 +129,9 @@ pub fn fields_of<'a>(pack: &'a [u8]) -> Result<Pack<'a>, Refusal>
     ensures range { IfOk result (λ p. in_range p.stated ≡ true) }
     ensures refused { IfErr result (λ e. refused_by (fields_of pack.now) ≡ Some e) }
     ensures short { IfOk result (λ p. length p.operations.now < 65536) }
+    ensures long { IfOk result (λ p. 14 + length p.operations.now ≡ length pack.now) }
     ensures place { IfOk result (λ p. p.operations.ref_ptr ≡ further 14 pack.entry.ref_ptr) }
+    ensures back { IfOk result (λ p. p.operations.now ≡ drop 14 pack.now) }
 {
     let Some(first) = take_field(pack, COUNTS_TAG) else {
         return Err(Refusal::NotFields);
@@ -153,10 +155,17 @@ pub fn fields_of<'a>(pack: &'a [u8]) -> Result<Pack<'a>, Refusal>
     })
 }
 
-/// The parts of any bytes. That the first field has eight bytes is left to `fields_of`.
+/// The parts of any bytes. They are the very bytes of the pack: the first two fields from its first byte on, the contents of the
+/// third from 3 past these to its end. That the first field has eight bytes is left to `fields_of`.
 #[tactic(auto, unfolding(rules::specs::Later::parts_of, rules::specs::Later::later_part), using(crate::proofs::Later::three_then_more))]
 pub fn parts_of<'a>(pack: &'a [u8]) -> Option<Parts<'a>>
-    ensures { parts_of pack.now ≡ parts_told result }
+    ensures told { parts_of pack.now ≡ parts_told result }
+    ensures first { IfSome result (λ p. p.two.ref_ptr ≡ pack.entry.ref_ptr) }
+    ensures front { IfSome result (λ p. p.two.now ≡ take (length p.two.now) pack.now) }
+    ensures whole { IfSome result (λ p. IsNone p.positions → length p.two.now ≡ length pack.now) }
+    ensures long { IfSome result (λ p. IfSome p.positions (λ s. length p.two.now + 3 + length s.now ≡ length pack.now)) }
+    ensures place { IfSome result (λ p. IfSome p.positions (λ s. s.ref_ptr ≡ further (length p.two.now + 3) pack.entry.ref_ptr)) }
+    ensures back { IfSome result (λ p. IfSome p.positions (λ s. s.now ≡ drop (length p.two.now + 3) pack.now)) }
 {
     let counts = take_field(pack, COUNTS_TAG)?;
     let operations = take_field(counts.rest, OPERATIONS_TAG)?;
@@ -190,12 +199,17 @@ fn past<'a>(bytes: &'a [u8], tag: u8) -> &'a [u8]
     }
 }
 
-/// The note of any bytes: the last field, after those of the other tags that are there. It is the very bytes of the pack.
+/// The note of any bytes: the last field, after those of the other tags that are there. It and what stands before it are the very
+/// bytes of the pack: these from its first on, the note from 3 past them to its end.
 #[tactic(auto, unfolding(rules::specs::Note::take_note))]
 pub fn note_of<'a>(pack: &'a [u8]) -> NoteSplit<'a>
     ensures told { note_told result ≡ take_note pack.now }
+    ensures first { result.before.ref_ptr ≡ pack.entry.ref_ptr }
+    ensures front { result.before.now ≡ take (length result.before.now) pack.now }
+    ensures whole { IsNone result.note → length result.before.now ≡ length pack.now }
     ensures long { IfSome result.note (λ n. length result.before.now + 3 + length n.now ≡ length pack.now) }
     ensures place { IfSome result.note (λ n. n.ref_ptr ≡ further (length result.before.now + 3) pack.entry.ref_ptr) }
+    ensures back { IfSome result.note (λ n. n.now ≡ drop (length result.before.now + 3) pack.now) }
 {
     let more = past(past(past(pack, COUNTS_TAG), OPERATIONS_TAG), POSITIONS_TAG);
     let all = NoteSplit {
@@ -214,9 +228,12 @@ pub fn note_of<'a>(pack: &'a [u8]) -> NoteSplit<'a>
     }
 }
 
-/// The bytes before the note; all, if there is none.
+/// The bytes before the note, from the pack's first on; all, if there is none.
 pub fn before_note<'a>(pack: &'a [u8]) -> &'a [u8]
-    ensures { result.now ≡ (take_note pack.now).before }
+    ensures told { result.now ≡ (take_note pack.now).before }
+    ensures first { result.ref_ptr ≡ pack.entry.ref_ptr }
+    ensures front { result.now ≡ take (length result.now) pack.now }
+    ensures within { length result.now ≤ length pack.now }
 {
     note_of(pack).before
 }

@@ -1,15 +1,14 @@
 -- Each turn goes on from the reading that the turns before came to.
-use Prim.Native.Nat.{ℕ, ◌+◌, ◌*◌, ◌-◌}
+use Prim.Native.Nat.{ℕ}
 use native.Mathlib.Omega.{arith}
 use mathlib.Core.Path.{refl, sym, ap, ◌∙◌, subst}
-use lib.ListN.{length}
 use Rattle.std.proofs.lemmas.Result.{err_from_is_err_and}
 use Rattle.rules.specs.declared.Counts.{Counts}
 use Rattle.rules.specs.Furnace.{run_freely_of}
 use Rattle.cutborder.specs.declared.Front.{Front}
 use Rattle.cells_theory.proofs.Bytes.{length_numbers}
 use Rattle.melting_theory.specs.Runs.{Weighable, Going}
-use Rattle.melting_theory.proofs.Stepping.{begins, turn_complete, turn_none}
+use Rattle.melting_theory.proofs.Stepping.{begins, some_left, turn_complete}
 use Rattle.melting.proofs.run.run.Goals as goal
 
 pub begin-requires : goal.begin-requires
@@ -25,9 +24,7 @@ loop-init c = record {
 pub returns-then-is_complete : goal.returns-then-is_complete
 returns-then-is_complete c =
     let i = c.loop.invariant in (
-      turn_complete _ _ _ _ (8 * length c.args.ops.now + 1 - c.loop.counter) (omega (arith, c.loop-test.true)) i.going _
-          c.is_complete.ensures
-          c.if-is_complete.true,
+      turn_complete _ _ _ _ _ i.going _ c.is_complete.ensures c.if-is_complete.true,
       (i.stated ∙ ap (λ (s : Front). s.stated) c.begin.ensures.state),
     )
 
@@ -47,20 +44,18 @@ returns-in_err-p c =
     let p = err_from_is_err_and c.from_residual.result c.from_residual.ensures.1 in
     rw (p.1, p.2)
     (ap (λ (k : Counts). run_freely_of k c.args.ops.now) (sym (i.stated ∙ ap (λ (s : Front). s.stated) c.begin.ensures.state))
-    ∙ c.in_err-p.ensures (8 * length c.args.ops.now + 1 - c.loop.counter) (omega (arith, c.loop-test.true)) i.going)
+    ∙ c.in_err-p.ensures _ i.going)
 
 pub loop-preserved : goal.loop-preserved
 loop-preserved c =
     let i = c.loop.invariant in
-    let t = c.in_ok-p.ensures (8 * length c.args.ops.now + 1 - c.loop.counter) (omega (arith, c.loop-test.true)) i.going in
+    let t = c.in_ok-p.ensures _ i.going in
     record {
       left = omega (arith, c.loop-test.true);
       going = subst (λ (k : ℕ). Going c.args.ops.now c.args.field.now k c.in_ok-p.p c.turn.new.m) (omega arith) t.0;
       stated = t.1 ∙ i.stated;
     }
 
+-- never met: turns are left as long as the reading goes on
 pub returns : goal.returns
-returns c =
-    let i = c.loop.invariant in
-    ap (λ (k : Counts). run_freely_of k c.args.ops.now) (sym (i.stated ∙ ap (λ (s : Front). s.stated) c.begin.ensures.state))
-    ∙ turn_none _ _ _ _ (8 * length c.args.ops.now + 1 - c.loop.counter) (omega (arith, c.loop-test.false)) i.going
+returns c = absurd (omega (arith, c.loop-test.false, some_left _ _ _ _ _ c.loop.invariant.going))

@@ -1,4 +1,4 @@
--- The reading goes on from the counts stated: as many operations may be read as turns are left.
+-- The reading goes on from the counts stated: as many operations may be read as turns are left, which are more than the bits.
 use Rattle.std.proofs.Common.{◌≡◌, ◌+◌, ◌*◌, ◌-◌, ◌≤◌, length}
 use Rattle.melting_theory.specs.Runs.{Going}
 use Rattle.melting.proofs.run.run.Given as goal

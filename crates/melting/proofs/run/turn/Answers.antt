@@ -31,11 +31,11 @@ mark-requires c = (
 
 pub returns-in-Builds : goal.returns-in-Builds
 returns-in-Builds c =
-    turn_built _ _ _ _ _ refl c.requires.2 _ c.in-Some.next c.in-Some.ensures.reads _
+    turn_built _ _ _ _ _ refl c.requires.2 _ c.in-Some.next c.in-Some.ensures.reads c.in-Some.ensures.ahead c.in-Some.ensures.within _
     (sym c.decide.ensures ∙ c.in_ok-t.was ∙ ap Ok c.in-Builds.is) _ c.build.ensures.state _ c.build.ensures.memory c.build.array_long _
     (record { sfits = c.weighed-six.type_inv }) c.weighed-six.ensures
 
 pub returns-in-Marks : goal.returns-in-Marks
 returns-in-Marks c =
-    turn_marked _ _ _ _ _ refl c.requires.2 _ c.in-Some.next c.in-Some.ensures.reads _ _
+    turn_marked _ _ _ _ _ refl c.requires.2 _ c.in-Some.next c.in-Some.ensures.reads c.in-Some.ensures.ahead c.in-Some.ensures.within _ _
     (sym c.decide.ensures ∙ c.in_ok-t.was ∙ ap Ok c.in-Marks.is) _ c.mark.ensures.state _ c.mark.ensures.memory c.mark.array_long _ refl

@@ -9,14 +9,14 @@ use Rattle.notes.proofs.packing.pack_positions_note_on.Goals as goal
 pub follow-requires : goal.follow-requires
 follow-requires c = may_follow c.args.v c.args.list.now (given c.args.positions.now) c.args.note.now c.args.n c.args.numbering.now
     c.args.buffer.now c.args.order.now
-    (sym c.is_note.ensures ∙ not-false _ (not_from_true _ c.if-not-is_note.false)) c.saturating_sub-end.result c.saturating_sub-end.ensures
+    (sym c.is_note.ensures ∙ not-false _ (not_from_true _ c.if-not-is_note.false)) c.room_before-end.result c.room_before-end.ensures
     _ _ _
     c.pack_positions_on-r.auto.buffer (packed_of c.pack_positions_on-r.result) c.pack_positions_on-r.ensures
 
 pub returns : goal.returns
 returns c = follows c.args.v c.args.list.now (given c.args.positions.now) c.args.note.now c.args.n c.args.numbering.now c.args.buffer.now
     c.args.order.now
-    (sym c.is_note.ensures ∙ not-false _ (not_from_true _ c.if-not-is_note.false)) c.saturating_sub-end.result c.saturating_sub-end.ensures
+    (sym c.is_note.ensures ∙ not-false _ (not_from_true _ c.if-not-is_note.false)) c.room_before-end.result c.room_before-end.ensures
     _ _ _
     c.pack_positions_on-r.auto.buffer (packed_of c.pack_positions_on-r.result) c.pack_positions_on-r.ensures _ _
     c.follow.ensures
