@@ -33,7 +33,7 @@
  * `open` of a place record is 0 or 1, so memory from malloc is cleared first. Whatever the values are, each call ends with an answer.
  *
  * What every call keeps to: it writes to the lent buffers only, and only where its comment says. Nothing is kept between two calls, and no
- * memory is allocated, so calls in several threads do not meet. What is needed besides is on the stack, up to 228 KiB: mind a thread with
+ * memory is allocated, so calls in several threads do not meet. What is needed besides is on the stack, up to 224 KiB: mind a thread with
  * a small one. Of the C library memcpy and memset are called, and nothing else.
  *
  * How to read the comments. Returns: the refusals in the order in which they are tested. Lent: how long each buffer is to be at least; one
@@ -96,7 +96,7 @@ enum {
  * Lent      list: list_entries numbers, which are only read
  * Aligned   to 2: list
  * Accepted  and refused: nothing is written
- * Stack     below 100 KiB */
+ * Stack     below 96 KiB */
 uint32_t cutborder_check(size_t v, const uint16_t *list, size_t list_entries);
 
 /* Packs a list.
@@ -107,7 +107,7 @@ uint32_t cutborder_check(size_t v, const uint16_t *list, size_t list_entries);
  *           pack builds them, its number in the list, from 0; the first 1,024 places are zero
  * Refused   1 to 8, 22: all is as it was; 9 to 11: zero are v entries of numbering, one of order for each triangle, 1,024 places and the
  *           whole pack buffer, and *size is as it was
- * Stack     below 116 KiB */
+ * Stack     below 112 KiB */
 uint32_t cutborder_pack(size_t v, const uint16_t *list, size_t list_entries, uint16_t *numbering, size_t numbering_entries, uint8_t *pack,
                         size_t pack_bytes, uint16_t *order, size_t order_entries, struct cutborder_place *places, size_t records,
                         uint32_t *size);
@@ -118,7 +118,7 @@ uint32_t cutborder_pack(size_t v, const uint16_t *list, size_t list_entries, uin
  * Aligned   to 2: list, positions, numbering, order, places; to 4: size
  * Accepted  as cutborder_pack; the pack is that of cutborder_pack and 6 v + 3 bytes more, the positions by the pack's numbers
  * Refused   23: all is as it was; otherwise as cutborder_pack
- * Stack     below 172 KiB */
+ * Stack     below 168 KiB */
 uint32_t cutborder_pack_positions(size_t v, const uint16_t *list, size_t list_entries, const int16_t *positions, size_t positions_entries,
                                   uint16_t *numbering, size_t numbering_entries, uint8_t *pack, size_t pack_bytes, uint16_t *order,
                                   size_t order_entries, struct cutborder_place *places, size_t records, uint32_t *size);
@@ -129,7 +129,7 @@ uint32_t cutborder_pack_positions(size_t v, const uint16_t *list, size_t list_en
  * Aligned   to 2: list, numbering, order, places; to 4: size
  * Accepted  as cutborder_pack; the pack is that of cutborder_pack and note_bytes + 3 bytes more
  * Refused   25: all is as it was; otherwise as cutborder_pack
- * Stack     below 172 KiB */
+ * Stack     below 168 KiB */
 uint32_t cutborder_pack_note(size_t v, const uint16_t *list, size_t list_entries, const uint8_t *note, size_t note_bytes,
                              uint16_t *numbering, size_t numbering_entries, uint8_t *pack, size_t pack_bytes, uint16_t *order,
                              size_t order_entries, struct cutborder_place *places, size_t records, uint32_t *size);
@@ -140,7 +140,7 @@ uint32_t cutborder_pack_note(size_t v, const uint16_t *list, size_t list_entries
  * Aligned   to 2: list, positions, numbering, order, places; to 4: size
  * Accepted  as cutborder_pack; the pack is that of cutborder_pack_positions and note_bytes + 3 bytes more
  * Refused   23, 25: all is as it was; otherwise as cutborder_pack
- * Stack     below 228 KiB */
+ * Stack     below 224 KiB */
 uint32_t cutborder_pack_positions_note(size_t v, const uint16_t *list, size_t list_entries, const int16_t *positions,
                                        size_t positions_entries, const uint8_t *note, size_t note_bytes, uint16_t *numbering,
                                        size_t numbering_entries, uint8_t *pack, size_t pack_bytes, uint16_t *order, size_t order_entries,

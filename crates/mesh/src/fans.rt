@@ -123,7 +123,8 @@ fn is_fan_if_met(
     is_fan(list, chains, notes, v)
 }
 
-// Whether no vertex below v has more than one fan, where with marks those that are not met have one each.
+// Whether no vertex below v has more than one fan, where with marks those that are not met have one each. (Not inlined: see `all_once`.)
+#[inline(never)]
 fn fans(list: &[u16], chains: &Links, marks: Option<&Met>, v: usize) -> bool
     requires linked { Linked list.now chains.now × (v ≤ max_vertices) }
     requires unmet { ForSome marks (λ k. Unmet list.now k.now v) }

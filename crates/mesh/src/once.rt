@@ -32,7 +32,9 @@ fn leaves_once(list: &[u16], chains: &Links, stamps: &mut Stamps, v: u16) -> boo
     true
 }
 
-// Whether no directed edge of the list, whose vertices are below v, occurs twice.
+// Whether no directed edge of the list, whose vertices are below v, occurs twice. (Not inlined, as `fans` of the fans: else the stamps of
+// the one and the notes of the other would lie on the stack at once.)
+#[inline(never)]
 pub fn all_once(list: &[u16], chains: &Links, v: usize) -> bool
     requires { PassesFour v list.now × Chains list.now (length list.now) chains.now }
     ensures { result ≡ none_twice (edges_of (triangles_of list.now)) }
