@@ -1,5 +1,5 @@
 // The calls and their answers.
-ghost use Rattle.std.specs.Prelude.{◌≤◌, length};
+ghost use Rattle.std.specs.Prelude.{◌≡◌, ◌≤◌, length};
 ghost use Rattle.rules.specs.Limits.{max_places};
 
 use crate::words::{LineError, numbers, operation};
@@ -55,7 +55,9 @@ pub(crate) struct Session<'a> {
 
 impl<'a> Session<'a> {
     // No model was begun yet.
-    pub fn new(program: Program<'a>) -> Session<'a> {
+    pub fn new(program: Program<'a>) -> Session<'a>
+        ensures { (result.lent.entries ≡ 0) × (result.lent.records ≡ 0) }
+    {
         Session {
             program,
             out: Output::to(program.rt.stdout()),
@@ -114,7 +116,7 @@ impl<'a> Session<'a> {
                 self.lent = Lent { entries, records };
                 self.out.bytes(b"ok\n");
             }
-            Err(refusal) => print_refusal(&mut self.out, refusal),
+            Err(refusal) => print_refusal(&mut self.out, refusal.number()),
         }
     }
 
@@ -130,12 +132,14 @@ impl<'a> Session<'a> {
         match lent.operate(state, op, triangles, memory) {
             Ok(Some(t)) => writeln!(self.out, "ok {} {} {}", t.p, t.q, t.r),
             Ok(None) => self.out.bytes(b"ok\n"),
-            Err(refusal) => print_refusal(&mut self.out, refusal),
+            Err(refusal) => print_refusal(&mut self.out, refusal.number()),
         }
     }
 
-    // A finish.
-    fn finish(&mut self) {
+    // A finish. The builder is lent as much afterwards.
+    fn finish(&mut self)
+        ensures { (self.new.lent.entries ≡ self.old.lent.entries) × (self.new.lent.records ≡ self.old.lent.records) }
+    {
         settle(&mut self.memory);
         let entries = self.lent.entries;
         let finished = finish_on(
@@ -152,7 +156,7 @@ impl<'a> Session<'a> {
                     t.edges, t.rims, t.unions, t.euler
                 );
             }
-            Err(refusal) => print_refusal(&mut self.out, refusal),
+            Err(refusal) => print_refusal(&mut self.out, refusal.number()),
         }
     }
 }

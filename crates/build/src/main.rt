@@ -137,7 +137,7 @@ fn run(program: Program<'_>) {
 fn main(rt: HostRuntime) {
     let program = Program {
         rt: &rt,
-        name: "build",
+        name: b"build",
     };
     program.start(wish_of(&rt, 1, 1), USAGE, run);
 }

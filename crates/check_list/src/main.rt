@@ -22,7 +22,7 @@ Prints ok; or refused and the number of the refusal, which the program explain e
 fn check(out: &mut Output<Stdout>, v: u16, list: &[u16]) {
     match mesh::check(usize::from(v), list) {
         Ok(()) => out.bytes(b"ok\n"),
-        Err(refusal) => print_refusal(out, refusal),
+        Err(refusal) => print_refusal(out, refusal.number()),
     }
 }
 
@@ -47,7 +47,7 @@ fn run(program: Program<'_>) {
 fn main(rt: HostRuntime) {
     let program = Program {
         rt: &rt,
-        name: "check_list",
+        name: b"check_list",
     };
     program.start(wish_of(&rt, 1, usize::MAX), USAGE, run);
 }

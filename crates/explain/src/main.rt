@@ -5,6 +5,7 @@
 // standard error, and so does a write that fails.
 use rules::refusal::Refusal;
 use std::env::Env;
+use std::fmt::InlineText;
 use std::io::Stdout;
 use text::arguments::{arg_count, wish_of};
 use text::program::Program;
@@ -19,6 +20,9 @@ Prints why a list, a pack or a call is refused with each number; without numbers
 // More bytes than a number has.
 const WORD: usize = 16;
 
+// More bytes than a sentence has with its line feed.
+const SENTENCE: usize = 160;
+
 // The number that argument i is, if it is one.
 fn number_at(env: &impl Env, i: usize) -> Option<u16> {
     let mut word = [0u8; WORD];
@@ -32,10 +36,16 @@ fn refusal_of(n: u16) -> Option<Refusal> {
     Refusal::ALL.get(at).copied()
 }
 
+// Writes the sentence of a refusal with its line feed, in one write.
+fn print_sentence(out: &mut Output<Stdout>, refusal: Refusal) {
+    let line = InlineText::<{ SENTENCE }>::of(refusal).and_str("\n", 1);
+    out.bytes(line.as_str().as_bytes());
+}
+
 // Writes the sentence of the refusal that argument i names; or says that the number is none's.
 fn explain(program: Program<'_>, out: &mut Output<Stdout>, i: usize) {
     match number_at(program.rt, i).and_then(refusal_of) {
-        Some(refusal) => writeln!(out, "{refusal}"),
+        Some(refusal) => print_sentence(out, refusal),
         None => program.say("refusals have the numbers 1 to 26"),
     }
 }
@@ -46,7 +56,8 @@ fn run(program: Program<'_>) {
     let count = arg_count(program.rt);
     if count < 2 {
         for refusal in Refusal::ALL {
-            writeln!(out, "{} {refusal}", refusal.number());
+            write!(out, "{} ", refusal.number());
+            print_sentence(&mut out, refusal);
         }
     }
     for i in 1..count {
@@ -58,7 +69,7 @@ fn run(program: Program<'_>) {
 fn main(rt: HostRuntime) {
     let program = Program {
         rt: &rt,
-        name: "explain",
+        name: b"explain",
     };
     program.start(wish_of(&rt, 1, usize::MAX), USAGE, run);
 }

@@ -32,7 +32,7 @@ fn write_note(program: Program<'_>, out: &mut Output<Stdout>, pack: &[u8], trian
         }
         Err(refusal) => {
             program.say("the pack is refused: there is no note");
-            print_refusal(out, refusal);
+            print_refusal(out, refusal.number());
         }
     }
 }
@@ -51,7 +51,7 @@ fn run(program: Program<'_>) {
 fn main(rt: HostRuntime) {
     let program = Program {
         rt: &rt,
-        name: "note",
+        name: b"note",
     };
     program.start(wish_of(&rt, 1, 1), USAGE, run);
 }

@@ -59,7 +59,7 @@ fn pack(
                 }
             }
         }
-        Err(refusal) => print_refusal(out, refusal),
+        Err(refusal) => print_refusal(out, refusal.number()),
     }
 }
 
@@ -124,7 +124,7 @@ fn run(program: Program<'_>, given: Options) {
 fn main(rt: HostRuntime) {
     let program = Program {
         rt: &rt,
-        name: "pack",
+        name: b"pack",
     };
     let given = read_options(&rt);
     program.start(wish(&rt, given), USAGE, |program| run(program, given));

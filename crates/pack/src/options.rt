@@ -27,7 +27,7 @@ pub struct Options {
 
 // The argument after this option, where it is given. A name follows each option, so that the second
 // is argument 3 and the third argument 5.
-fn name_of(env: &impl Env, option: &str) -> Option<usize> {
+fn name_of(env: &impl Env, option: &[u8]) -> Option<usize> {
     [2, 4, 6]
         .into_iter()
         .find(|name| is_word(env, name - 1, option))
@@ -42,9 +42,9 @@ fn words(name: Option<usize>) -> usize
 
 // The options that are given.
 pub fn read_options(env: &impl Env) -> Options {
-    let order = name_of(env, "--order");
-    let positions = name_of(env, "--positions");
-    let note = name_of(env, "--note");
+    let order = name_of(env, b"--order");
+    let positions = name_of(env, b"--positions");
+    let note = name_of(env, b"--note");
     Options {
         order,
         positions,

@@ -30,10 +30,10 @@ pub fn arg_count(env: &impl Env) -> usize {
 }
 
 // Whether argument i is this word.
-pub fn is_word(env: &impl Env, i: usize, word: &str) -> bool {
+pub fn is_word(env: &impl Env, i: usize, word: &[u8]) -> bool {
     let mut found = [0u8; WORD];
     match env.arg(i, &mut found) {
-        Ok(n) => &found[..n] == word.as_bytes(),
+        Ok(n) => &found[..n] == word,
         Err(_) => false,
     }
 }
@@ -65,7 +65,7 @@ pub fn input_count(env: &impl Env, from: usize) -> usize {
 
 // What the arguments ask for, if the names of at most so many inputs may stand from one on.
 pub fn wish_of(env: &impl Env, from: usize, most: usize) -> Wish {
-    if is_word(env, 1, "--help") {
+    if is_word(env, 1, b"--help") {
         return Wish::Help;
     }
     if most < input_count(env, from) || (from..arg_count(env)).any(|i| is_option(env, i)) {

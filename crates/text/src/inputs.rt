@@ -19,7 +19,7 @@ pub enum Source {
 
 // An input that is open, and what is said where it cannot be read: a file's name, or what else.
 #[derive(Drop)]
-pub struct Input<'n> {
+pub struct OpenInput<'n> {
     pub source: Source,
     pub name: &'n [u8],
 }
@@ -57,9 +57,9 @@ fn input_name(env: &impl Env, i: usize, name: &mut [u8]) -> Result<Option<usize>
 impl Program<'_> {
     // Says why an argument is no name: it is longer than any, or it is not there.
     pub(crate) fn say_no_name(self, why: FillError) {
-        self.say(match why {
-            FillError::TooLong => "argument: File name too long",
-            FillError::NotPresent => "argument: Invalid argument",
+        self.say_line(match why {
+            FillError::TooLong => b"argument: File name too long",
+            FillError::NotPresent => b"argument: Invalid argument",
         });
     }
 
@@ -74,13 +74,13 @@ impl Program<'_> {
 
     // Opens what argument i names, and puts its name into a buffer, or says why it cannot
     // be opened.
-    pub fn open_input<'n>(self, i: usize, name: &'n mut [u8]) -> io::Result<Input<'n>> {
+    pub fn open_input<'n>(self, i: usize, name: &'n mut [u8]) -> io::Result<OpenInput<'n>> {
         match input_name(self.rt, i, name) {
-            Ok(None) => Ok(Input {
+            Ok(None) => Ok(OpenInput {
                 source: Source::Standard(self.rt.stdin()),
                 name: b"cannot read standard input",
             }),
-            Ok(Some(n)) => Ok(Input {
+            Ok(Some(n)) => Ok(OpenInput {
                 source: Source::File(self.open_file(&name[..n])?),
                 name: &name[..n],
             }),

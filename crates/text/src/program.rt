@@ -8,11 +8,11 @@ use std::io::{Error, Stderr, Stdout, Write};
 // The most bytes of what the system says of a failure; no text of it has so many.
 const REASON: usize = 120;
 
-// What runs: the system that it is lent, and the name that its lines on standard error begin with.
+// What runs: the system that it is lent, and the name that its lines on standard error begin with (bytes, which may be no text).
 #[derive(Clone, Copy)]
 pub struct Program<'a> {
     pub rt: &'a HostRuntime,
-    pub name: &'a str,
+    pub name: &'a [u8],
 }
 
 // What the system says of a failure, without the number that std puts after it.
@@ -65,7 +65,7 @@ impl<'a> Program<'a> {
     // A line on standard error, begun with the program's name.
     fn line(self) -> Output<Stderr> {
         let mut line = Output::to(self.rt.stderr());
-        line.bytes(self.name.as_bytes());
+        line.bytes(self.name);
         line.bytes(b": ");
         line
     }
@@ -74,6 +74,13 @@ impl<'a> Program<'a> {
     pub fn say<D: Display + Drop>(self, what: D) {
         let mut line = self.line();
         writeln!(line, "{what}");
+    }
+
+    // The same of a line of bytes, which may be no text.
+    pub fn say_line(self, line: &[u8]) {
+        let mut out = self.line();
+        out.bytes(line);
+        out.bytes(b"\n");
     }
 
     // Says what the program cannot do, and why. A name may be no text, so that it is bytes.

@@ -3,12 +3,11 @@ ghost use Rattle.std.specs.Prelude.{◌<◌};
 
 use crate::streams::Output;
 use rules::Model;
-use rules::refusal::Refusal;
 use std::io::Write;
 
 // Prints a refusal by its number.
-pub fn print_refusal<W: Write>(out: &mut Output<W>, refusal: Refusal) {
-    writeln!(out, "refused {}", refusal.number());
+pub fn print_refusal<W: Write>(out: &mut Output<W>, n: u8) {
+    writeln!(out, "refused {n}");
 }
 
 // Writes n bytes from byte `from` on, as they are; none if there are not so many.

@@ -44,7 +44,7 @@ fn unpack(
                 print_model(out, m, triangles);
             }
         }
-        Err(refusal) => print_refusal(out, refusal),
+        Err(refusal) => print_refusal(out, refusal.number()),
     }
 }
 
@@ -83,9 +83,9 @@ fn wish_with_positions(env: &impl Env) -> Wish {
 fn main(rt: HostRuntime) {
     let program = Program {
         rt: &rt,
-        name: "unpack",
+        name: b"unpack",
     };
-    if is_word(&rt, 1, "--positions") {
+    if is_word(&rt, 1, b"--positions") {
         program.start(wish_with_positions(&rt), USAGE, run_with_positions);
     } else {
         program.start(wish_of(&rt, 1, usize::MAX), USAGE, run_each);

@@ -25,7 +25,7 @@ or refused and the number of the refusal, which the program explain explains.
 fn measure(out: &mut Output<Stdout>, pack: &[u8], triangles: &mut [u16]) {
     match volume_on(pack, triangles, Builder::MAX_PLACES) {
         Ok((_, six)) => writeln!(out, "six {six}"),
-        Err(refusal) => print_refusal(out, refusal),
+        Err(refusal) => print_refusal(out, refusal.number()),
     }
 }
 
@@ -42,7 +42,7 @@ fn run(program: Program<'_>) {
 fn main(rt: HostRuntime) {
     let program = Program {
         rt: &rt,
-        name: "volume",
+        name: b"volume",
     };
     program.start(wish_of(&rt, 1, usize::MAX), USAGE, run);
 }
