@@ -5,7 +5,8 @@
 // standard error, and so does a write that fails.
 use rules::refusal::Refusal;
 use std::env::Env;
-use std::fmt::InlineText;
+use std::fmt;
+use std::fmt::{Display, InlineText};
 use std::io::Stdout;
 use text::arguments::{arg_count, wish_of};
 use text::program::Program;
@@ -36,9 +37,20 @@ fn refusal_of(n: u16) -> Option<Refusal> {
     Refusal::ALL.get(at).copied()
 }
 
-// Writes the sentence of a refusal with its line feed, in one write.
+// The sentence of a refusal, with its line feed.
+#[derive(Clone, Copy)]
+struct Sentence(Refusal);
+
+impl Display for Sentence {
+    fn fmt<W: fmt::Write>(&self, f: &mut fmt::Formatter<W>) -> fmt::Result {
+        self.0.fmt(f)?;
+        f.write_str("\n")
+    }
+}
+
+// Writes the sentence of a refusal, in one write.
 fn print_sentence(out: &mut Output<Stdout>, refusal: Refusal) {
-    let line = InlineText::<{ SENTENCE }>::of(refusal).and_str("\n", 1);
+    let line = InlineText::<{ SENTENCE }>::of(Sentence(refusal));
     out.bytes(line.as_str().as_bytes());
 }
 
