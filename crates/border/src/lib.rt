@@ -21,16 +21,16 @@ ghost use Rattle.border_theory.specs.Memory.Fresh.{all_free, fresh_front};
 use crate::alter::alter;
 use crate::count::{count_built, count_marked};
 use crate::verdict::{propose, test_room};
-use cells::{PlaceMemory, PlaceMemoryMut};
+use cells::{LoopMemory, LoopMemoryMut};
 use cutborder::{Action, Front, Loops, Plan};
 use rings::surgery::mark_border;
 use rings::walks::free_all;
 use rules::refusal::Refusal;
 use rules::{Counts, Operation, Peaks};
 
-// `as u16` narrows a capacity, which `fits` of `PlaceMemory` bounds by `max_places`: `try_from` would be no plainer.
+// `as u16` narrows a capacity, which `fits` of `LoopMemory` bounds by `max_places`: `try_from` would be no plainer.
 /// A building with the counts stated begins: the state, with every place free.
-pub fn begin<M: PlaceMemoryMut>(m: &mut M, stated: Counts) -> Front
+pub fn begin<M: LoopMemoryMut>(m: &mut M, stated: Counts) -> Front
     requires { 5 * M.places m.old ≤ length (M.numbers m.old) }
     ensures state { result ≡ fresh_front (M.places m.old) stated }
     ensures memory { M.numbers m.new ≡ all_free (M.places m.old) (M.numbers m.old) (M.places m.old) }
@@ -63,7 +63,7 @@ pub fn begin<M: PlaceMemoryMut>(m: &mut M, stated: Counts) -> Front
 
 /// What the operation o would do: 16, then 17, or the plan of a triangle, or the edge to be marked as border.
 #[tactic(auto, unfolding(border_theory::specs::Memory::Decision::decided, border_theory::specs::Memory::Decision::proposed))]
-pub fn decide<M: PlaceMemory>(m: &M, s: Front, o: Operation) -> Result<Action, Refusal>
+pub fn decide<M: LoopMemory>(m: &M, s: Front, o: Operation) -> Result<Action, Refusal>
     requires { Ready (M.places m.now) s (M.numbers m.now) }
     ensures { result ≡ decided (M.places m.now) s (M.numbers m.now) o }
 {
@@ -71,7 +71,7 @@ pub fn decide<M: PlaceMemory>(m: &M, s: Front, o: Operation) -> Result<Action, R
 }
 
 /// The planned operation o is done: the state after it. The memory past the waiting loops is unchanged.
-pub fn build<M: PlaceMemoryMut>(m: &mut M, s: Front, o: Operation, p: Plan) -> Front
+pub fn build<M: LoopMemoryMut>(m: &mut M, s: Front, o: Operation, p: Plan) -> Front
     requires { Ready (M.places m.old) s (M.numbers m.old) × (decided (M.places m.old) s (M.numbers m.old) o ≡ Ok (Builds p)) }
     ensures state { result ≡ built_front (M.places m.old) s p (held_after (M.places m.old) s (M.numbers m.old) o p).loops }
     ensures memory { M.numbers m.new ≡ (held_after (M.places m.old) s (M.numbers m.old) o p).memory }
@@ -83,7 +83,7 @@ pub fn build<M: PlaceMemoryMut>(m: &mut M, s: Front, o: Operation, p: Plan) -> F
 }
 
 /// The current edge is marked as border: the state after it.
-pub fn mark<M: PlaceMemoryMut>(m: &mut M, s: Front) -> Front
+pub fn mark<M: LoopMemoryMut>(m: &mut M, s: Front) -> Front
     requires { Ready (M.places m.old) s (M.numbers m.old) × (s.loops.live ≡ 0 → ⊥) }
     ensures state { result ≡ marked_front (M.places m.old) s (marked_held (M.places m.old) s.loops (M.numbers m.old)).loops }
     ensures memory { M.numbers m.new ≡ (marked_held (M.places m.old) s.loops (M.numbers m.old)).memory }

@@ -7,14 +7,14 @@ ghost use Rattle.rules.specs.Limits.{max_vertices};
 ghost use Rattle.border_theory.specs.Memory.Decision.{plan_at, is_three, beside_next, beside_last, new_plan, forward_plan, backward_plan};
 ghost use Rattle.border_theory.specs.Memory.Decision.{border_plan, split_plan, close_plan, union_plan, start_plan};
 
-use cells::PlaceMemory;
+use cells::LoopMemory;
 use cutborder::{Action, Plan};
 use rings::live::Live;
 use rules::Triangle;
 use rules::refusal::Refusal;
 
 // The triangle b a c at the current edge, from a to b, and its numbers.
-fn plan_at<M: PlaceMemory>(
+fn plan_at<M: LoopMemory>(
     live: &Live<'_, M>,
     c: u16,
     qr: u16,
@@ -44,7 +44,7 @@ fn plan_at<M: PlaceMemory>(
 
 /// New: c is the next unused number u, and both a→c and c→b are new edges.
 #[tactic(auto, unfolding(border_theory::specs::Memory::Decision::new_plan))]
-pub fn new_plan<M: PlaceMemory>(live: &Live<'_, M>, u: u16) -> Result<Action, Refusal>
+pub fn new_plan<M: LoopMemory>(live: &Live<'_, M>, u: u16) -> Result<Action, Refusal>
     ensures { result ≡ new_plan live.now.loops (M.numbers live.now.memory.now) u }
 {
     Ok(Action::Builds(plan_at(live, u, 1, 1, 1, 0, 0)))
@@ -52,7 +52,7 @@ pub fn new_plan<M: PlaceMemory>(live: &Live<'_, M>, u: u16) -> Result<Action, Re
 
 // Whether the current loop has three places, all edges open: then only close glues.
 #[tactic(auto, unfolding(border_theory::specs::Memory::Decision::is_three))]
-fn is_three<M: PlaceMemory>(live: &Live<'_, M>) -> bool
+fn is_three<M: LoopMemory>(live: &Live<'_, M>) -> bool
     ensures { result ≡ is_three live.now.loops (M.numbers live.now.memory.now) }
 {
     live.loops.size == 3 && live.memory.is_open(live.next()) && live.memory.is_open(live.second())
@@ -61,7 +61,7 @@ fn is_three<M: PlaceMemory>(live: &Live<'_, M>) -> bool
 /// Forward, with three places or more, not all edges of three open, and the edge after b open: c is the vertex after b, and a→c is
 /// a new edge.
 #[tactic(auto, unfolding(border_theory::specs::Memory::Decision::forward_plan, border_theory::specs::Memory::Decision::allowed_if))]
-pub fn forward_plan<M: PlaceMemory>(live: &Live<'_, M>) -> Result<Action, Refusal>
+pub fn forward_plan<M: LoopMemory>(live: &Live<'_, M>) -> Result<Action, Refusal>
     ensures { result ≡ forward_plan live.now.loops (M.numbers live.now.memory.now) }
 {
     if 3 <= live.loops.size && live.memory.is_open(live.next()) && !is_three(live) {
@@ -74,7 +74,7 @@ pub fn forward_plan<M: PlaceMemory>(live: &Live<'_, M>) -> Result<Action, Refusa
 // Backward, with three places or more, not all edges of three open, and the edge into a open: c is the vertex before a, and c→b
 // is a new edge.
 #[tactic(auto, unfolding(border_theory::specs::Memory::Decision::backward_plan, border_theory::specs::Memory::Decision::allowed_if))]
-pub(crate) fn backward_plan<M: PlaceMemory>(live: &Live<'_, M>) -> Result<Action, Refusal>
+pub(crate) fn backward_plan<M: LoopMemory>(live: &Live<'_, M>) -> Result<Action, Refusal>
     ensures { result ≡ backward_plan live.now.loops (M.numbers live.now.memory.now) }
 {
     let c = live.last();
@@ -87,7 +87,7 @@ pub(crate) fn backward_plan<M: PlaceMemory>(live: &Live<'_, M>) -> Result<Action
 
 // Border: the edge from a to b is to be marked.
 #[tactic(auto, unfolding(border_theory::specs::Memory::Decision::border_plan))]
-pub(crate) fn border_plan<M: PlaceMemory>(live: &Live<'_, M>) -> Result<Action, Refusal>
+pub(crate) fn border_plan<M: LoopMemory>(live: &Live<'_, M>) -> Result<Action, Refusal>
     ensures { result ≡ border_plan live.now.loops (M.numbers live.now.memory.now) }
 {
     let a = live.memory.vertex_of(live.current());
@@ -97,7 +97,7 @@ pub(crate) fn border_plan<M: PlaceMemory>(live: &Live<'_, M>) -> Result<Action, 
 
 // Whether place i after b is beyond the edge after b, which is open.
 #[tactic(auto, unfolding(border_theory::specs::Memory::Decision::beside_next))]
-fn is_beside_next<M: PlaceMemory>(live: &Live<'_, M>, i: u16) -> bool
+fn is_beside_next<M: LoopMemory>(live: &Live<'_, M>, i: u16) -> bool
     ensures { result ≡ beside_next live.now.loops (M.numbers live.now.memory.now) i }
 {
     i == 1 && live.memory.is_open(live.next())
@@ -105,7 +105,7 @@ fn is_beside_next<M: PlaceMemory>(live: &Live<'_, M>, i: u16) -> bool
 
 // Whether it is beyond the edge into a, which is open.
 #[tactic(auto, unfolding(border_theory::specs::Memory::Decision::beside_last))]
-fn is_beside_last<M: PlaceMemory>(live: &Live<'_, M>, i: u16) -> bool
+fn is_beside_last<M: LoopMemory>(live: &Live<'_, M>, i: u16) -> bool
     ensures { result ≡ beside_last live.now.loops (M.numbers live.now.memory.now) i }
 {
     usize::from(i) + 2 == usize::from(live.loops.size) && live.memory.is_open(live.last())
@@ -114,7 +114,7 @@ fn is_beside_last<M: PlaceMemory>(live: &Live<'_, M>, i: u16) -> bool
 // Split i, with 1 ≤ i ≤ k − 2 of k places, c not beyond an open edge next to the current one: c is i places after b, and both its
 // edges are new.
 #[tactic(auto, unfolding(border_theory::specs::Memory::Decision::split_plan, border_theory::specs::Memory::Decision::allowed_if))]
-pub(crate) fn split_plan<M: PlaceMemory>(live: &Live<'_, M>, i: u16) -> Result<Action, Refusal>
+pub(crate) fn split_plan<M: LoopMemory>(live: &Live<'_, M>, i: u16) -> Result<Action, Refusal>
     ensures { result ≡ split_plan live.now.loops (M.numbers live.now.memory.now) i }
 {
     if 1 <= i
@@ -131,7 +131,7 @@ pub(crate) fn split_plan<M: PlaceMemory>(live: &Live<'_, M>, i: u16) -> Result<A
 
 // Close, with three places and all edges open: c is the third, and no edge is new.
 #[tactic(auto, unfolding(border_theory::specs::Memory::Decision::close_plan, border_theory::specs::Memory::Decision::allowed_if))]
-pub(crate) fn close_plan<M: PlaceMemory>(live: &Live<'_, M>) -> Result<Action, Refusal>
+pub(crate) fn close_plan<M: LoopMemory>(live: &Live<'_, M>) -> Result<Action, Refusal>
     ensures { result ≡ close_plan live.now.loops (M.numbers live.now.memory.now) }
 {
     let c = live.second();
@@ -144,7 +144,7 @@ pub(crate) fn close_plan<M: PlaceMemory>(live: &Live<'_, M>) -> Result<Action, R
 
 // Union p j, with waiting loop p there and j below its places: c is j places after the start of its current edge.
 #[tactic(auto, unfolding(border_theory::specs::Memory::Decision::union_plan, border_theory::specs::Memory::Decision::allowed_if))]
-pub(crate) fn union_plan<M: PlaceMemory>(
+pub(crate) fn union_plan<M: LoopMemory>(
     live: &Live<'_, M>,
     p: u16,
     j: u16,

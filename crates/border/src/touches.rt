@@ -8,7 +8,7 @@ ghost use Rattle.border_theory.specs.Memory.Near.{Near, Doubles, Starts};
 ghost use Rattle.border_theory.specs.Memory.Performs.{Performs};
 ghost use Rattle.border_theory.specs.Memory.Touched.{touched_by, listed, noted};
 
-use cells::PlaceMemory;
+use cells::LoopMemory;
 use cutborder::{FREED, LINKED, Loops, Memory, Touched};
 use rings::live::Live;
 use rules::Operation;
@@ -38,7 +38,7 @@ const NOTHING: Touched = Touched {
 };
 
 // New: the current place, the next one, and the new one between them.
-fn by_new<M: PlaceMemory>(m: &M, l: Loops) -> Touched
+fn by_new<M: LoopMemory>(m: &M, l: Loops) -> Touched
     requires { Near (M.places m.now) l (M.numbers m.now) × (1 ≤ l.free) }
     ensures { result ≡ listed (touched_by (M.places m.now) l (M.numbers m.now) Operations.New 0) }
 {
@@ -56,7 +56,7 @@ fn by_new<M: PlaceMemory>(m: &M, l: Loops) -> Touched
 }
 
 // Forward: the current place, and the one after the next.
-fn by_forward<M: PlaceMemory>(m: &M, l: Loops) -> Touched
+fn by_forward<M: LoopMemory>(m: &M, l: Loops) -> Touched
     requires { Near (M.places m.now) l (M.numbers m.now) }
     ensures { result ≡ listed (touched_by (M.places m.now) l (M.numbers m.now) Operations.Forward 0) }
 {
@@ -73,7 +73,7 @@ fn by_forward<M: PlaceMemory>(m: &M, l: Loops) -> Touched
 }
 
 // Backward: the place before the current one, and the next one.
-fn by_backward<M: PlaceMemory>(m: &M, l: Loops) -> Touched
+fn by_backward<M: LoopMemory>(m: &M, l: Loops) -> Touched
     requires { Near (M.places m.now) l (M.numbers m.now) }
     ensures { result ≡ listed (touched_by (M.places m.now) l (M.numbers m.now) Operations.Backward 0) }
 {
@@ -90,7 +90,7 @@ fn by_backward<M: PlaceMemory>(m: &M, l: Loops) -> Touched
 }
 
 /// Border: the place before the current one, this one, and the two after it.
-pub fn by_border<M: PlaceMemory>(m: &M, l: Loops) -> Touched
+pub fn by_border<M: LoopMemory>(m: &M, l: Loops) -> Touched
     requires { Near (M.places m.now) l (M.numbers m.now) }
     ensures { result ≡ listed (touched_by (M.places m.now) l (M.numbers m.now) Operations.Border 0) }
 {
@@ -109,7 +109,7 @@ pub fn by_border<M: PlaceMemory>(m: &M, l: Loops) -> Touched
 }
 
 // Split and union: the current place, the next one, c's place, the one before it, and c's second place.
-fn by_double<M: PlaceMemory>(m: &M, l: Loops, c: u16) -> Touched
+fn by_double<M: LoopMemory>(m: &M, l: Loops, c: u16) -> Touched
     requires { Near (M.places m.now) l (M.numbers m.now) × Doubles (M.places m.now) l (M.numbers m.now) c }
     ensures { result ≡ listed (touched_by (M.places m.now) l (M.numbers m.now) (Operations.Split 0) c) }
 {
@@ -128,7 +128,7 @@ fn by_double<M: PlaceMemory>(m: &M, l: Loops, c: u16) -> Touched
 }
 
 // Start: three new places.
-fn by_start<M: PlaceMemory>(m: &M, l: Loops) -> Touched
+fn by_start<M: LoopMemory>(m: &M, l: Loops) -> Touched
     requires { Starts (M.places m.now) l (M.numbers m.now) }
     ensures { result ≡ listed (touched_by (M.places m.now) l (M.numbers m.now) Operations.Start 0) }
 {
@@ -142,7 +142,7 @@ fn by_start<M: PlaceMemory>(m: &M, l: Loops) -> Touched
 }
 
 /// The places whose records the operation o would write, where c is its plan's place.
-pub fn touched<M: PlaceMemory>(m: &M, l: Loops, o: Operation, c: u16) -> Touched
+pub fn touched<M: LoopMemory>(m: &M, l: Loops, o: Operation, c: u16) -> Touched
     requires { Performs (M.places m.now) l (M.numbers m.now) 0 o c }
     ensures { result ≡ listed (touched_by (M.places m.now) l (M.numbers m.now) o c) }
 {

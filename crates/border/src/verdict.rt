@@ -8,7 +8,7 @@ use crate::plan::{
     backward_plan, border_plan, close_plan, forward_plan, new_plan, split_plan, start_plan,
     union_plan,
 };
-use cells::PlaceMemory;
+use cells::LoopMemory;
 use cutborder::{Action, Front, Loops, Plan};
 use rings::live::Live;
 use rules::Operation;
@@ -26,7 +26,7 @@ pub fn propose_rest(u: u16, o: Operation) -> Result<Action, Refusal>
 }
 
 // With a live loop all but a start are.
-fn propose_edge<M: PlaceMemory>(live: &Live<'_, M>, u: u16, o: Operation) -> Result<Action, Refusal>
+fn propose_edge<M: LoopMemory>(live: &Live<'_, M>, u: u16, o: Operation) -> Result<Action, Refusal>
     ensures { result ≡ edge_proposed (M.places live.now.memory.now) live.now.loops (M.numbers live.now.memory.now) u o }
 {
     match o {
@@ -42,7 +42,7 @@ fn propose_edge<M: PlaceMemory>(live: &Live<'_, M>, u: u16, o: Operation) -> Res
 }
 
 /// 16, or what would be done with the loops l, where u is the next unused number.
-pub fn propose<M: PlaceMemory>(m: &M, l: Loops, u: u16, o: Operation) -> Result<Action, Refusal>
+pub fn propose<M: LoopMemory>(m: &M, l: Loops, u: u16, o: Operation) -> Result<Action, Refusal>
     requires { Proposable (M.places m.now) l (M.numbers m.now) u }
     ensures { result ≡ proposed_at (M.places m.now) l (M.numbers m.now) u o }
 {

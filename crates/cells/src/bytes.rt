@@ -4,9 +4,9 @@
 ghost use Rattle.std.specs.Prelude.{◌≡◌, ℕ, ◌+◌, ◌*◌, List};
 ghost use Rattle.rules.specs.Limits.{furnace_places};
 ghost use Rattle.cells_theory.specs.Bytes.{numbers};
-ghost use Rattle.cells.specs.Fits.{bytes_fit};
+ghost use Rattle.cells.specs.Fits.{bytes_fit, reader_fits};
 
-use crate::{PlaceMemory, PlaceMemoryMut};
+use crate::{FreeStack, FreeStackMut, LoopMemory, LoopMemoryMut, PlaceMemory};
 use rules::{FURNACE_LOOPS, FURNACE_PLACES};
 
 // The free places stand from here on, then the waiting loops.
@@ -17,7 +17,7 @@ const WAITING: usize = 5 * FURNACE_PLACES;
 /// How many bytes it has.
 pub const BYTES: usize = WAITING + 2 * FURNACE_LOOPS;
 
-impl PlaceMemory for [u8; BYTES] {
+impl LoopMemory for [u8; BYTES] {
     ghost numbers = { λ m. numbers m };
 
     ghost places = { λ m. furnace_places };
@@ -59,9 +59,8 @@ impl PlaceMemory for [u8; BYTES] {
         u16::from(self[4 * usize::from(p) + 3] % 2)
     }
 
-    #[tactic(auto, using(cells_theory::proofs::Cells::past_told, cells_theory::proofs::Bytes::length_numbers))]
     fn free_at(&self, k: u16, below: u16) -> u16 {
-        u16::from(self[FREE + usize::from(k - below)])
+        self.entry_at(k, below)
     }
 
     #[tactic(auto, using(cells_theory::proofs::Cells::past_told, cells_theory::proofs::Bytes::length_numbers))]
@@ -75,7 +74,7 @@ impl PlaceMemory for [u8; BYTES] {
     }
 }
 
-impl PlaceMemoryMut for [u8; BYTES] {
+impl LoopMemoryMut for [u8; BYTES] {
     #[tactic(auto, using(cells_theory::proofs::Cells::vertex_stored))]
     fn set_vertex(&mut self, p: u16, v: u16) {
         let at = 4 * usize::from(p);
@@ -93,9 +92,8 @@ impl PlaceMemoryMut for [u8; BYTES] {
         self[from + 3] = 2 * (self[from + 3] / 2) + o as u8;
     }
 
-    #[tactic(auto, using(cells_theory::proofs::Cells::free_stored, cells_theory::proofs::Bytes::length_numbers))]
     fn free_place(&mut self, k: u16, p: u16) {
-        self[FREE + usize::from(k)] = p as u8;
+        self.put_entry(k, p);
     }
 
     #[tactic(auto, using(cells_theory::proofs::Cells::wait_stored, cells_theory::proofs::Bytes::length_numbers))]
@@ -103,5 +101,82 @@ impl PlaceMemoryMut for [u8; BYTES] {
         let at = WAITING + 2 * usize::from(l);
         self[at] = p as u8;
         self[at + 1] = k as u8;
+    }
+}
+
+impl FreeStack for [u8; BYTES] {
+    #[tactic(auto, using(cells_theory::proofs::Cells::past_told, cells_theory::proofs::Bytes::length_numbers))]
+    fn entry_at(&self, k: u16, below: u16) -> u16 {
+        u16::from(self[FREE + usize::from(k - below)])
+    }
+}
+
+impl FreeStackMut for [u8; BYTES] {
+    #[tactic(auto, using(cells_theory::proofs::Cells::free_stored, cells_theory::proofs::Bytes::length_numbers))]
+    fn put_entry(&mut self, k: u16, p: u16) {
+        self[FREE + usize::from(k)] = p as u8;
+    }
+}
+
+impl PlaceMemory for [u8; BYTES] {
+    ghost numbers = { λ m. numbers m };
+
+    ghost places = { furnace_places };
+
+    ghost vertex_end = { 32768 };
+
+    ghost size_end = { 256 };
+
+    ghost open_end = { 2 };
+
+    ghost fits = { reader_fits };
+
+    fn capacity() -> usize {
+        FURNACE_PLACES
+    }
+
+    fn vertex_of(&self, p: u16) -> u16 {
+        LoopMemory::vertex_of(self, p)
+    }
+
+    fn before_of(&self, p: u16) -> u16 {
+        LoopMemory::before_of(self, p)
+    }
+
+    fn after_of(&self, p: u16) -> u16 {
+        LoopMemory::after_of(self, p)
+    }
+
+    fn open_of(&self, p: u16) -> u16 {
+        LoopMemory::open_of(self, p)
+    }
+
+    fn set_vertex(&mut self, p: u16, v: u16) {
+        LoopMemoryMut::set_vertex(self, p, v);
+    }
+
+    fn store_edge(&mut self, x: u16, y: u16, o: u16) {
+        LoopMemoryMut::store_edge(self, x, y, o);
+    }
+
+    fn free_place(&mut self, k: u16, p: u16) {
+        LoopMemoryMut::free_place(self, k, p);
+    }
+
+    #[tactic(auto, using(cells_theory::proofs::Bytes::length_numbers))]
+    fn free_at(&self, k: u16, below: u16) -> u16 {
+        LoopMemory::free_at(self, k, below)
+    }
+
+    fn wait_at(&mut self, l: u16, p: u16, k: u16) {
+        LoopMemoryMut::wait_at(self, l, p, k);
+    }
+
+    fn place_at(&self, l: u16) -> u16 {
+        LoopMemory::place_at(self, l)
+    }
+
+    fn size_at(&self, l: u16) -> u16 {
+        LoopMemory::size_at(self, l)
     }
 }

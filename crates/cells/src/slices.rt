@@ -3,7 +3,7 @@ ghost use Rattle.std.specs.Prelude.{◌≡◌, ℕ, ◌*◌, ◌/◌, ◌^◌, �
 ghost use Rattle.rules.specs.Limits.{max_places};
 ghost use Rattle.cells.specs.Fits.{slice_fits};
 
-use crate::{PlaceMemory, PlaceMemoryMut, plain};
+use crate::{FreeStack, FreeStackMut, LoopMemory, LoopMemoryMut, plain};
 
 /// The numbers of a cut-border of some places, lent to be read: at most 1,024 places, and a record for each.
 #[derive(Drop)]
@@ -13,7 +13,7 @@ pub struct PlaceSlice<'a> {
     ghost room: { (places ≤ max_places) × (4 * places ≤ length memory.now) },
 }
 
-impl<'a> PlaceMemory for PlaceSlice<'a> {
+impl<'a> LoopMemory for PlaceSlice<'a> {
     ghost numbers = { λ m. m.memory.now };
 
     ghost places = { λ m. m.places };
@@ -51,7 +51,7 @@ impl<'a> PlaceMemory for PlaceSlice<'a> {
     }
 
     fn free_at(&self, k: u16, below: u16) -> u16 {
-        plain::free_at(self.memory, self.places, k, below)
+        self.entry_at(k, below)
     }
 
     fn place_at(&self, l: u16) -> u16 {
@@ -63,6 +63,12 @@ impl<'a> PlaceMemory for PlaceSlice<'a> {
     }
 }
 
+impl<'a> FreeStack for PlaceSlice<'a> {
+    fn entry_at(&self, k: u16, below: u16) -> u16 {
+        plain::free_at(self.memory, self.places, k, below)
+    }
+}
+
 /// The same, lent to be written too.
 #[derive(Drop)]
 pub struct PlaceSliceMut<'a> {
@@ -71,7 +77,7 @@ pub struct PlaceSliceMut<'a> {
     ghost room: { (places ≤ max_places) × (4 * places ≤ length memory.now) },
 }
 
-impl<'a> PlaceMemory for PlaceSliceMut<'a> {
+impl<'a> LoopMemory for PlaceSliceMut<'a> {
     ghost numbers = { λ m. m.memory.now };
 
     ghost places = { λ m. m.places };
@@ -109,7 +115,7 @@ impl<'a> PlaceMemory for PlaceSliceMut<'a> {
     }
 
     fn free_at(&self, k: u16, below: u16) -> u16 {
-        plain::free_at(self.memory, self.places, k, below)
+        self.entry_at(k, below)
     }
 
     fn place_at(&self, l: u16) -> u16 {
@@ -121,7 +127,7 @@ impl<'a> PlaceMemory for PlaceSliceMut<'a> {
     }
 }
 
-impl<'a> PlaceMemoryMut for PlaceSliceMut<'a> {
+impl<'a> LoopMemoryMut for PlaceSliceMut<'a> {
     fn set_vertex(&mut self, p: u16, v: u16) {
         plain::set_vertex(self.memory, p, v);
     }
@@ -131,10 +137,22 @@ impl<'a> PlaceMemoryMut for PlaceSliceMut<'a> {
     }
 
     fn free_place(&mut self, k: u16, p: u16) {
-        plain::free_place(self.memory, self.places, k, p);
+        self.put_entry(k, p);
     }
 
     fn wait_at(&mut self, l: u16, p: u16, k: u16) {
         plain::wait_at(self.memory, self.places, l, p, k);
+    }
+}
+
+impl<'a> FreeStack for PlaceSliceMut<'a> {
+    fn entry_at(&self, k: u16, below: u16) -> u16 {
+        plain::free_at(self.memory, self.places, k, below)
+    }
+}
+
+impl<'a> FreeStackMut for PlaceSliceMut<'a> {
+    fn put_entry(&mut self, k: u16, p: u16) {
+        plain::free_place(self.memory, self.places, k, p);
     }
 }

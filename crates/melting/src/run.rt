@@ -1,7 +1,7 @@
 // One operation of a pack, read and done, and the run of them until the model is complete.
 ghost use Rattle.std.specs.Prelude.{◌≡◌, false, ◌<◌, length};
 ghost use Rattle.border_theory.specs.Memory.Finish.{is_complete};
-ghost use Rattle.melting_theory.specs.Runs.{Held, Weighable, Weighs, WeighsTo, Turned, Comes, Begins};
+ghost use Rattle.melting_theory.specs.Runs.{Held, Weighable, Weighs, WeighsTo, TurnedOn, Comes, Begins};
 
 use border::finish::is_complete;
 use border::{begin, build, decide, mark};
@@ -26,7 +26,7 @@ fn weighed(field: &[u8], t: Triangle, six: i64) -> i64
 // The next operation, read and done: further on and in the bytes.
 fn turn(ops: &[u8], field: &[u8], p: Melt, m: &mut [u8; BYTES]) -> Result<Melt, Refusal>
     requires { Held field.now p m.old × Weighable p.front.stated field.now × (is_complete p.front ≡ false) × (length ops.now < 65536) }
-    ensures { Turned ops.now field.now p m.old result m.new }
+    ensures { TurnedOn ops.now field.now p m.old result m.new }
 {
     let Some((o, next)) = operation_at(ops, p.at) else {
         return Err(Refusal::EndsEarly);

@@ -1,6 +1,6 @@
 -- The run without the edge rule goes by operations.
 -- Assumes nothing.
-use Prim.Native.Nat.{ℕ, zero, suc, ◌-◌, ◌<◌}
+use Prim.Native.Nat.{ℕ, zero, suc, ◌-◌, ◌≤◌, ◌<◌}
 use native.Mathlib.Omega.{arith}
 use mathlib.Core.Bool.{true, false}
 use mathlib.Core.List.{List}
@@ -18,6 +18,12 @@ pub ran_complete : (n : ℕ) (m : Machine) (xs : List ℕ) → 0 < n → complet
 unfolding run_freely
 ran_complete zero m xs l h = absurd (omega arith)
 ran_complete (suc n) m xs l h = rw (run_freely, h) refl
+
+-- none may be read
+pub ran_none : (n : ℕ) (m : Machine) (xs : List ℕ) → n ≤ 0 → run_freely n m xs ≡ stopped 15
+unfolding run_freely
+ran_none zero m xs l = refl
+ran_none (suc n) m xs l = absurd (omega arith)
 
 -- the operation breaks off
 pub ran_broken : (n : ℕ) (m : Machine) (xs : List ℕ) → complete m ≡ false → read_operation xs ≡ breaks_off → run_freely n m xs ≡ stopped 15

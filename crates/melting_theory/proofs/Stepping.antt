@@ -3,30 +3,28 @@
 -- Assumes nothing.
 use Prim.Native.Nat.{ℕ, suc, ◌+◌, ◌-◌, ◌*◌, ◌≤◌, ◌<◌}
 use native.Mathlib.Omega.{arith}
-use mathlib.Core.Bool.{Bool, true, false, ◌&&◌, false≢true}
+use mathlib.Core.Bool.{Bool, true, false}
 use mathlib.Core.List.{List, [], ◌∷◌}
 use mathlib.Core.Path.{◌≡◌, refl, sym, ap, ◌∙◌, subst}
-use lib.IntN.{ℤ, pos, nat_abs}
+use lib.IntN.{ℤ, pos}
 use lib.ListN.{length, length-drop}
 use lib.Dec.{leb}
 use borrow.Author.Tests.{leb-true}
 use Rattle.rules.specs.declared.Counts.{Counts}
 use Rattle.rules.specs.declared.Triangle.{Triangle}
 use Rattle.rules.specs.declared.Operation.{Operation}
-use Rattle.rules.specs.Limits.{max_triangles, furnace_places, furnace_loops, in_range}
+use Rattle.rules.specs.Limits.{max_triangles, furnace_places, furnace_loops}
 use Rattle.rules.specs.Bits.{bits_of_bytes}
 use Rattle.rules.specs.Code.{breaks_off, read, read_operation}
 use Rattle.rules.specs.declared.Operation.TheVariants.{New, Forward, Backward, Border, Split, Close, Union, Start}
 use Rattle.rules.specs.Ring.{Ring}
 use Rattle.rules.specs.Table.{Building, Marking, Effect, not_allowed, builds, marks, at_rest, effect}
-use Rattle.rules.specs.Machine.{Machine, empty, after_build, after_mark, refused, built, declared, test, within, complete}
+use Rattle.rules.specs.Machine.{Machine, empty, after_build, after_mark, refused, built, declared, test, complete}
 use Rattle.rules.specs.Volume.{six_volumes}
-use Rattle.rules.specs.Unpack.{stopped, completed}
-use Rattle.rules.specs.Furnace.{peaks_fit, done_freely, operation_freely, run_freely, run_freely_of}
+use Rattle.rules.specs.Unpack.{stopped}
+use Rattle.rules.specs.Furnace.{done_freely, operation_freely, run_freely, run_freely_of}
 use Rattle.rules.specs.Book.{Book}
-use Rattle.book.specs.Consistent.{Ranges}
-use Rattle.book.specs.Bounded.{Bounded}
-use Rattle.book.proofs.Bounds.{bounded_ranges, bounded_built, bounded_marked, empty_bounded, within_each, Within}
+use Rattle.book.proofs.Bounds.{bounded_ranges, bounded_built, bounded_marked, empty_bounded, within_each}
 use Rattle.book.proofs.Effects.{Law, effect_law}
 use Rattle.book.proofs.Numbers.{Below, below_effect}
 use Rattle.counting.proofs.Ranges.{in_range_lem}
@@ -34,7 +32,7 @@ use Rattle.counting.proofs.Bools.{and_left, and_right}
 use Rattle.cutborder.specs.declared.Front.{Front}
 use Rattle.cutborder.specs.declared.Plan.{Plan}
 use Rattle.cutborder.specs.declared.Melt.{Melt}
-use Rattle.std.specs.Prelude.{Result, Ok, Err}
+use Rattle.std.specs.Prelude.{Ok, Err}
 use Rattle.rules.specs.declared.refusal.Refusal.{Refusal}
 use Rattle.rules.specs.declared.refusal.Refusal.TheVariants.{EndsEarly}
 use Rattle.rules.specs.Refusal.{number_of}
@@ -56,10 +54,10 @@ use Rattle.wire_theory.proofs.Bytes.{length_bits_of_bytes}
 use Rattle.unpack_theory.specs.Runs.{bits_from}
 use Rattle.cells_theory.specs.Bytes.{numbers, Whole}
 use Rattle.cells_theory.proofs.Bytes.{length_numbers}
-use Rattle.melting_theory.specs.Runs.{Melts, Weighed, Held, run_in, Going, Done, TurnedTo, Turned}
+use Rattle.melting_theory.specs.Runs.{Melts, Weighed, Held, run_in, Going, GoingOn, Done, TurnedTo, Turned, TurnedOn}
 use Rattle.melting_theory.specs.Runs.{Weighable, Weighs, WeighsTo, Begins}
 use Rattle.melting_theory.proofs.Weighing.{weighs_may, weighs_told, weighed_more}
-use Rattle.melting_theory.proofs.Runs.{ran_complete, ran_broken, ran_refused, ran_built, ran_marked}
+use Rattle.melting_theory.proofs.Runs.{ran_complete, ran_none, ran_broken, ran_refused, ran_built, ran_marked}
 
 module _ (M : Machine) (s : Front) (bs : List ℕ) (h : Melts M s bs) where
   abbrev book : Book
@@ -207,31 +205,98 @@ module _ (field : List ℕ) (p : Melt) (bs : List ℕ) (h : Held field p bs) whe
       (live_same furnace_places p.front (numbers bs) h.machine h.melts.keeps ∙ z)
 
 module _ (ops field : List ℕ) (p : Melt) (bs : List ℕ) where
-  -- the count is never used up
-  pub some_left : (left : ℕ) → Going ops field left p bs → 0 < left
-  some_left left g = omega (arith, g.enough)
-
-  pub turn_complete : (left : ℕ) → Going ops field left p bs → (b : Bool) → b ≡ is_complete p.front → b ≡ true → Done ops field p bs
-  turn_complete left g b eb e = record {
+  pub turn_complete : (left : ℕ) → 0 < left → Going ops field left p bs → (b : Bool) → b ≡ is_complete p.front → b ≡ true
+      → Done ops field p bs
+  turn_complete left l g b eb e = record {
     held = g.held;
     ran =
-        g.ran ∙ ran_complete left g.held.machine (bits_from ops p.at) (some_left left g)
+        g.ran ∙ ran_complete left g.held.machine (bits_from ops p.at) l
         (melts_complete g.held.machine p.front bs g.held.melts ∙ sym eb ∙ e);
   }
+
+  -- none may be read any more
+  pub turn_none : (left : ℕ) → left ≤ 0 → Going ops field left p bs → run_in ops p ≡ stopped 15
+  turn_none left l g = g.ran ∙ ran_none left g.held.machine (bits_from ops p.at) l
 
   module _ (b : Bool) (eb : b ≡ is_complete p.front) (c : b ≡ false) where
     on : {left : ℕ} → (g : Going ops field left p bs) → complete g.held.machine ≡ false
     on g = melts_complete g.held.machine p.front bs g.held.melts ∙ sym eb ∙ c
 
     pub turn_broken : read_operation (bits_from ops p.at) ≡ breaks_off → Turned ops field p bs (Err EndsEarly) bs
-    turn_broken e left g = g.ran ∙ ran_broken left g.held.machine (bits_from ops p.at) (on g) e
+    turn_broken e left l g = g.ran ∙ ran_broken left g.held.machine (bits_from ops p.at) (on g) e
 
     module _ (o : Operation) (k : ℕ) (reads : read_operation (bits_from ops p.at) ≡ read o (bits_from ops k)) where
       pub turn_refused : (n : Refusal) → decided furnace_places p.front (numbers bs) o ≡ Err n → Turned ops field p bs (Err n) bs
-      turn_refused n e left g =
+      turn_refused n e left l g =
           g.ran
-          ∙ ran_refused g.held.machine (bits_from ops p.at) (bits_from ops k) o (on g) reads left (number_of n) (some_left left g)
+          ∙ ran_refused g.held.machine (bits_from ops p.at) (bits_from ops k) o (on g) reads left (number_of n) l
           (refused_it g.held.machine p.front bs g.held.melts o n e)
+
+      onward_by : (left : ℕ) (g : Going ops field left p bs) (s' : Front) (z : ℤ) (bs' : List ℕ) → s'.stated ≡ p.front.stated
+          → (N : Machine) → Melts N s' bs' → Weighed field N.triangles z
+          → run_freely left g.held.machine (bits_from ops p.at) ≡ run_freely (left - 1) N (bits_from ops k)
+          → TurnedTo ops field left p (Ok (record { at = k; front = s'; six = z })) bs'
+      onward_by left g s' z bs' es N m w e = (
+        record {
+          held = record { machine = N; melts = m; weighed = w };
+          ran = ap (λ (c : Counts). run_freely_of c ops) es ∙ g.ran ∙ e;
+        },
+        es,
+      )
+
+      pub turn_built : (t : Plan) → decided furnace_places p.front (numbers bs) o ≡ Ok (Builds t) → (s' : Front)
+          → s' ≡ built_front furnace_places p.front t (held_after furnace_places p.front (numbers bs) o t).loops → (bs' : List ℕ)
+          → numbers bs' ≡ (held_after furnace_places p.front (numbers bs) o t).memory → Whole bs' → (w : ℤ) → SFits w64 w
+          → WeighsTo field t.triangle (held p.six) w → Turned ops field p bs (Ok (record { at = k; front = s'; six = held w })) bs'
+      unfolding next built_front
+      turn_built t e s' es bs' em wh w f v left l g =
+          let M = g.held.machine in
+          let m = g.held.melts in
+          let d = does M p.front bs m o t e in
+          let v' : Weighed field (t.triangle ∷ M.triangles) (held w) =
+          weighed_more field M.triangles t.triangle p.six (held w) g.held.weighed
+          (weighs_told field t.triangle p.six (held p.six) w (held w) (same_six field p bs g.held) (to_z-of_z f) (v.sum, v.amount)) in
+          onward_by left g s' (held w) bs' (ap (λ (f : Front). f.stated) es) (next M p.front bs m o t e)
+          (next_melts M p.front bs m o t e s' es bs' em wh)
+          (subst (λ (u : Triangle). Weighed field (u ∷ M.triangles) (held w)) (sym d.triangle) v')
+          (ran_built M (bits_from ops p.at) (bits_from ops k) o (on g) reads left t.triangle (next M p.front bs m o t e) l
+          (made M p.front bs m o t e))
+
+      pub turn_marked : (x y : ℕ) → decided furnace_places p.front (numbers bs) o ≡ Ok (Marks x y) → (s' : Front)
+          → s' ≡ marked_front furnace_places p.front (marked_held furnace_places p.front.loops (numbers bs)).loops → (bs' : List ℕ)
+          → numbers bs' ≡ (marked_held furnace_places p.front.loops (numbers bs)).memory → Whole bs' → (z : ℤ) → z ≡ held p.six
+          → Turned ops field p bs (Ok (record { at = k; front = s'; six = z })) bs'
+      unfolding after marked_front
+      turn_marked x y e s' es bs' em w z ez left l g =
+          let M = g.held.machine in
+          let m = g.held.melts in
+          let d = marked M p.front bs m o x y e in
+          rw (ez, same_six field p bs g.held)
+          (onward_by left g s' p.six bs' (ap (λ (f : Front). f.stated) es) (after M p.front bs m o x y e)
+          (after_melts M p.front bs m o x y e s' es bs' em w) g.held.weighed
+          (ran_marked M (bits_from ops p.at) (bits_from ops k) o (on g) reads left d.marking.edge (after M p.front bs m o x y e) l
+          (declares M p.front bs m o x y e)))
+
+-- ---- the same where more operations may be read than there are bits left, so that the count is never used up
+
+module _ (ops field : List ℕ) (p : Melt) (bs : List ℕ) where
+  -- the count is never used up
+  pub some_left : (left : ℕ) → GoingOn ops field left p bs → 0 < left
+  some_left left g = omega (arith, g.enough)
+
+  pub still_going : (left : ℕ) → GoingOn ops field left p bs → Going ops field left p bs
+  still_going left g = record { held = g.held; ran = g.ran }
+
+  pub turn_on_complete : (left : ℕ) → GoingOn ops field left p bs → (b : Bool) → b ≡ is_complete p.front → b ≡ true → Done ops field p bs
+  turn_on_complete left g b eb e = turn_complete ops field p bs left (some_left left g) (still_going left g) b eb e
+
+  module _ (b : Bool) (eb : b ≡ is_complete p.front) (c : b ≡ false) where
+    pub turn_on_broken : read_operation (bits_from ops p.at) ≡ breaks_off → TurnedOn ops field p bs (Err EndsEarly) bs
+    turn_on_broken e left g = turn_broken ops field p bs b eb c e left (some_left left g) (still_going left g)
+
+    module _ (o : Operation) (k : ℕ) (reads : read_operation (bits_from ops p.at) ≡ read o (bits_from ops k)) where
+      pub turn_on_refused : (n : Refusal) → decided furnace_places p.front (numbers bs) o ≡ Err n → TurnedOn ops field p bs (Err n) bs
+      turn_on_refused n e left g = turn_refused ops field p bs b eb c o k reads n e left (some_left left g) (still_going left g)
 
       module _ (ahead : p.at < k) (within : k ≤ 8 * length ops) where
         -- fewer bits are left
@@ -241,63 +306,35 @@ module _ (ops field : List ℕ) (p : Melt) (bs : List ℕ) where
             let b = bits_left ops k in
             omega (arith, h, a, b, ahead, within)
 
-        onward_by : (left : ℕ) (g : Going ops field left p bs) (s' : Front) (z : ℤ) (bs' : List ℕ) → s'.stated ≡ p.front.stated
-            → (N : Machine) → Melts N s' bs' → Weighed field N.triangles z
-            → run_freely left g.held.machine (bits_from ops p.at) ≡ run_freely (left - 1) N (bits_from ops k)
-            → TurnedTo ops field left p (Ok (record { at = k; front = s'; six = z })) bs'
-        onward_by left g s' z bs' es N m w e = (
-          record {
-            held = record { machine = N; melts = m; weighed = w };
-            ran = ap (λ (c : Counts). run_freely_of c ops) es ∙ g.ran ∙ e;
-            enough = fewer left g.enough;
-          },
-          es,
-          ahead,
-          within,
-        )
+        reads_on : (s' : Front) (z : ℤ) (bs' : List ℕ) → Turned ops field p bs (Ok (record { at = k; front = s'; six = z })) bs'
+            → TurnedOn ops field p bs (Ok (record { at = k; front = s'; six = z })) bs'
+        reads_on s' z bs' t left g =
+            let u = t left (some_left left g) (still_going left g) in
+            (record { held = u.0.held; ran = u.0.ran; enough = fewer left g.enough }, u.1, ahead, within)
 
-        pub turn_built : (t : Plan) → decided furnace_places p.front (numbers bs) o ≡ Ok (Builds t) → (s' : Front)
+        pub turn_on_built : (t : Plan) → decided furnace_places p.front (numbers bs) o ≡ Ok (Builds t) → (s' : Front)
             → s' ≡ built_front furnace_places p.front t (held_after furnace_places p.front (numbers bs) o t).loops → (bs' : List ℕ)
             → numbers bs' ≡ (held_after furnace_places p.front (numbers bs) o t).memory → Whole bs' → (w : ℤ) → SFits w64 w
-            → WeighsTo field t.triangle (held p.six) w → Turned ops field p bs (Ok (record { at = k; front = s'; six = held w })) bs'
-        unfolding next built_front
-        turn_built t e s' es bs' em wh w f v left g =
-            let M = g.held.machine in
-            let m = g.held.melts in
-            let d = does M p.front bs m o t e in
-            let v' : Weighed field (t.triangle ∷ M.triangles) (held w) =
-            weighed_more field M.triangles t.triangle p.six (held w) g.held.weighed
-            (weighs_told field t.triangle p.six (held p.six) w (held w) (same_six field p bs g.held) (to_z-of_z f) (v.sum, v.amount)) in
-            onward_by left g s' (held w) bs' (ap (λ (f : Front). f.stated) es) (next M p.front bs m o t e)
-            (next_melts M p.front bs m o t e s' es bs' em wh)
-            (subst (λ (u : Triangle). Weighed field (u ∷ M.triangles) (held w)) (sym d.triangle) v')
-            (ran_built M (bits_from ops p.at) (bits_from ops k) o (on g) reads left t.triangle (next M p.front bs m o t e)
-            (some_left left g) (made M p.front bs m o t e))
+            → WeighsTo field t.triangle (held p.six) w → TurnedOn ops field p bs (Ok (record { at = k; front = s'; six = held w })) bs'
+        turn_on_built t e s' es bs' em wh w f v =
+            reads_on s' (held w) bs' (turn_built ops field p bs b eb c o k reads t e s' es bs' em wh w f v)
 
-        pub turn_marked : (x y : ℕ) → decided furnace_places p.front (numbers bs) o ≡ Ok (Marks x y) → (s' : Front)
+        pub turn_on_marked : (x y : ℕ) → decided furnace_places p.front (numbers bs) o ≡ Ok (Marks x y) → (s' : Front)
             → s' ≡ marked_front furnace_places p.front (marked_held furnace_places p.front.loops (numbers bs)).loops → (bs' : List ℕ)
             → numbers bs' ≡ (marked_held furnace_places p.front.loops (numbers bs)).memory → Whole bs' → (z : ℤ) → z ≡ held p.six
-            → Turned ops field p bs (Ok (record { at = k; front = s'; six = z })) bs'
-        unfolding after marked_front
-        turn_marked x y e s' es bs' em w z ez left g =
-            let M = g.held.machine in
-            let m = g.held.melts in
-            let d = marked M p.front bs m o x y e in
-            rw (ez, same_six field p bs g.held)
-            (onward_by left g s' p.six bs' (ap (λ (f : Front). f.stated) es) (after M p.front bs m o x y e)
-            (after_melts M p.front bs m o x y e s' es bs' em w) g.held.weighed
-            (ran_marked M (bits_from ops p.at) (bits_from ops k) o (on g) reads left d.marking.edge (after M p.front bs m o x y e)
-            (some_left left g) (declares M p.front bs m o x y e)))
+            → TurnedOn ops field p bs (Ok (record { at = k; front = s'; six = z })) bs'
+        turn_on_marked x y e s' es bs' em w z ez =
+            reads_on s' z bs' (turn_marked ops field p bs b eb c o k reads x y e s' es bs' em w z ez)
 
 fuel : (ops : List ℕ) (n : ℕ) → n ≡ 8 * length ops + 1 → suc (length (bits_from ops 0)) ≡ n
 fuel ops n e = omega (arith, e, length_bits_of_bytes ops)
 
 -- the beginning: every place is free
-pub begins : (c : Counts) (ops field bs bs' : List ℕ) → Begins c ops field bs → (s : Front) → s ≡ fresh_front furnace_places c
+pub begins_on : (c : Counts) (ops field bs bs' : List ℕ) → Begins c ops field bs → (s : Front) → s ≡ fresh_front furnace_places c
     → numbers bs' ≡ all_free furnace_places (numbers bs) furnace_places → Whole bs'
-    → (n : ℕ) → n ≡ 8 * length ops + 1 → Going ops field n (record { at = 0; front = s; six = pos 0 }) bs'
+    → (n : ℕ) → n ≡ 8 * length ops + 1 → GoingOn ops field n (record { at = 0; front = s; six = pos 0 }) bs'
 unfolding six_volumes
-begins c ops field bs bs' h s es em w n en =
+begins_on c ops field bs bs' h s es em w n en =
     let i = in_range_lem c h.ranges in
     let places = leb-true c.places furnace_places (and_left (leb c.places furnace_places) (leb c.loops furnace_loops) h.peaks) in
     let loops = leb-true c.loops furnace_loops (and_right (leb c.places furnace_places) (leb c.loops furnace_loops) h.peaks) in
@@ -313,3 +350,8 @@ begins c ops field bs bs' h s es em w n en =
       ran = rw es (ap (λ (k : ℕ). run_freely k (empty c) (bits_from ops 0)) (fuel ops n en));
       enough = omega (arith, fuel ops n en);
     }
+
+pub begins : (c : Counts) (ops field bs bs' : List ℕ) → Begins c ops field bs → (s : Front) → s ≡ fresh_front furnace_places c
+    → numbers bs' ≡ all_free furnace_places (numbers bs) furnace_places → Whole bs'
+    → (n : ℕ) → n ≡ 8 * length ops + 1 → Going ops field n (record { at = 0; front = s; six = pos 0 }) bs'
+begins c ops field bs bs' h s es em w n en = still_going ops field _ bs' n (begins_on c ops field bs bs' h s es em w n en)

@@ -65,8 +65,13 @@ pub record Held (field : List ℕ) (p : Melt) (bs : List ℕ) : Type 0 where
 abbrev pub run_in : List ℕ → Melt → Ran
 run_in ops p = run_freely_of p.front.stated ops
 
--- a reading that goes on: so many operations may still be read, more than there are bits left
+-- a reading that goes on: so many operations may still be read
 pub record Going (ops field : List ℕ) (left : ℕ) (p : Melt) (bs : List ℕ) : Type 0 where
+  pub held : Held field p bs
+  pub ran : run_in ops p ≡ run_freely left held.machine (bits_from ops p.at)
+
+-- the same where that is more than there are bits left
+pub record GoingOn (ops field : List ℕ) (left : ℕ) (p : Melt) (bs : List ℕ) : Type 0 where
   pub held : Held field p bs
   pub ran : run_in ops p ≡ run_freely left held.machine (bits_from ops p.at)
   pub enough : length (bits_from ops p.at) < left
@@ -76,14 +81,22 @@ pub record Done (ops field : List ℕ) (p : Melt) (bs : List ℕ) : Type 0 where
   pub held : Held field p bs
   pub ran : run_in ops p ≡ completed held.machine (bits_from ops p.at)
 
--- what the next operation comes to, where so many could be read: it is read further on and in the bytes
+-- what the next operation comes to, where so many could be read
 abbrev pub TurnedTo : List ℕ → List ℕ → ℕ → Melt → Result Melt Refusal → List ℕ → Type 0
-TurnedTo ops field left p (Ok q) bs =
-    Going ops field (left - 1) q bs × (q.front.stated ≡ p.front.stated) × (p.at < q.at) × (q.at ≤ 8 * length ops)
+TurnedTo ops field left p (Ok q) bs = Going ops field (left - 1) q bs × (q.front.stated ≡ p.front.stated)
 TurnedTo ops field left p (Err e) bs = run_in ops p ≡ stopped (number_of e)
 
 abbrev pub Turned : List ℕ → List ℕ → Melt → List ℕ → Result Melt Refusal → List ℕ → Type 0
-Turned ops field p bs r bs' = (left : ℕ) → Going ops field left p bs → TurnedTo ops field left p r bs'
+Turned ops field p bs r bs' = (left : ℕ) → 0 < left → Going ops field left p bs → TurnedTo ops field left p r bs'
+
+-- the same where more could be read than there are bits left: it is read further on and in the bytes
+abbrev pub TurnedOnTo : List ℕ → List ℕ → ℕ → Melt → Result Melt Refusal → List ℕ → Type 0
+TurnedOnTo ops field left p (Ok q) bs =
+    GoingOn ops field (left - 1) q bs × (q.front.stated ≡ p.front.stated) × (p.at < q.at) × (q.at ≤ 8 * length ops)
+TurnedOnTo ops field left p (Err e) bs = run_in ops p ≡ stopped (number_of e)
+
+abbrev pub TurnedOn : List ℕ → List ℕ → Melt → List ℕ → Result Melt Refusal → List ℕ → Type 0
+TurnedOn ops field p bs r bs' = (left : ℕ) → GoingOn ops field left p bs → TurnedOnTo ops field left p r bs'
 
 -- what a run of all operations comes to
 abbrev pub Comes : Counts → List ℕ → List ℕ → Result Melt Refusal → List ℕ → Type 0

@@ -4,7 +4,7 @@ ghost use Rattle.pack_theory.specs.Choosing.Choosable.{Choosable};
 ghost use Rattle.pack_theory.specs.Packing.Course.{is_numbered, placed_by, move_of, flags_of, Chooses};
 ghost use Rattle.pack_theory.specs.Packing.Order.{order_of, Notable};
 
-use cells::PlaceMemory;
+use cells::LoopMemory;
 use chooser::choose_place;
 use corners::{Links, across};
 use cutborder::{CORE, Flags, Loops, Move};

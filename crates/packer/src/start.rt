@@ -7,7 +7,7 @@ ghost use Rattle.pack_theory.specs.Packing.Order.{OrderLong, NotesOf};
 ghost use Rattle.pack_theory.specs.Packing.Taken.{taken_of};
 
 use crate::operate::{operate, ready_for};
-use cells::{PlaceMemory, PlaceMemoryMut};
+use cells::{LoopMemory, LoopMemoryMut};
 use cutborder::{CORE, Course, Flags};
 use rules::Operation;
 use rules::refusal::Refusal;

@@ -4,18 +4,18 @@ ghost use Rattle.border_theory.specs.Memory.Layout.{at, after_of, before_of, wal
 ghost use Rattle.border_theory.specs.Memory.Near.{Near};
 
 use crate::walks::walk;
-use cells::PlaceMemory;
+use cells::LoopMemory;
 use cutborder::Loops;
 
 /// A live loop in a memory. The places along its links and those of the waiting loops are in it.
 #[derive(Drop)]
-pub struct Live<'a, M: PlaceMemory> {
+pub struct Live<'a, M: LoopMemory> {
     pub memory: &'a M,
     pub loops: Loops,
     ghost near: { Near (M.places memory.now) loops (M.numbers memory.now) },
 }
 
-impl<'a, M: PlaceMemory> Live<'a, M> {
+impl<'a, M: LoopMemory> Live<'a, M> {
     /// The place where the current edge starts.
     pub fn current(&self) -> u16
         ensures value { result ≡ self.now.loops.current }

@@ -11,12 +11,12 @@ ghost use Rattle.border_theory.specs.Memory.Near.{Near, Borders, Doubles, Starts
 
 use crate::live::Live;
 use crate::walks::{move_down, release};
-use cells::{PlaceMemory, PlaceMemoryMut};
+use cells::{LoopMemory, LoopMemoryMut};
 use cutborder::Loops;
 
 /// New: a free place goes between the current place and the next. It gets vertex u and is current.
 #[tactic(auto, unfolding(border_theory::specs::Memory::Moves::new_held, border_theory::specs::Memory::Layout::edges_stored))]
-pub fn new_vertex<M: PlaceMemoryMut>(m: &mut M, l: Loops, u: u16) -> Loops
+pub fn new_vertex<M: LoopMemoryMut>(m: &mut M, l: Loops, u: u16) -> Loops
     requires { Near (M.places m.old) l (M.numbers m.old) × (1 ≤ l.free) × (u < M.vertex_end) }
     ensures loops { result ≡ (new_held (M.places m.old) l (M.numbers m.old) u).loops }
     ensures memory { M.numbers m.new ≡ (new_held (M.places m.old) l (M.numbers m.old) u).memory }
@@ -43,7 +43,7 @@ pub fn new_vertex<M: PlaceMemoryMut>(m: &mut M, l: Loops, u: u16) -> Loops
 
 /// Forward: the place after the current one leaves.
 #[tactic(auto, unfolding(border_theory::specs::Memory::Moves::forward_held, border_theory::specs::Memory::Layout::edges_stored))]
-pub fn forward<M: PlaceMemoryMut>(m: &mut M, l: Loops) -> Loops
+pub fn forward<M: LoopMemoryMut>(m: &mut M, l: Loops) -> Loops
     requires { Near (M.places m.old) l (M.numbers m.old) }
     ensures loops { result ≡ (forward_held (M.places m.old) l (M.numbers m.old)).loops }
     ensures memory { M.numbers m.new ≡ (forward_held (M.places m.old) l (M.numbers m.old)).memory }
@@ -68,7 +68,7 @@ pub fn forward<M: PlaceMemoryMut>(m: &mut M, l: Loops) -> Loops
 
 /// Backward: the current place leaves, and the one before it is current.
 #[tactic(auto, unfolding(border_theory::specs::Memory::Moves::backward_held, border_theory::specs::Memory::Layout::edges_stored))]
-pub fn backward<M: PlaceMemoryMut>(m: &mut M, l: Loops) -> Loops
+pub fn backward<M: LoopMemoryMut>(m: &mut M, l: Loops) -> Loops
     requires { Near (M.places m.old) l (M.numbers m.old) }
     ensures loops { result ≡ (backward_held (M.places m.old) l (M.numbers m.old)).loops }
     ensures memory { M.numbers m.new ≡ (backward_held (M.places m.old) l (M.numbers m.old)).memory }
@@ -94,7 +94,7 @@ pub fn backward<M: PlaceMemoryMut>(m: &mut M, l: Loops) -> Loops
 
 /// The current loop ends: its places are freed, and the latest waiting loop goes on.
 #[tactic(auto, unfolding(border_theory::specs::Memory::Moves::ended_held))]
-pub fn close<M: PlaceMemoryMut>(m: &mut M, l: Loops) -> Loops
+pub fn close<M: LoopMemoryMut>(m: &mut M, l: Loops) -> Loops
     requires { Near (M.places m.old) l (M.numbers m.old) }
     ensures loops { result ≡ (ended_held (M.places m.old) l (M.numbers m.old)).loops }
     ensures memory { M.numbers m.new ≡ (ended_held (M.places m.old) l (M.numbers m.old)).memory }
@@ -123,7 +123,7 @@ pub fn close<M: PlaceMemoryMut>(m: &mut M, l: Loops) -> Loops
 
 // The place c gets a second one, between the place before it and the one after the current one; the current edge leads to c.
 #[tactic(auto, unfolding(border_theory::specs::Memory::Moves::doubled))]
-pub fn double<M: PlaceMemoryMut>(m: &mut M, l: Loops, c: u16)
+pub fn double<M: LoopMemoryMut>(m: &mut M, l: Loops, c: u16)
     requires { Near (M.places m.old) l (M.numbers m.old) × Doubles (M.places m.old) l (M.numbers m.old) c }
     ensures value { M.numbers m.new ≡ doubled (M.places m.old) l (M.numbers m.old) c }
     ensures long { length (M.numbers m.new) ≡ length (M.numbers m.old) }
@@ -148,7 +148,7 @@ pub fn double<M: PlaceMemoryMut>(m: &mut M, l: Loops, c: u16)
 
 // The place after the current one leaves if its edge is marked, as the current edge will be.
 #[tactic(auto, unfolding(border_theory::specs::Memory::Moves::next_cut))]
-fn leave_next<M: PlaceMemoryMut>(m: &mut M, l: Loops) -> Loops
+fn leave_next<M: LoopMemoryMut>(m: &mut M, l: Loops) -> Loops
     requires { Near (M.places m.old) l (M.numbers m.old) }
     ensures loops { result ≡ (next_cut (M.places m.old) l (M.numbers m.old)).loops }
     ensures memory { M.numbers m.new ≡ (next_cut (M.places m.old) l (M.numbers m.old)).memory }
@@ -168,7 +168,7 @@ fn leave_next<M: PlaceMemoryMut>(m: &mut M, l: Loops) -> Loops
 
 // The current place leaves if the edge before it is marked, as the current edge will be.
 #[tactic(auto, unfolding(border_theory::specs::Memory::Moves::last_cut))]
-fn leave_current<M: PlaceMemoryMut>(m: &mut M, l: Loops) -> Loops
+fn leave_current<M: LoopMemoryMut>(m: &mut M, l: Loops) -> Loops
     requires { Near (M.places m.old) l (M.numbers m.old) }
     ensures loops { result ≡ (last_cut (M.places m.old) l (M.numbers m.old)).loops }
     ensures memory { M.numbers m.new ≡ (last_cut (M.places m.old) l (M.numbers m.old)).memory }
@@ -188,7 +188,7 @@ fn leave_current<M: PlaceMemoryMut>(m: &mut M, l: Loops) -> Loops
 
 /// Border: up to two places leave, then the current edge is marked.
 #[tactic(auto, unfolding(border_theory::specs::Memory::Moves::marked_held))]
-pub fn mark_border<M: PlaceMemoryMut>(m: &mut M, l: Loops) -> Loops
+pub fn mark_border<M: LoopMemoryMut>(m: &mut M, l: Loops) -> Loops
     requires { Borders (M.places m.old) l (M.numbers m.old) }
     ensures loops { result ≡ (marked_held (M.places m.old) l (M.numbers m.old)).loops }
     ensures memory { M.numbers m.new ≡ (marked_held (M.places m.old) l (M.numbers m.old)).memory }
@@ -202,7 +202,7 @@ pub fn mark_border<M: PlaceMemoryMut>(m: &mut M, l: Loops) -> Loops
 
 // The current edge is marked. The next one is open and becomes current; where it is not, the loop has one place left, and ends.
 #[tactic(auto, unfolding(border_theory::specs::Memory::Moves::turned_held, border_theory::specs::Memory::Layout::edges_stored))]
-fn mark_edge<M: PlaceMemoryMut>(m: &mut M, l: Loops) -> Loops
+fn mark_edge<M: LoopMemoryMut>(m: &mut M, l: Loops) -> Loops
     requires { Near (M.places m.old) l (M.numbers m.old) }
     ensures loops { result ≡ (turned_held (M.places m.old) l (M.numbers m.old)).loops }
     ensures memory { M.numbers m.new ≡ (turned_held (M.places m.old) l (M.numbers m.old)).memory }
@@ -224,7 +224,7 @@ fn mark_edge<M: PlaceMemoryMut>(m: &mut M, l: Loops) -> Loops
 
 /// Split: the loop falls in two, of i + 1 places and of the others. The shorter goes on; the other waits.
 #[tactic(auto, unfolding(border_theory::specs::Memory::Moves::split_held))]
-pub fn split<M: PlaceMemoryMut>(m: &mut M, l: Loops, i: u16, c: u16) -> Loops
+pub fn split<M: LoopMemoryMut>(m: &mut M, l: Loops, i: u16, c: u16) -> Loops
     requires near { Near (M.places m.old) l (M.numbers m.old) × Doubles (M.places m.old) l (M.numbers m.old) c }
     requires i_bound { (i + 2 ≤ l.size) × (l.live < 65535) × (5 * M.places m.old + 2 * (l.live + 1) ≤ length (M.numbers m.old)) }
     ensures loops { result ≡ (split_held (M.places m.old) l (M.numbers m.old) i c).loops }
@@ -260,7 +260,7 @@ pub fn split<M: PlaceMemoryMut>(m: &mut M, l: Loops, i: u16, c: u16) -> Loops
 
 /// Union: waiting loop p, joined at its place c, becomes part of the current one.
 #[tactic(auto, unfolding(border_theory::specs::Memory::Moves::union_held))]
-pub fn union<M: PlaceMemoryMut>(m: &mut M, l: Loops, p: u16, c: u16) -> Loops
+pub fn union<M: LoopMemoryMut>(m: &mut M, l: Loops, p: u16, c: u16) -> Loops
     requires near { Near (M.places m.old) l (M.numbers m.old) × Doubles (M.places m.old) l (M.numbers m.old) c }
     requires le_p { (1 ≤ p) × (p + 1 ≤ l.live) }
     ensures loops { result ≡ (union_held (M.places m.old) l (M.numbers m.old) p c).loops }
@@ -283,7 +283,7 @@ pub fn union<M: PlaceMemoryMut>(m: &mut M, l: Loops, p: u16, c: u16) -> Loops
 
 /// Start: a loop of three free places, with the vertices u, u + 1 and u + 2.
 #[tactic(auto, unfolding(border_theory::specs::Memory::Moves::start_held, border_theory::specs::Memory::Layout::edges_stored))]
-pub fn start<M: PlaceMemoryMut>(m: &mut M, l: Loops, u: u16) -> Loops
+pub fn start<M: LoopMemoryMut>(m: &mut M, l: Loops, u: u16) -> Loops
     requires { Starts (M.places m.old) l (M.numbers m.old) × (u ≤ max_vertices) }
     ensures loops { result ≡ (start_held (M.places m.old) l (M.numbers m.old) u).loops }
     ensures memory { M.numbers m.new ≡ (start_held (M.places m.old) l (M.numbers m.old) u).memory }

@@ -1,13 +1,13 @@
-// Loops over the places and the stacks of a memory. `as u16` narrows a capacity, which `fits` of `PlaceMemory` bounds by `max_places`:
+// Loops over the places and the stacks of a memory. `as u16` narrows a capacity, which `fits` of `LoopMemory` bounds by `max_places`:
 // `try_from` would be no plainer.
 ghost use Rattle.std.specs.Prelude.{◌≡◌, ℕ, ◌+◌, ◌*◌, ◌-◌, ◌≤◌, ◌<◌, length};
 ghost use Rattle.border_theory.specs.Memory.Fresh.{all_free};
 ghost use Rattle.border_theory.specs.Memory.Layout.{walked, released, moved_down};
 
-use cells::{PlaceMemory, PlaceMemoryMut};
+use cells::{LoopMemory, LoopMemoryMut};
 
 /// Every place goes on the stack of free places.
-pub fn free_all<M: PlaceMemoryMut>(m: &mut M)
+pub fn free_all<M: LoopMemoryMut>(m: &mut M)
     requires { 5 * M.places m.old ≤ length (M.numbers m.old) }
     ensures value { M.numbers m.new ≡ all_free (M.places m.old) (M.numbers m.old) (M.places m.old) }
     ensures kept { (M.places m.new ≡ M.places m.old) × (M.records m.new ≡ M.records m.old)
@@ -19,7 +19,7 @@ pub fn free_all<M: PlaceMemoryMut>(m: &mut M)
 }
 
 /// The place i places after place p.
-pub fn walk<M: PlaceMemory>(m: &M, i: u16, p: u16) -> u16
+pub fn walk<M: LoopMemory>(m: &M, i: u16, p: u16) -> u16
     requires { (j : ℕ) → j < i → walked (M.numbers m.now) j p < M.records m.now }
     ensures { result ≡ walked (M.numbers m.now) i p }
 {
@@ -31,7 +31,7 @@ pub fn walk<M: PlaceMemory>(m: &M, i: u16, p: u16) -> u16
 }
 
 /// The j places from place p on go on the stack of free places, which has k.
-pub fn release<M: PlaceMemoryMut>(m: &mut M, k: u16, j: u16, p: u16)
+pub fn release<M: LoopMemoryMut>(m: &mut M, k: u16, j: u16, p: u16)
     requires room { (k + j ≤ M.places m.old) × (5 * M.places m.old ≤ length (M.numbers m.old)) }
     requires walks { (i : ℕ) → i < j → walked (M.numbers m.old) i p < M.places m.old }
     ensures value { M.numbers m.new ≡ released (M.places m.old) (M.numbers m.old) k j p }
@@ -47,7 +47,7 @@ pub fn release<M: PlaceMemoryMut>(m: &mut M, k: u16, j: u16, p: u16)
 }
 
 /// The k loops that wait after l move down by one.
-pub fn move_down<M: PlaceMemoryMut>(m: &mut M, l: u16, k: u16)
+pub fn move_down<M: LoopMemoryMut>(m: &mut M, l: u16, k: u16)
     requires { (l + k < 65535) × (5 * M.places m.old + 2 * (l + k + 1) ≤ length (M.numbers m.old)) }
     ensures value { M.numbers m.new ≡ moved_down (M.places m.old) (M.numbers m.old) l k }
     ensures kept { (M.places m.new ≡ M.places m.old) × (M.records m.new ≡ M.records m.old)

@@ -6,7 +6,7 @@ ghost use Rattle.border_theory.specs.Memory.Decision.{proposed_at, held_by};
 ghost use Rattle.border_theory.specs.Memory.Performs.{Proposable, Performs};
 
 use border::plan::{forward_plan, new_plan};
-use cells::{PlaceMemory, PlaceMemoryMut};
+use cells::{LoopMemory, LoopMemoryMut};
 use cutborder::{Action, Loops};
 use rings::live::Live;
 use rings::surgery::{forward, new_vertex};
@@ -14,7 +14,7 @@ use rules::Operation;
 use rules::refusal::Refusal;
 
 // 16, or what would be done with the loops l, where u is the next unused number.
-pub(crate) fn propose<M: PlaceMemory>(
+pub(crate) fn propose<M: LoopMemory>(
     m: &M,
     l: Loops,
     u: u16,
@@ -38,7 +38,7 @@ pub(crate) fn propose<M: PlaceMemory>(
 }
 
 // The loops after the planned operation o, where u is the next unused number and c the plan's place.
-pub(crate) fn alter<M: PlaceMemoryMut>(m: &mut M, l: Loops, u: u16, o: Operation, c: u16) -> Loops
+pub(crate) fn alter<M: LoopMemoryMut>(m: &mut M, l: Loops, u: u16, o: Operation, c: u16) -> Loops
     requires { Performs (M.places m.old) l (M.numbers m.old) u o c × (u < M.vertex_end) }
     ensures loops { result ≡ (held_by (M.places m.old) l (M.numbers m.old) u o c).loops }
     ensures memory { M.numbers m.new ≡ (held_by (M.places m.old) l (M.numbers m.old) u o c).memory }

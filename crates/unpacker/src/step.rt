@@ -15,7 +15,7 @@ use border::finish::is_complete;
 use border::mark;
 use border::triangles::put_triangle;
 use border::verdict::test_room;
-use cells::PlaceMemoryMut;
+use cells::LoopMemoryMut;
 use corners::{Links, link};
 use cutborder::{Action, Front, PLACES, Plan};
 use mesh::fans::Met;
@@ -25,7 +25,7 @@ use wire::reader::OperationReader;
 
 // Builds a planned triangle, unless the edge rule fails (18): into the buffer, the chains and the memory. A vertex that it meets is
 // noted.
-fn build_triangle<M: PlaceMemoryMut>(
+fn build_triangle<M: LoopMemoryMut>(
     o: Operation,
     s: Front,
     p: Plan,
@@ -56,7 +56,7 @@ fn build_triangle<M: PlaceMemoryMut>(
 }
 
 // Does the operation o: 16, 17, 18, or the state after it.
-fn operate<M: PlaceMemoryMut>(
+fn operate<M: LoopMemoryMut>(
     o: Operation,
     s: Front,
     triangles: &mut [u16],
@@ -81,7 +81,7 @@ fn operate<M: PlaceMemoryMut>(
 
 // Operations from the first bit on until the model is complete, by at most `budget` of them: the state and the position then, or
 // the refusal of the first at fault. One reader goes through them all.
-pub fn run<M: PlaceMemoryMut>(
+pub fn run<M: LoopMemoryMut>(
     ops: &[u8],
     start: Front,
     budget: usize,

@@ -7,8 +7,8 @@ use Rattle.rules.specs.declared.Counts.{Counts}
 use Rattle.rules.specs.Furnace.{run_freely_of}
 use Rattle.cutborder.specs.declared.Front.{Front}
 use Rattle.cells_theory.proofs.Bytes.{length_numbers}
-use Rattle.melting_theory.specs.Runs.{Weighable, Going}
-use Rattle.melting_theory.proofs.Stepping.{begins, some_left, turn_complete}
+use Rattle.melting_theory.specs.Runs.{Weighable, GoingOn}
+use Rattle.melting_theory.proofs.Stepping.{begins_on, some_left, turn_on_complete}
 use Rattle.melting.proofs.run.run.Goals as goal
 
 pub begin-requires : goal.begin-requires
@@ -17,14 +17,14 @@ begin-requires c = omega (arith, length_numbers c.args.m.now, c.told-m)
 pub loop-init : goal.loop-init
 loop-init c = record {
   left = omega arith;
-  going = begins _ _ _ _ _ c.requires _ c.begin.ensures.state c.begin.ensures.memory c.begin.array_long _ (omega arith);
+  going = begins_on _ _ _ _ _ c.requires _ c.begin.ensures.state c.begin.ensures.memory c.begin.array_long _ (omega arith);
   stated = refl;
 }
 
 pub returns-then-is_complete : goal.returns-then-is_complete
 returns-then-is_complete c =
     let i = c.loop.invariant in (
-      turn_complete _ _ _ _ _ i.going _ c.is_complete.ensures c.if-is_complete.true,
+      turn_on_complete _ _ _ _ _ i.going _ c.is_complete.ensures c.if-is_complete.true,
       (i.stated ∙ ap (λ (s : Front). s.stated) c.begin.ensures.state),
     )
 
@@ -52,7 +52,7 @@ loop-preserved c =
     let t = c.in_ok-p.ensures _ i.going in
     record {
       left = omega (arith, c.loop-test.true);
-      going = subst (λ (k : ℕ). Going c.args.ops.now c.args.field.now k c.in_ok-p.p c.turn.new.m) (omega arith) t.0;
+      going = subst (λ (k : ℕ). GoingOn c.args.ops.now c.args.field.now k c.in_ok-p.p c.turn.new.m) (omega arith) t.0;
       stated = t.1 ∙ i.stated;
     }
 

@@ -9,19 +9,15 @@ after_of-next-requires g c =
       arith,
       releases_here _ _ _ _ gone.near (omega (arith, c.loop-i-test.true)),
       places,
-      g.met.M.PlaceMemory.fits c.loop-i.m,
+      g.met.M.LoopMemory.fits c.loop-i.m,
     )
 
 pub free_place-requires : goal.free_place-requires
 free_place-requires g c =
     let (gone, places, records, lender) = c.loop-i.invariant in (
-      omega (arith, c.requires.room, c.loop-i-test.true, gone.long, places),
-      omega (
-        arith,
-        releases_here _ _ _ _ gone.near (omega (arith, c.loop-i-test.true)),
-        places,
-        g.met.M.PlaceMemory.fits c.loop-i.m,
-      ),
+      omega (arith, c.requires.room.0, c.loop-i-test.true, places),
+      rw places (releases_here _ _ _ _ gone.near (omega (arith, c.loop-i-test.true))),
+      omega (arith, gone.long, c.requires.room.1, places),
     )
 
 pub loop-i-preserved : goal.loop-i-preserved

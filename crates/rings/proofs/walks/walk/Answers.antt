@@ -9,5 +9,5 @@ loop-init g c = (omega arith, refl)
 
 pub loop-preserved : goal.loop-preserved
 loop-preserved g c =
-    let m = g.M.PlaceMemory.numbers c.args.m.now in
+    let m = g.M.LoopMemory.numbers c.args.m.now in
     (omega arith, c.after_of-at.ensures ∙ ap (after_of m) c.loop.invariant.1 ∙ sym (walked-more m c.loop.counter c.args.p))

@@ -33,7 +33,7 @@ returns-in_default-clause-run g c =
     let i = c.loop.invariant in
     let e = (rw i.bytes at c.in_default.ensures) c.requires.held.1 in
     comes_stopped _ _ _ _ _ _ _ _ _ _ _ _ _ _ i.comes (omega arith) _ c.is_complete.ensures c.if-is_complete.false c.loop.triangles
-    (g.M.PlaceMemory.numbers c.loop.m) c.loop.chains c.loop.met 15 (step_broken _ _ _ _ _ _ _ e)
+    (g.M.LoopMemory.numbers c.loop.m) c.loop.chains c.loop.met 15 (step_broken _ _ _ _ _ _ _ e)
 
 pub returns-in_err-s-clause-run : goal.returns-in_err-s-clause-run
 returns-in_err-s-clause-run g c =
@@ -42,9 +42,9 @@ returns-in_err-s-clause-run g c =
     let p = err_from_is_err_and c.from_residual.result c.from_residual.ensures.1 in
     rw (p.1, p.2)
     (comes_stopped _ _ _ _ _ _ _ _ _ _ _ _ _ _ i.comes (omega arith) _ c.is_complete.ensures c.if-is_complete.false c.operate.new.triangles
-    (g.M.PlaceMemory.numbers c.operate.new.m) c.operate.new.chains c.operate.new.met _
+    (g.M.LoopMemory.numbers c.operate.new.m) c.operate.new.chains c.operate.new.met _
     (step_read _ _ _ _ _ _ _ _ c.in-Some.next (Refused (number_of c.in_err-s.field-0.0)) c.operate.new.triangles
-    (g.M.PlaceMemory.numbers c.operate.new.m)
+    (g.M.LoopMemory.numbers c.operate.new.m)
     c.operate.new.chains c.operate.new.met e.reads (c.in_err-s.ensures.turn c.in-Some.next)))
 
 pub returns-in_err-s-clause-beyond : goal.returns-in_err-s-clause-beyond
@@ -63,9 +63,9 @@ loop-preserved g c =
       left = omega arith;
       comes =
           comes_on _ _ _ _ _ _ _ _ _ _ _ _ _ _ i.comes (omega arith) _ c.is_complete.ensures c.if-is_complete.false
-          c.operate.new.triangles (g.M.PlaceMemory.numbers c.operate.new.m) c.operate.new.chains c.operate.new.met _ _
+          c.operate.new.triangles (g.M.LoopMemory.numbers c.operate.new.m) c.operate.new.chains c.operate.new.met _ _
           (step_read _ _ _ _ _ _ _ _ c.in-Some.next (Going c.in_ok-s.s c.in-Some.next) c.operate.new.triangles
-          (g.M.PlaceMemory.numbers c.operate.new.m)
+          (g.M.LoopMemory.numbers c.operate.new.m)
           c.operate.new.chains c.operate.new.met e.reads (c.in_ok-s.ensures.turn c.in-Some.next)) _ (omega arith);
       kept = (
         c.operate.ensures.kept.0 ∙ i.kept.0,

@@ -7,12 +7,12 @@ abbrev pub invariant-loop : goal.invariant-loop
 invariant-loop g l = record {
   bytes : l.r.bytes.now ≡ l.ops;
   left : l.counter ≤ l.budget;
-  comes : ComesFrom l.ops l.budget l.initial.s l.initial.triangles (g.M.PlaceMemory.numbers l.initial.m) l.initial.chains l.initial.met
+  comes : ComesFrom l.ops l.budget l.initial.s l.initial.triangles (g.M.LoopMemory.numbers l.initial.m) l.initial.chains l.initial.met
       (l.budget - l.counter) l.s
       l.r.at
-      l.triangles (g.M.PlaceMemory.numbers l.m) l.chains l.met;
-  kept : (g.M.PlaceMemory.places l.m ≡ g.M.PlaceMemory.places l.initial.m)
-      × (g.M.PlaceMemory.records l.m ≡ g.M.PlaceMemory.records l.initial.m)
-      × (g.M.PlaceMemory.lender l.m ≡ g.M.PlaceMemory.lender l.initial.m);
+      l.triangles (g.M.LoopMemory.numbers l.m) l.chains l.met;
+  kept : (g.M.LoopMemory.places l.m ≡ g.M.LoopMemory.places l.initial.m)
+      × (g.M.LoopMemory.records l.m ≡ g.M.LoopMemory.records l.initial.m)
+      × (g.M.LoopMemory.lender l.m ≡ g.M.LoopMemory.lender l.initial.m);
   beyond : Beyond l.initial.s.stated l.initial.triangles l.triangles;
 }

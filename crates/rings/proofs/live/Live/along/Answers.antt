@@ -6,7 +6,7 @@ pub walk-requires : goal.walk-requires
 unfolding walked
 walk-requires g c = λ j h.
     let ahead = c.args.self.now.near.ahead (suc j) (omega (arith, c.requires, h)) in
-    rw c.next.ensures.value (omega (arith, ahead, g.met.M.PlaceMemory.fits c.args.self.now.memory.now))
+    rw c.next.ensures.value (omega (arith, ahead, g.met.M.LoopMemory.fits c.args.self.now.memory.now))
 
 pub returns-clause-place : goal.returns-clause-place
 unfolding walked
@@ -15,4 +15,4 @@ returns-clause-place g c =
 
 pub returns-clause-record : goal.returns-clause-record
 returns-clause-record g c =
-    omega (arith, returns-clause-place g c, g.met.M.PlaceMemory.fits c.args.self.now.memory.now)
+    omega (arith, returns-clause-place g c, g.met.M.LoopMemory.fits c.args.self.now.memory.now)

@@ -7,4 +7,4 @@ returns-clause-place g c = near_e _ _ _ c.args.self.now.near
 
 pub returns-clause-record : goal.returns-clause-record
 returns-clause-record g c =
-    omega (arith, returns-clause-place g c, g.met.M.PlaceMemory.fits c.args.self.now.memory.now)
+    omega (arith, returns-clause-place g c, g.met.M.LoopMemory.fits c.args.self.now.memory.now)
