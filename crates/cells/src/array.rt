@@ -21,7 +21,7 @@ impl<const N: usize> LoopMemory for [u16; N] {
 
     ghost open_end = { 2 ^ 16 };
 
-    ghost fits = { λ m. plain_fits N };
+    ghost fits = { λ m. array_fits N };
 
     fn capacity(&self) -> usize {
         PLACES.min(N / 5)
@@ -99,7 +99,7 @@ impl<const N: usize> PlaceMemory for [u16; N] {
 
     ghost open_end = { 2 ^ 16 };
 
-    ghost fits = { array_fits N };
+    ghost fits = { plain_fits N };
 
     fn capacity() -> usize {
         PLACES.min(N / 5)

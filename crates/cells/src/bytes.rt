@@ -32,7 +32,7 @@ impl LoopMemory for [u8; BYTES] {
 
     ghost open_end = { 2 };
 
-    ghost fits = { λ m. bytes_fit };
+    ghost fits = { λ m. reader_fits };
 
     fn capacity(&self) -> usize {
         FURNACE_PLACES
@@ -129,7 +129,7 @@ impl PlaceMemory for [u8; BYTES] {
 
     ghost open_end = { 2 };
 
-    ghost fits = { reader_fits };
+    ghost fits = { bytes_fit };
 
     fn capacity() -> usize {
         FURNACE_PLACES
