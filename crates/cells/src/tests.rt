@@ -1,6 +1,6 @@
 // The memories read and written: each as itself, those whose types say their places lent as `Fixed`, slices, and the stack beyond the
 // places.
-ghost use Rattle.std.specs.Prelude.{◌+◌, ◌*◌, ◌≤◌, length};
+ghost use Rattle.std.specs.Prelude.{◌≡◌, ◌+◌, ◌*◌, ◌≤◌, ◌<◌, length, set};
 
 use crate::fixed::{Fixed, FixedMut};
 use crate::slices::{PlaceSlice, PlaceSliceMut};
@@ -44,6 +44,35 @@ fn read_lent<M: LoopMemoryMut>(m: &mut M) -> [u16; 7]
     ]
 }
 
+// What who lends a memory knows of it afterwards: by the reference that it was lent through.
+fn set_fixed<M: PlaceMemory>(m: &mut M, v: u16)
+    requires { (0 < M.places) × (v < M.vertex_end) }
+    ensures { M.numbers m.new ≡ set (M.numbers m.old) 0 v }
+{
+    set_first(&mut FixedMut { memory: m }, v);
+}
+
+fn set_slice(m: &mut [u16], v: u16)
+    requires { 4 ≤ length m.old }
+    ensures { m.new ≡ set m.old 0 v }
+{
+    set_first(
+        &mut PlaceSliceMut {
+            memory: m,
+            places: 1,
+        },
+        v,
+    );
+}
+
+fn set_first<M: LoopMemoryMut>(m: &mut M, v: u16)
+    requires { (0 < M.places m.old) × (v < M.vertex_end) }
+    ensures value { M.numbers m.new ≡ set (M.numbers m.old) 0 v }
+    ensures kept { M.lender m.new ≡ M.lender m.old }
+{
+    m.set_vertex(0, v);
+}
+
 const READ: [u16; 7] = [4096, 7, 3, 1, 5, 7, 6];
 
 #[tactic(auto, using(cells_theory::proofs::Bytes::length_numbers))]
@@ -68,6 +97,8 @@ fn memories_lent_to_the_operations(rt: HostRuntime) {
     });
     assert!(rt; lent == READ);
     assert_eq!(rt; numbers[12], 4096);
+    set_fixed(&mut numbers, 3);
+    assert_eq!(rt; numbers[0], 3);
     let fixed = Fixed { memory: &numbers };
     assert_eq!(rt; fixed.capacity(), 12);
     assert_eq!(rt; fixed.after_of(3), 7);
@@ -84,6 +115,8 @@ fn slices_lent_to_the_operations(rt: HostRuntime) {
         places: 8,
     });
     assert!(rt; lent == READ);
+    set_slice(&mut numbers, 3);
+    assert_eq!(rt; numbers[0], 3);
     let slice = PlaceSlice {
         memory: &numbers,
         places: 8,
